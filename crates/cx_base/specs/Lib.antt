@@ -1,0 +1,10 @@
+pub mod Faults
+pub mod Fold
+pub mod Grid
+pub mod GridFields
+pub mod Name
+pub mod NameFields
+pub mod Role
+pub mod Round
+pub mod Status
+pub mod Why

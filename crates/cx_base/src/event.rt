@@ -1,0 +1,71 @@
+//! What can happen in a run.
+
+use crate::command::Command;
+use crate::grid::Grid;
+use crate::memory::{Duplicate, NoMemory};
+use crate::name::Key;
+use crate::role::RoleId;
+use crate::why::Why;
+use std::alloc::Global;
+
+ghost use Rattle.std.specs.Prelude.{◌≡◌, IfOk};
+
+/// Whether a role crashes inside a step's append, and whether the record is then kept.
+#[derive(Clone, Copy, Debug, PartialEq, Eq)]
+pub enum Cut {
+    /// The step is made whole.
+    Whole,
+    /// The role crashes, and the record is lost.
+    Torn,
+    /// The role crashes, and the record is kept.
+    Kept,
+}
+
+/// What a leader is ordered.
+#[derive(Clone, Copy, Debug, PartialEq, Eq)]
+pub enum Order {
+    /// Begin a round above all that it has seen, with this grid.
+    Lead(Grid),
+    /// Go on with another grid in the next round of its own.
+    Change(Grid),
+    /// Retire all earlier rounds.
+    Collect,
+}
+
+/// One event of a run. The atomic step: one role takes one datagram, tick or order.
+#[derive(Clone, Copy, Debug, PartialEq, Eq)]
+pub enum Event {
+    /// A client hands its command to a batcher.
+    Write { command: Command, batcher: u16 },
+    /// A client asks a reader for a key, to be answered by a replica.
+    Read {
+        client: u16,
+        seq: u64,
+        reader: u16,
+        replica: u16,
+        key: Key,
+    },
+    /// The datagram of this number, counted from 0, reaches its role.
+    Deliver { number: u64, cut: Cut },
+    /// A role sends again what it waits for.
+    Tick(RoleId),
+    /// A leader is given an order.
+    Order { leader: u16, order: Order, cut: Cut },
+    /// A role stops and forgets its volatile part.
+    Crash(RoleId),
+    /// A role is opened from what it kept.
+    Restart(RoleId),
+}
+
+/// An event of the history, with what it came to.
+#[derive(Clone, Copy, Debug, PartialEq, Eq)]
+pub struct Happened {
+    pub event: Event,
+    pub why: Why,
+}
+
+impl Duplicate for Event {
+    fn copy(&self, _alloc: Global) -> Result<Self, NoMemory> {
+        Ok(*self)
+    }
+}

@@ -1,0 +1,172 @@
+//! What a step came to, in one word.
+
+ghost use Rattle.std.specs.Prelude.{◌≡◌};
+ghost use Rattle.cx_base.specs.Why.{why_text};
+
+/// The word that says what a step came to.
+#[derive(Clone, Copy, Debug, PartialEq, Eq)]
+pub enum Why {
+    /// No such datagram was sent yet.
+    Absent,
+    /// The pending read begins anew.
+    Again,
+    /// The read was answered.
+    Answered,
+    /// The values in order were kept and executed.
+    Applied,
+    /// What was asked was told.
+    Asked,
+    /// The next question went out.
+    Asking,
+    /// The gathered commands went to a leader.
+    Batched,
+    /// A value is now known to be chosen.
+    Chosen,
+    /// The round is below the watermark.
+    Collected,
+    /// The matchmakers were asked to forget earlier rounds.
+    Collecting,
+    /// The answer counts, and more are wanted.
+    Counted,
+    /// The role stopped.
+    Crashed,
+    /// The read waits until enough is executed.
+    Deferred,
+    /// All was announced before.
+    Done,
+    /// The role is not running.
+    Down,
+    /// The value waits for those before it.
+    Early,
+    /// There is no next round.
+    End,
+    /// The value was sent again.
+    Fetched,
+    /// There is no room for more.
+    Full,
+    /// A client has it.
+    Heard,
+    /// It was noted.
+    Held,
+    /// There is nothing to do.
+    Idle,
+    /// The watermark was kept.
+    Informed,
+    /// The grid is told the watermark.
+    Informing,
+    /// The role crashed in its append, and the record is kept.
+    Kept,
+    /// A later round is recorded.
+    Later,
+    /// The leader leads, or is known to.
+    Leads,
+    /// The round and its grid were recorded.
+    Matched,
+    /// A greater round was promised.
+    Nack,
+    /// The leader gave up its round.
+    Nacked,
+    /// It belongs to an earlier round or stage.
+    Old,
+    /// The role runs again.
+    Opened,
+    /// The slot lies below the watermark.
+    Past,
+    /// The acceptors of earlier grids are asked.
+    Phase1,
+    /// The round was promised.
+    Promised,
+    /// The value has a slot.
+    Proposed,
+    /// The watermark of rounds was raised.
+    Raised,
+    /// All that is waited for was sent again.
+    Resent,
+    /// All earlier rounds are retired.
+    Retired,
+    /// It was taken before.
+    Same,
+    /// The request went out.
+    Sent,
+    /// The request may not be made any more.
+    Stale,
+    /// A round or a read began.
+    Started,
+    /// It is nothing for this role.
+    Stranger,
+    /// The role crashed in its append, and the record is lost.
+    Torn,
+    /// Nobody waits for it.
+    Unasked,
+    /// Each client got its answer.
+    Unbatched,
+    /// The role runs already.
+    Up,
+    /// The vote was kept.
+    Voted,
+    /// A slot is not known to be chosen yet.
+    Waiting,
+    /// The slot lies past the window.
+    Window,
+}
+
+impl Why {
+    /// The word as it is written in a trace. It takes no memory.
+    pub fn text(self) -> &'static str
+        ensures { result.now ≡ why_text self }
+    {
+        match self {
+            Why::Absent => "absent",
+            Why::Again => "again",
+            Why::Answered => "answered",
+            Why::Applied => "applied",
+            Why::Asked => "asked",
+            Why::Asking => "asking",
+            Why::Batched => "batched",
+            Why::Chosen => "chosen",
+            Why::Collected => "collected",
+            Why::Collecting => "collecting",
+            Why::Counted => "counted",
+            Why::Crashed => "crashed",
+            Why::Deferred => "deferred",
+            Why::Done => "done",
+            Why::Down => "down",
+            Why::Early => "early",
+            Why::End => "end",
+            Why::Fetched => "fetched",
+            Why::Full => "full",
+            Why::Heard => "heard",
+            Why::Held => "held",
+            Why::Idle => "idle",
+            Why::Informed => "informed",
+            Why::Informing => "informing",
+            Why::Kept => "kept",
+            Why::Later => "later",
+            Why::Leads => "leads",
+            Why::Matched => "matched",
+            Why::Nack => "nack",
+            Why::Nacked => "nacked",
+            Why::Old => "old",
+            Why::Opened => "opened",
+            Why::Past => "past",
+            Why::Phase1 => "phase1",
+            Why::Promised => "promised",
+            Why::Proposed => "proposed",
+            Why::Raised => "raised",
+            Why::Resent => "resent",
+            Why::Retired => "retired",
+            Why::Same => "same",
+            Why::Sent => "sent",
+            Why::Stale => "stale",
+            Why::Started => "started",
+            Why::Stranger => "stranger",
+            Why::Torn => "torn",
+            Why::Unasked => "unasked",
+            Why::Unbatched => "unbatched",
+            Why::Up => "up",
+            Why::Voted => "voted",
+            Why::Waiting => "waiting",
+            Why::Window => "window",
+        }
+    }
+}
