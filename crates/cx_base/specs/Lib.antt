@@ -2,8 +2,11 @@ pub mod Faults
 pub mod Fold
 pub mod Grid
 pub mod GridFields
+pub mod Lists
+pub mod Log
 pub mod Name
 pub mod NameFields
+pub mod Noted
 pub mod Role
 pub mod Round
 pub mod Status

@@ -84,6 +84,22 @@ impl Duplicate for Answered {
     }
 }
 
+/// A value with its slot.
+#[derive(Debug, Drop)]
+pub struct Placed {
+    pub slot: u64,
+    pub value: Value,
+}
+
+impl Duplicate for Placed {
+    fn copy(&self, alloc: Global) -> Result<Self, NoMemory> {
+        Ok(Placed {
+            slot: self.slot,
+            value: self.value.copy(alloc)?,
+        })
+    }
+}
+
 /// A key with its text.
 #[derive(Clone, Copy, Debug, PartialEq, Eq)]
 pub struct Pair {

@@ -1,5 +1,7 @@
 //! What can happen in a run.
 
+ghost use Rattle.std.specs.Prelude.{◌≡◌, IfOk};
+
 use crate::command::Command;
 use crate::grid::Grid;
 use crate::memory::{Duplicate, NoMemory};
@@ -7,8 +9,6 @@ use crate::name::Key;
 use crate::role::RoleId;
 use crate::why::Why;
 use std::alloc::Global;
-
-ghost use Rattle.std.specs.Prelude.{◌≡◌, IfOk};
 
 /// Whether a role crashes inside a step's append, and whether the record is then kept.
 #[derive(Clone, Copy, Debug, PartialEq, Eq)]
@@ -36,7 +36,10 @@ pub enum Order {
 #[derive(Clone, Copy, Debug, PartialEq, Eq)]
 pub enum Event {
     /// A client hands its command to a batcher.
-    Write { command: Command, batcher: u16 },
+    Write {
+        command: Command,
+        batcher: u16,
+    },
     /// A client asks a reader for a key, to be answered by a replica.
     Read {
         client: u16,
@@ -46,11 +49,18 @@ pub enum Event {
         key: Key,
     },
     /// The datagram of this number, counted from 0, reaches its role.
-    Deliver { number: u64, cut: Cut },
+    Deliver {
+        number: u64,
+        cut: Cut,
+    },
     /// A role sends again what it waits for.
     Tick(RoleId),
     /// A leader is given an order.
-    Order { leader: u16, order: Order, cut: Cut },
+    Order {
+        leader: u16,
+        order: Order,
+        cut: Cut,
+    },
     /// A role stops and forgets its volatile part.
     Crash(RoleId),
     /// A role is opened from what it kept.

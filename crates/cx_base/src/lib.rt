@@ -19,7 +19,7 @@ mod status;
 mod why;
 
 pub use cluster::Cluster;
-pub use command::{Answered, Command, Commands, Op, Pair, Reply, Value, Values, same_op};
+pub use command::{Answered, Command, Commands, Op, Pair, Placed, Reply, Value, Values, same_op};
 pub use event::{Cut, Event, Happened, Order};
 pub use faults::Faults;
 pub use few::{Few, Series, copy_all};
