@@ -9,5 +9,6 @@ pub mod NameFields
 pub mod Noted
 pub mod Role
 pub mod Round
+pub mod Same
 pub mod Status
 pub mod Why

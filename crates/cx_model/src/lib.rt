@@ -1,0 +1,10 @@
+//! The definitions that the theorems speak of, and nothing else: the rows of each role, the run of a list of events,
+//! what is chosen, and the command list.
+//!
+//! The role crates prove that their code is these rows, cx_world that its steps are this run. The definitions are in
+//! `specs/`, one subject a file; `src/` declares the plain data of which the states of roles are made.
+#![tactic(auto)]
+
+mod states;
+
+pub use states::{MatchAnswer, Mode, Pending};
