@@ -1,0 +1,108 @@
+-- The acceptor's rows: it promises rounds and votes for values (VLDB 2021, with the chosen watermark of this project).
+use Rattle.std.specs.Prelude.{ℕ, ◌+◌, ◌==◌, Bool, false, not, ◌&&◌, ◌||◌, nat_lt, nat_le, max, filter, if◌then◌else◌, List, [], ◌∷◌, ◌++◌, Option, None, Some}
+use Rattle.cx_base.specs.declared.cluster.Cluster.{Cluster}
+use Rattle.cx_base.specs.declared.command.Value.{Value}
+use Rattle.cx_base.specs.declared.role.RoleId.{RoleId}
+use Rattle.cx_base.specs.declared.role.Kind.TheVariants.{Leader}
+use Rattle.cx_base.specs.declared.round.Round.{Round}
+use Rattle.cx_base.specs.declared.why.Why.TheVariants.{Idle, Nack, Past, Same, Stranger, Voted}
+use Rattle.cx_base.specs.Role.{same_role, role}
+use Rattle.cx_base.specs.Round.{is_before, same_round, no_round}
+use Rattle.cx_msg.specs.Letter.{Letter, letter}
+use Rattle.cx_msg.specs.Messages.{in_window}
+use Rattle.cx_msg.specs.declared.input.Input.{Input}
+use Rattle.cx_msg.specs.declared.input.Input.TheVariants.{Take, Tick, Order}
+use Rattle.cx_msg.specs.declared.message.Vote.{Vote}
+use Rattle.cx_msg.specs.declared.message.Msg.{Msg}
+use Rattle.cx_msg.specs.declared.message.Msg.TheVariants as msg
+use Rattle.cx_msg.specs.declared.kept.Record.{Record}
+use Rattle.cx_msg.specs.declared.kept.Record.TheVariants as kept
+use Rattle.cx_model.specs.Names.{names, names_round, names_value}
+use Rattle.cx_model.specs.Outcome.{Outcome, answered, replied}
+use Rattle.cx_model.specs.Rules.{Rules}
+
+-- the promised round, the chosen watermark, the last vote at each slot from there on, and one more than the greatest slot that was ever voted at
+pub record AcceptorDurable : Type 0 where
+  pub promise : Round
+  pub cw : ℕ
+  pub votes : List Vote
+  pub top : ℕ
+
+-- the vote at a slot
+abbrev pub vote_at : ℕ → List Vote → Option Vote
+vote_at s [] = None
+vote_at s (v ∷ vs) = if v.slot == s then Some v else vote_at s vs
+
+-- the votes from a slot on, without the one at another slot
+abbrev pub other_votes : ℕ → ℕ → List Vote → List Vote
+other_votes low s vs = filter (λ (v : Vote). nat_le low v.slot && not (v.slot == s)) vs
+
+-- the votes from a slot on
+abbrev pub votes_from : ℕ → List Vote → List Vote
+votes_from low vs = filter (λ (v : Vote). nat_le low v.slot) vs
+
+-- whether a vote is of this round
+abbrev pub is_of : Round → Option Vote → Bool
+is_of i None = false
+is_of i (Some v) = same_round v.round i
+
+abbrev pub acceptor_after : AcceptorDurable → Record → AcceptorDurable
+acceptor_after d (kept.Promise i) = record d { promise = i }
+acceptor_after d (kept.Vote i s cw v) =
+    record {
+      promise = i;
+      cw = max d.cw cw;
+      votes = other_votes (max d.cw cw) s d.votes ++ record { round = i; slot = s; value = v } ∷ [];
+      top = max d.top (s + 1);
+    }
+acceptor_after d (kept.Water i cw) = record d { promise = i; cw = max d.cw cw; votes = votes_from (max d.cw cw) d.votes }
+acceptor_after d (kept.Match i g) = d
+acceptor_after d (kept.Garbage i g) = d
+acceptor_after d (kept.Round i g) = d
+acceptor_after d (kept.Log vs) = d
+
+-- whether the acceptor could have appended this record
+abbrev pub acceptor_fits : Cluster → RoleId → AcceptorDurable → Record → Bool
+acceptor_fits c me d (kept.Promise i) = names_round c i && is_before d.promise i
+acceptor_fits c me d (kept.Vote i s cw v) =
+    names_round c i && names_value c v && not (is_before i d.promise) && nat_le d.cw s && in_window cw s && not (is_of i (vote_at s d.votes))
+acceptor_fits c me d (kept.Water i cw) = names_round c i && not (is_before i d.promise) && (is_before d.promise i || nat_lt d.cw cw)
+acceptor_fits c me d (kept.Match i g) = false
+acceptor_fits c me d (kept.Garbage i g) = false
+acceptor_fits c me d (kept.Round i g) = false
+acceptor_fits c me d (kept.Log vs) = false
+
+-- a leader is told that a greater round was promised
+abbrev pub nack_to : RoleId → Round → Round → Letter
+nack_to me i promise = letter me (role Leader i.id) (msg.Nack i promise)
+
+abbrev pub phase2b_to : RoleId → RoleId → Round → ℕ → Letter
+phase2b_to me proxy i s = letter me proxy (msg.Phase2B i s)
+
+-- a proxy leader asks for a vote
+abbrev pub phase2a_row : RoleId → AcceptorDurable → RoleId → Round → ℕ → ℕ → Value → Outcome (Unit {0})
+phase2a_row me d from i s cw v =
+    if is_before i d.promise then replied Nack tt (nack_to me i d.promise ∷ [])
+    else if nat_lt s d.cw then answered Past tt
+    else if is_of i (vote_at s d.votes) then replied Same tt (phase2b_to me from i s ∷ [])
+    else record { why = Voted; kept = Some (kept.Vote i s cw v); volatile = tt; sends = phase2b_to me from i s ∷ [] }
+
+abbrev pub acceptor_takes : RoleId → AcceptorDurable → RoleId → Msg → Outcome (Unit {0})
+acceptor_takes me d from (msg.Phase2A i s cw v) = phase2a_row me d from i s cw v
+acceptor_takes me d from other = answered Stranger tt
+
+abbrev pub acceptor_row : Cluster → RoleId → AcceptorDurable → Unit {0} → Input → Outcome (Unit {0})
+acceptor_row c me d v (Take letter) =
+    if same_role letter.to me && names c letter then acceptor_takes me d letter.from letter.msg else answered Stranger tt
+acceptor_row c me d v Tick = answered Idle tt
+acceptor_row c me d v (Order order) = answered Stranger tt
+
+-- all that an acceptor knows is durable
+abbrev pub acceptor_rules : Rules AcceptorDurable (Unit {0})
+acceptor_rules = record {
+  empty = record { promise = no_round; cw = 0; votes = []; top = 0 };
+  after = acceptor_after;
+  fits = acceptor_fits;
+  fresh = λ c. tt;
+  row = acceptor_row;
+}

@@ -1,0 +1,16 @@
+pub mod Acceptor
+pub mod Batcher
+pub mod Chosen
+pub mod Folds
+pub mod Leader
+pub mod Lists
+pub mod Matchmaker
+pub mod Names
+pub mod Outcome
+pub mod Proxy
+pub mod Replica
+pub mod Request
+pub mod Rules
+pub mod Turn
+pub mod Unbatcher
+pub mod World

@@ -1,0 +1,95 @@
+-- Which names of a datagram or a record lie in the cluster.
+use Rattle.std.specs.Prelude.{ℕ, ◌+◌, ◌*◌, Bool, true, ◌&&◌, nat_lt}
+use Rattle.std.specs.List.{list_all}
+use Rattle.cx_base.specs.declared.cluster.Cluster.{Cluster}
+use Rattle.cx_base.specs.declared.command.Answered.{Answered}
+use Rattle.cx_base.specs.declared.command.Command.{Command}
+use Rattle.cx_base.specs.declared.command.Value.{Value}
+use Rattle.cx_base.specs.declared.role.Kind.{Kind}
+use Rattle.cx_base.specs.declared.role.Kind.TheVariants.{Client, Batcher, Leader, Proxy, Acceptor, Matchmaker, Replica, Unbatcher, Reader}
+use Rattle.cx_base.specs.declared.role.RoleId.{RoleId}
+use Rattle.cx_base.specs.declared.round.Round.{Round}
+use Rattle.cx_base.specs.Fold.{commands_of}
+use Rattle.cx_base.specs.Grid.{Shape}
+use Rattle.cx_msg.specs.Letter.{Letter}
+use Rattle.cx_msg.specs.declared.message.Entry.{Entry}
+use Rattle.cx_msg.specs.declared.message.Token.{Token}
+use Rattle.cx_msg.specs.declared.message.Vote.{Vote}
+use Rattle.cx_msg.specs.declared.message.Msg.{Msg}
+use Rattle.cx_msg.specs.declared.message.Msg.TheVariants as msg
+
+-- how many roles of a kind there are
+abbrev pub count_of : Cluster → Kind → ℕ
+count_of c Client = c.clients
+count_of c Batcher = c.batchers
+count_of c Leader = c.leaders
+count_of c Proxy = c.proxies
+count_of c Acceptor = c.acceptors
+count_of c Matchmaker = 2 * c.f + 1
+count_of c Replica = c.replicas
+count_of c Unbatcher = c.unbatchers
+count_of c Reader = c.readers
+
+abbrev pub names_role : Cluster → RoleId → Bool
+names_role c r = nat_lt r.index (count_of c r.kind)
+
+-- a round names its leader; no round names leader 0, which every cluster has
+abbrev pub names_round : Cluster → Round → Bool
+names_round c r = nat_lt r.id c.leaders
+
+abbrev pub names_grid : Cluster → Shape → Bool
+names_grid c g = list_all (λ id. nat_lt id c.acceptors) g.members
+
+abbrev pub names_command : Cluster → Command → Bool
+names_command c command = nat_lt command.client c.clients
+
+abbrev pub names_value : Cluster → Value → Bool
+names_value c v = list_all (λ (k : Command). names_command c k) (commands_of v)
+
+abbrev pub names_entry : Cluster → Entry → Bool
+names_entry c e = names_round c e.round && names_grid c e.grid
+
+abbrev pub names_vote : Cluster → Vote → Bool
+names_vote c v = names_round c v.round && names_value c v.value
+
+abbrev pub names_answer : Cluster → Answered → Bool
+names_answer c a = nat_lt a.client c.clients
+
+abbrev pub names_token : Cluster → Token → Bool
+names_token c t = nat_lt t.client c.clients
+
+-- each name in what a datagram says: leaders of rounds, members of grids, clients, replicas
+abbrev pub names_body : Cluster → Msg → Bool
+names_body c (msg.Submit command) = names_command c command
+names_body c (msg.Batch commands) = list_all (λ (k : Command). names_command c k) commands
+names_body c (msg.Leads i) = names_round c i
+names_body c (msg.MatchA i g) = names_round c i && names_grid c g
+names_body c (msg.MatchB i w es) = names_round c i && names_round c w && list_all (λ (e : Entry). names_entry c e) es
+names_body c (msg.MatchNack i reason j) = names_round c i && names_round c j
+names_body c (msg.Phase1A i) = names_round c i
+names_body c (msg.Phase1B i cw vs) = names_round c i && list_all (λ (v : Vote). names_vote c v) vs
+names_body c (msg.Nack i j) = names_round c i && names_round c j
+names_body c (msg.Propose i g s cw v) = names_round c i && names_grid c g && names_value c v
+names_body c (msg.Phase2A i s cw v) = names_round c i && names_value c v
+names_body c (msg.Phase2B i s) = names_round c i
+names_body c (msg.Chosen s v) = names_value c v
+names_body c (msg.ChosenIn i s) = names_round c i
+names_body c (msg.Results s answers) = list_all (λ (a : Answered). names_answer c a) answers
+names_body c (msg.Answer seq at reply) = true
+names_body c (msg.Held n) = true
+names_body c (msg.Fetch n) = true
+names_body c (msg.Inform i n) = names_round c i
+names_body c (msg.Informed i n) = names_round c i
+names_body c (msg.GarbageA i g) = names_round c i && names_grid c g
+names_body c (msg.GarbageB i) = names_round c i
+names_body c (msg.ReadReq seq p key) = nat_lt p c.replicas
+names_body c (msg.MatchRead t) = names_token c t
+names_body c (msg.MatchReadAck t w es) = names_token c t && names_round c w && list_all (λ (e : Entry). names_entry c e) es
+names_body c (msg.PreRead t w) = names_token c t && names_round c w
+names_body c (msg.PreReadAck t w n) = names_token c t && names_round c w
+names_body c (msg.Read t n key) = names_token c t
+names_body c (msg.ReadAnswer seq n text) = true
+
+-- every role, leader, member, client and replica that a datagram names lies in the cluster
+abbrev pub names : Cluster → Letter → Bool
+names c d = names_role c d.from && names_role c d.to && names_body c d.msg

@@ -1,0 +1,169 @@
+-- The replica's rows: it keeps the chosen values in order, executes their commands, and answers (VLDB 2021).
+use Rattle.std.specs.Prelude.{ℕ, ◌+◌, ◌%◌, ◌==◌, Bool, true, false, ◌&&◌, nat_lt, nat_le, map, if◌then◌else◌, List, [], ◌∷◌, ◌++◌, length, Option, None, Some}
+use Rattle.std.specs.List.{list_all}
+use Rattle.cx_base.specs.declared.cluster.Cluster.{Cluster}
+use Rattle.cx_base.specs.declared.command.Answered.{Answered}
+use Rattle.cx_base.specs.declared.command.Command.{Command}
+use Rattle.cx_base.specs.declared.command.Pair.{Pair}
+use Rattle.cx_base.specs.declared.command.Placed.{Placed}
+use Rattle.cx_base.specs.declared.command.Value.{Value}
+use Rattle.cx_base.specs.declared.role.RoleId.{RoleId}
+use Rattle.cx_base.specs.declared.role.Kind.TheVariants.{Leader, Replica, Unbatcher}
+use Rattle.cx_base.specs.declared.why.Why.TheVariants.{Applied, Early, Past, Resent, Stranger, Window}
+use Rattle.cx_base.specs.Fold.{commands_of, map_after, reply_of}
+use Rattle.cx_base.specs.Lists.{below}
+use Rattle.cx_base.specs.Log.{value_for, ready_values, still_early}
+use Rattle.cx_base.specs.Noted.{noted_for, with_answer}
+use Rattle.cx_base.specs.Role.{same_role, role}
+use Rattle.cx_msg.specs.Letter.{Letter, letter}
+use Rattle.cx_msg.specs.declared.input.Input.{Input}
+use Rattle.cx_msg.specs.declared.input.Input.TheVariants.{Take, Tick, Order}
+use Rattle.cx_msg.specs.declared.message.Msg.{Msg}
+use Rattle.cx_msg.specs.declared.message.Msg.TheVariants as msg
+use Rattle.cx_msg.specs.declared.kept.Record.{Record}
+use Rattle.cx_msg.specs.declared.kept.Record.TheVariants as kept
+use Rattle.cx_model.specs.Names.{names, names_value}
+use Rattle.cx_model.specs.Outcome.{Outcome, answered, replied}
+use Rattle.cx_model.specs.Rules.{Rules}
+
+-- the chosen values that it kept, in slot order
+pub record ReplicaDurable : Type 0 where
+  pub log : List Value
+
+-- the values that came before their turn
+pub record ReplicaVolatile : Type 0 where
+  pub early : List Placed
+
+-- what executing leaves: the map, and the last answer of each client
+pub record Machine : Type 0 where
+  pub map : List Pair
+  pub notes : List Answered
+
+-- a machine with the answers that it gave on the way
+pub record Executed : Type 0 where
+  pub machine : Machine
+  pub answers : List Answered
+
+-- a command acts: its number is above all that its client has had answered
+abbrev pub acting : ℕ → Machine → Command → Executed
+acting at m c =
+    let answer : Answered = record { client = c.client; seq = c.seq; at = at; reply = reply_of m.map c.op } in
+    record { machine = record { map = map_after m.map c.op; notes = with_answer answer m.notes }; answers = answer ∷ [] }
+
+-- A command with the client's last answer: a greater number acts, an equal one has that answer again, a smaller one none.
+abbrev pub execute_behind : ℕ → Machine → Command → Option Answered → Executed
+execute_behind at m c None = acting at m c
+execute_behind at m c (Some last) =
+    if nat_lt last.seq c.seq then acting at m c
+    else if last.seq == c.seq then record { machine = m; answers = last ∷ [] }
+    else record { machine = m; answers = [] }
+
+abbrev pub execute : ℕ → Machine → Command → Executed
+execute at m c = execute_behind at m c (noted_for c.client m.notes)
+
+abbrev pub with_answers : List Answered → Executed → Executed
+with_answers before e = record e { answers = before ++ e.answers }
+
+-- commands in order; `at` is one more than their slot
+abbrev pub execute_all : ℕ → Machine → List Command → Executed
+execute_all at m [] = record { machine = m; answers = [] }
+execute_all at m (c ∷ cs) = with_answers (execute at m c).answers (execute_all at (execute at m c).machine cs)
+
+-- the value of a slot
+abbrev pub execute_value : ℕ → Machine → Value → Executed
+execute_value slot m v = execute_all (slot + 1) m (commands_of v)
+
+-- what values from a slot on leave
+abbrev pub machine_from : ℕ → Machine → List Value → Machine
+machine_from slot m [] = m
+machine_from slot m (v ∷ vs) = machine_from (slot + 1) (execute_value slot m v).machine vs
+
+abbrev pub new_machine : Machine
+new_machine = record { map = []; notes = [] }
+
+-- what a log leaves
+abbrev pub machine_of : List Value → Machine
+machine_of log = machine_from 0 new_machine log
+
+-- one replica for each slot sends the answers, if there are any, to one unbatcher for each slot
+abbrev pub results_at : Cluster → RoleId → ℕ → List Answered → List Letter
+results_at c me slot answers =
+    if (slot % c.replicas == me.index) && nat_lt 0 (length answers)
+    then letter me (role Unbatcher (slot % c.unbatchers)) (msg.Results slot answers) ∷ []
+    else []
+
+abbrev pub results_from : Cluster → RoleId → ℕ → Machine → List Value → List Letter
+results_from c me slot m [] = []
+results_from c me slot m (v ∷ vs) =
+    results_at c me slot (execute_value slot m v).answers ++ results_from c me (slot + 1) (execute_value slot m v).machine vs
+
+-- a value before its turn waits; the first for a slot stays
+abbrev pub with_early : ℕ → Value → List Placed → Option Value → List Placed
+with_early s v early None = early ++ record { slot = s; value = v } ∷ []
+with_early s v early (Some first) = early
+
+abbrev pub apply : Cluster → RoleId → ReplicaDurable → ReplicaVolatile → List Value → Outcome ReplicaVolatile
+apply c me d v values =
+    record {
+      why = Applied;
+      kept = Some (kept.Log values);
+      volatile = record { early = still_early (length d.log + length values) v.early };
+      sends = results_from c me (length d.log) (machine_of d.log) values;
+    }
+
+-- a proxy leader, or another replica, tells a chosen value
+abbrev pub chosen_row : Cluster → RoleId → ReplicaDurable → ReplicaVolatile → ℕ → Value → Outcome ReplicaVolatile
+chosen_row c me d v s value =
+    let held = length d.log in
+    if nat_lt s held then answered Past v
+    else if nat_le (held + 32) s then answered Window v
+    else if nat_lt held s then answered Early (record { early = with_early s value v.early (value_for s v.early) })
+    else apply c me d v (ready_values held v.early value)
+
+abbrev pub replica_takes : Cluster → RoleId → ReplicaDurable → ReplicaVolatile → Msg → Outcome ReplicaVolatile
+replica_takes c me d v (msg.Chosen s value) = chosen_row c me d v s value
+replica_takes c me d v other = answered Stranger v
+
+abbrev pub held_to : RoleId → ℕ → ℕ → Letter
+held_to me held leader = letter me (role Leader leader) (msg.Held held)
+
+-- the next replica is asked for values that it may have
+abbrev pub fetch_to : Cluster → RoleId → ℕ → List Letter
+fetch_to c me held = if nat_lt 1 c.replicas then letter me (role Replica ((me.index + 1) % c.replicas)) (msg.Fetch held) ∷ [] else []
+
+abbrev pub replica_tick : Cluster → RoleId → ReplicaDurable → ReplicaVolatile → Outcome ReplicaVolatile
+replica_tick c me d v = replied Resent v (map (held_to me (length d.log)) (below c.leaders) ++ fetch_to c me (length d.log))
+
+abbrev pub replica_row : Cluster → RoleId → ReplicaDurable → ReplicaVolatile → Input → Outcome ReplicaVolatile
+replica_row c me d v (Take letter) =
+    if same_role letter.to me && names c letter then replica_takes c me d v letter.msg else answered Stranger v
+replica_row c me d v Tick = replica_tick c me d v
+replica_row c me d v (Order order) = answered Stranger v
+
+abbrev pub replica_after : ReplicaDurable → Record → ReplicaDurable
+replica_after d (kept.Log vs) = record { log = d.log ++ vs }
+replica_after d (kept.Promise i) = d
+replica_after d (kept.Vote i s cw v) = d
+replica_after d (kept.Water i cw) = d
+replica_after d (kept.Match i g) = d
+replica_after d (kept.Garbage i g) = d
+replica_after d (kept.Round i g) = d
+
+-- whether the replica could have appended this record; slots end at 2^40
+abbrev pub replica_fits : Cluster → RoleId → ReplicaDurable → Record → Bool
+replica_fits c me d (kept.Log vs) = list_all (λ (v : Value). names_value c v) vs && nat_le (length d.log + length vs) 1099511627776
+replica_fits c me d (kept.Promise i) = false
+replica_fits c me d (kept.Vote i s cw v) = false
+replica_fits c me d (kept.Water i cw) = false
+replica_fits c me d (kept.Match i g) = false
+replica_fits c me d (kept.Garbage i g) = false
+replica_fits c me d (kept.Round i g) = false
+
+abbrev pub replica_rules : Rules ReplicaDurable ReplicaVolatile
+replica_rules = record {
+  empty = record { log = [] };
+  after = replica_after;
+  fits = replica_fits;
+  fresh = λ c. record { early = [] };
+  row = replica_row;
+}
