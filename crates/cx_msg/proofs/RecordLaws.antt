@@ -1,0 +1,109 @@
+-- What decodes as a record is spelled so, and what is spelled decodes.
+use Rattle.std.proofs.Common.{◌≡◌, ℕ, ◌<◌, Bool, true, false, ◌&&◌, not, cond, List, [], ◌∷◌, ◌++◌, length, Result, Ok, Err, refl, sym, ap, ◌∙◌, lit<}
+use Rattle.std.specs.Prelude.{IfOk, IsTrue, nat_le}
+use Rattle.std.proofs.lemmas.List.{append-nil}
+use Rattle.cx_wire.specs.Format.{u8, only, ◌▷◌, by_tag}
+use Rattle.cx_wire.proofs.Laws.{IsBytes, IsExact, Takes-then, u8-exact, only-exact, ▷-exact, counted-exact, case-sound, case-again, AllSound, ReadsAgain, by_tag-takes, tag_fits}
+use Rattle.cx_msg.specs.Fields.{slot, mark, round, grid, value}
+use Rattle.cx_msg.specs.Records.{values, vote, round_mark, round_grid, record_shape, record_cases, kept_record, fits, spelling, ended, with_tag, recorded, Decodes}
+use Rattle.cx_msg.specs.declared.kept.Record.{Record}
+use Rattle.cx_msg.specs.declared.kept.Record.TheVariants as kept
+use Rattle.cx_msg.specs.declared.fault.WireFault.{WireFault}
+use Rattle.cx_msg.specs.declared.fault.WireFault.TheVariants as faults
+use Rattle.cx_msg.proofs.FieldLaws.{slot-exact, mark-exact, round-exact, grid-exact, value-exact}
+
+values-exact : IsExact values
+unfolding values
+values-exact = counted-exact (only (λ n. nat_le 1 n && nat_le n 32) u8) (λ _. value) (only-exact (λ n. nat_le 1 n && nat_le n 32) u8 u8-exact) (λ _. value-exact)
+
+vote-exact : IsExact vote
+unfolding vote
+vote-exact = ▷-exact round (slot ▷ (mark ▷ value)) round-exact (▷-exact slot (mark ▷ value) slot-exact (▷-exact mark value mark-exact value-exact))
+
+round_mark-exact : IsExact round_mark
+unfolding round_mark
+round_mark-exact = ▷-exact round mark round-exact mark-exact
+
+round_grid-exact : IsExact round_grid
+unfolding round_grid
+round_grid-exact = ▷-exact round grid round-exact grid-exact
+
+records-sound : AllSound record_shape record_cases
+unfolding record_cases
+records-sound = (
+  case-sound record_shape 1 round (λ x. kept.Promise x) round-exact (λ _. refl),
+  (
+    case-sound record_shape 2 vote (λ x. kept.Vote x.0 x.1.0 x.1.1.0 x.1.1.1) vote-exact (λ _. refl),
+    (
+      case-sound record_shape 3 round_mark (λ x. kept.Water x.0 x.1) round_mark-exact (λ _. refl),
+      (
+        case-sound record_shape 4 round_grid (λ x. kept.Match x.0 x.1) round_grid-exact (λ _. refl),
+        (
+          case-sound record_shape 5 round_grid (λ x. kept.Garbage x.0 x.1) round_grid-exact (λ _. refl),
+          (
+            case-sound record_shape 6 round_grid (λ x. kept.Round x.0 x.1) round_grid-exact (λ _. refl),
+            (case-sound record_shape 7 values (λ x. kept.Log x) values-exact (λ _. refl), tt),
+          ),
+        ),
+      ),
+    ),
+  ),
+)
+
+record-again : (r : Record) → ReadsAgain record_shape record_cases r
+unfolding record_cases
+record-again (kept.Promise r) left rest fits = case-again {A = Record} 1 round (λ x. kept.Promise x) r rest round-exact fits
+record-again (kept.Vote r s cw v) left rest fits = case-again {A = Record} 2 vote (λ x. kept.Vote x.0 x.1.0 x.1.1.0 x.1.1.1) (r, (s, (cw, v))) rest vote-exact fits
+record-again (kept.Water r n) left rest fits = case-again {A = Record} 3 round_mark (λ x. kept.Water x.0 x.1) (r, n) rest round_mark-exact fits
+record-again (kept.Match r g) left rest fits = case-again {A = Record} 4 round_grid (λ x. kept.Match x.0 x.1) (r, g) rest round_grid-exact fits
+record-again (kept.Garbage r g) left rest fits = case-again {A = Record} 5 round_grid (λ x. kept.Garbage x.0 x.1) (r, g) rest round_grid-exact fits
+record-again (kept.Round r g) left rest fits = case-again {A = Record} 6 round_grid (λ x. kept.Round x.0 x.1) (r, g) rest round_grid-exact fits
+record-again (kept.Log vs) left rest fits = case-again {A = Record} 7 values (λ x. kept.Log x) vs rest values-exact fits
+
+-- a record's tag is one
+has_tag : (r : Record) → ((nat_le 1 (record_shape r).tag && nat_le (record_shape r).tag 7) ≡ true) × ((record_shape r).tag < 256)
+has_tag (kept.Promise r) = (refl, lit< tt)
+has_tag (kept.Vote r s cw v) = (refl, lit< tt)
+has_tag (kept.Water r n) = (refl, lit< tt)
+has_tag (kept.Match r g) = (refl, lit< tt)
+has_tag (kept.Garbage r g) = (refl, lit< tt)
+has_tag (kept.Round r g) = (refl, lit< tt)
+has_tag (kept.Log vs) = (refl, lit< tt)
+
+past : (b : Bool) (e : WireFault) (r : Result Record WireFault) (x : Record) → cond (not b) (Err e) r ≡ Ok x → r ≡ Ok x
+past true e r x h = h
+past false e r x h = absurd cc
+
+tag_case : (all : ℕ) (r : Result (ℕ × List ℕ) ℕ) (x : Record) → with_tag all r ≡ Ok x → (t : ℕ × List ℕ) × (r ≡ Ok t) × (ended all t.0 (by_tag record_cases t.0 (length t.1) t.1) ≡ Ok x)
+unfolding with_tag
+tag_case all (Err left) x e = absurd cc
+tag_case all (Ok t) x e = (t, refl, past (nat_le 1 t.0 && nat_le t.0 7) (faults.Kind t.0) _ x e)
+
+ended_case : (all tag : ℕ) (r : Result (Record × List ℕ) ℕ) (x : Record) → ended all tag r ≡ Ok x → r ≡ Ok (x, [])
+unfolding ended
+ended_case all tag (Err left) x e = absurd cc
+ended_case all tag (Ok (y, [])) x e = cc
+ended_case all tag (Ok (y, b ∷ bytes)) x e = absurd cc
+
+pub recorded-takes : (bytes : List ℕ) (x : Record) → IsBytes bytes → recorded bytes ≡ Ok x → (bytes ≡ spelling x) × (fits x ≡ true)
+unfolding kept_record
+recorded-takes bytes x is_bytes e =
+    let a = tag_case (length bytes) (u8.read bytes) x e in
+    let s = u8-exact.takes bytes a.0 is_bytes a.1 in
+    let r = ended_case (length bytes) a.0.0 (by_tag record_cases a.0.0 (length a.0.1) a.0.1) x a.2 in
+    let t = by_tag-takes record_shape record_cases records-sound a.0.0 (length a.0.1) a.0.1 (x, []) s.0.rest_fits r in
+    let whole = (Takes-then bytes (u8.spell a.0.0) a.0.1 (record_shape x).bytes [] s.0 t.0).parts in
+    (rw t.2 (whole ∙ append-nil (u8.spell a.0.0 ++ (record_shape x).bytes)), t.1)
+
+pub recorded-again : (x : Record) → fits x ≡ true → recorded (spelling x) ≡ Ok x
+unfolding kept_record with_tag ended
+recorded-again x h =
+    let s = record_shape x in
+    let k = has_tag x in
+    let first : u8.read (u8.spell s.tag ++ s.bytes) ≡ Ok (s.tag, s.bytes) = u8-exact.again s.tag s.bytes (tag_fits s.tag k.1) in
+    let second : by_tag record_cases s.tag (length s.bytes) s.bytes ≡ Ok (x, []) = ap (by_tag record_cases s.tag (length s.bytes)) (sym (append-nil s.bytes)) ∙ record-again x (length s.bytes) [] h in
+    rw (first, k.0, second) refl
+
+pub is_found : (bytes : List ℕ) (r : Result Record WireFault) → IsBytes bytes → Decodes r (recorded bytes) → IfOk r (λ x. (bytes ≡ spelling x) × IsTrue (fits x))
+is_found bytes (Ok x) is_bytes given = recorded-takes bytes x is_bytes given
+is_found bytes (Err e) is_bytes given = tt

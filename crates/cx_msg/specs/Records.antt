@@ -1,0 +1,75 @@
+-- Records of a journal as bytes.
+use Rattle.std.specs.Prelude.{◌≡◌, ℕ, ◌-◌, Bool, ◌&&◌, not, nat_le, if◌then◌else◌, List, [], ◌∷◌, length, Result, Ok, Err}
+use Rattle.cx_base.specs.Grid.{Shape as GridShape}
+use Rattle.cx_base.specs.declared.round.Round.{Round}
+use Rattle.cx_base.specs.declared.command.Value.{Value}
+use Rattle.cx_wire.specs.Format.{Format, u8, only, ◌▷◌, counted, by_tag, Shape, shape, Case, case, tagged}
+use Rattle.cx_msg.specs.Fields.{slot, mark, round, grid, value}
+use Rattle.cx_msg.specs.declared.kept.Record.{Record}
+use Rattle.cx_msg.specs.declared.kept.Record.TheVariants as kept
+use Rattle.cx_msg.specs.declared.fault.WireFault.{WireFault}
+use Rattle.cx_msg.specs.declared.fault.WireFault.TheVariants as faults
+
+unfoldable pub values : Format (List Value)
+values = counted (only (λ n. nat_le 1 n && nat_le n 32) u8) (λ _. value)
+
+unfoldable pub vote : Format (Round × (ℕ × (ℕ × Value)))
+vote = round ▷ slot ▷ mark ▷ value
+
+unfoldable pub round_mark : Format (Round × ℕ)
+round_mark = round ▷ mark
+
+unfoldable pub round_grid : Format (Round × GridShape)
+round_grid = round ▷ grid
+
+-- a record's tag and its fields
+abbrev pub record_shape : Record → Shape
+record_shape (kept.Promise r) = shape 1 round r
+record_shape (kept.Vote r s cw v) = shape 2 vote (r, (s, (cw, v)))
+record_shape (kept.Water r n) = shape 3 round_mark (r, n)
+record_shape (kept.Match r g) = shape 4 round_grid (r, g)
+record_shape (kept.Garbage r g) = shape 5 round_grid (r, g)
+record_shape (kept.Round r g) = shape 6 round_grid (r, g)
+record_shape (kept.Log vs) = shape 7 values vs
+
+-- how each tag's fields are read
+unfoldable pub record_cases : List (Case Record)
+record_cases =
+    case 1 round (λ x. kept.Promise x) ∷
+    case 2 vote (λ x. kept.Vote x.0 x.1.0 x.1.1.0 x.1.1.1) ∷
+    case 3 round_mark (λ x. kept.Water x.0 x.1) ∷
+    case 4 round_grid (λ x. kept.Match x.0 x.1) ∷
+    case 5 round_grid (λ x. kept.Garbage x.0 x.1) ∷
+    case 6 round_grid (λ x. kept.Round x.0 x.1) ∷
+    case 7 values (λ x. kept.Log x) ∷ []
+
+unfoldable pub kept_record : Format Record
+kept_record = tagged record_shape record_cases
+
+abbrev pub fits : Record → Bool
+fits r = kept_record.fits r
+
+-- the bytes of a record
+abbrev pub spelling : Record → List ℕ
+spelling r = kept_record.spell r
+
+-- the record, once its fields are read, of so many bytes in all
+unfoldable pub ended : ℕ → ℕ → Result (Record × List ℕ) ℕ → Result Record WireFault
+ended all tag (Err left) = Err (faults.Field tag (all - left))
+ended all tag (Ok (r, [])) = Ok r
+ended all tag (Ok (r, b ∷ bytes)) = Err (faults.Trailing (all - length (b ∷ bytes)))
+
+unfoldable pub with_tag : ℕ → Result (ℕ × List ℕ) ℕ → Result Record WireFault
+with_tag all (Err left) = Err (faults.Short 1 0)
+with_tag all (Ok (tag, body)) =
+    if not (nat_le 1 tag && nat_le tag 7) then Err (faults.Kind tag) else ended all tag (by_tag record_cases tag (length body) body)
+
+-- the record that bytes spell, or the first test that they fail
+abbrev pub recorded : List ℕ → Result Record WireFault
+recorded bytes = with_tag (length bytes) (u8.read bytes)
+
+-- what was answered is this, unless memory ran out
+abbrev pub Decodes : Result Record WireFault → Result Record WireFault → Type 0
+Decodes (Ok r) is = is ≡ Ok r
+Decodes (Err faults.NoMemory) is = Unit {0}
+Decodes (Err e) is = is ≡ Err e

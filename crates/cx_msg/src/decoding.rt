@@ -1,0 +1,142 @@
+//! Datagrams from bytes.
+
+ghost use Rattle.std.specs.Prelude.{◌≡◌, ◌≤◌, ◌++◌, ℕ, List, [], IfOk, IsTrue, length};
+ghost use Rattle.cx_msg.specs.Letter.{Letter};
+ghost use Rattle.cx_msg.specs.Parts.{DecodesParts};
+ghost use Rattle.cx_msg.specs.Letter.{spelling, fits};
+ghost use Rattle.cx_msg.specs.Decoding.{decoded, Decodes, finished, after_header};
+ghost use Rattle.cx_msg.specs.Messages.{body_cases};
+ghost use Rattle.cx_wire.specs.Format.{by_tag};
+
+use crate::bodies::body_from;
+use crate::datagram::Datagram;
+use crate::fault::{ReadFault, WireFault};
+use crate::header::{Header, MAGIC, header_from};
+use crate::message::Msg;
+use crate::reader::Reader;
+use crate::roles::{is_kind, may_receive, may_send};
+use cx_base::{Kind, RoleId};
+use std::alloc::Global;
+
+/// The parts of a datagram.
+pub struct Parts {
+    pub from: RoleId,
+    pub to: RoleId,
+    pub msg: Msg,
+}
+
+// The datagram, once its header is read.
+#[tactic(auto, unfolding(crate::specs::Decoding::finished))]
+fn finish(
+    alloc: Global,
+    all: usize,
+    header: &Header,
+    reader: &mut Reader<'_>,
+) -> Result<Parts, WireFault>
+    requires from { header.now.from ≤ 9 }
+    requires to { header.now.to ≤ 9 }
+    ensures { DecodesParts result (finished all header.now (by_tag body_cases header.now.kind (length reader.old) reader.old)) }
+{
+    match body_from(header.kind, alloc, reader) {
+        Ok(msg) => {
+            let left = reader.left();
+            if left > 0 {
+                return Err(WireFault::Trailing {
+                    at: all.saturating_sub(left),
+                });
+            }
+            let from = RoleId {
+                kind: Kind::from_code(header.from),
+                index: header.from_index,
+            };
+            let to = RoleId {
+                kind: Kind::from_code(header.to),
+                index: header.to_index,
+            };
+            Ok(Parts { from, to, msg })
+        }
+        Err(ReadFault::Bad { left }) => {
+            Err(WireFault::Field {
+                kind: header.kind,
+                at: all.saturating_sub(left),
+            })
+        }
+        Err(ReadFault::NoMemory) => Err(WireFault::NoMemory),
+    }
+}
+
+#[tactic(auto, unfolding(crate::specs::Decoding::after_header))]
+fn body_of(
+    alloc: Global,
+    all: usize,
+    header: &Header,
+    reader: &mut Reader<'_>,
+) -> Result<Parts, WireFault>
+    ensures { DecodesParts result (after_header all header.now reader.old) }
+{
+    let have = reader.left();
+    let said = header.said as usize;
+    if header.magic != MAGIC {
+        return Err(WireFault::Magic);
+    }
+    if header.version != 1 {
+        return Err(WireFault::Version(header.version));
+    }
+    if !is_kind(header.kind) {
+        return Err(WireFault::Kind(header.kind));
+    }
+    if have < said {
+        return Err(WireFault::Length { said, have });
+    }
+    if have > said {
+        return Err(WireFault::Trailing { at: 12 + said });
+    }
+    if !may_send(header.kind, header.from) {
+        return Err(WireFault::Field {
+            kind: header.kind,
+            at: 4,
+        });
+    }
+    if !may_receive(header.kind, header.to) {
+        return Err(WireFault::Field {
+            kind: header.kind,
+            at: 7,
+        });
+    }
+    finish(alloc, all, header, reader)
+}
+
+#[tactic(auto, unfolding(crate::specs::Decoding::with_header))]
+fn read(alloc: Global, bytes: &[u8]) -> Result<Parts, WireFault>
+    ensures { DecodesParts result (decoded bytes.now) }
+{
+    let mut reader = Reader::new(bytes);
+    match header_from(&mut reader) {
+        Ok(header) => body_of(alloc, bytes.len(), &header, &mut reader),
+        Err(ReadFault::Bad { .. }) => Err(WireFault::Short {
+            need: 12,
+            have: bytes.len(),
+        }),
+        Err(ReadFault::NoMemory) => Err(WireFault::NoMemory),
+    }
+}
+
+/// The datagram that the bytes spell, all of the bytes; or the first test that they fail.
+pub fn decode(alloc: Global, bytes: &[u8]) -> Result<Datagram, WireFault>
+    // What is read is spelled so, and has a spelling.
+    ensures found { IfOk result (λ d. (bytes.now ≡ spelling d) × IsTrue (fits d)) }
+    // What is spelled so is read, unless memory runs out.
+    ensures only { (d : Letter) → IsTrue (fits d) → bytes.now ≡ spelling d → Decodes result (Ok d) }
+    // Which fault it is.
+    ensures exact { Decodes result (decoded bytes.now) }
+{
+    match read(alloc, bytes) {
+        Ok(Parts { from, to, msg }) => Ok(Datagram::new(from, to, msg)),
+        Err(fault) => Err(fault),
+    }
+}
+
+/// No datagram's bytes begin another's.
+pub fn one_spelling()
+    ensures { (d e : Letter) (more : List ℕ) → IsTrue (fits d) → IsTrue (fits e) → spelling d ++ more ≡ spelling e → (d ≡ e) × (more ≡ []) }
+{}

@@ -1,0 +1,302 @@
+//! The fields of messages, read from the front of bytes.
+
+ghost use Rattle.std.specs.Prelude.{◌≡◌, [], ◌∷◌, ◌≤◌, ◌<◌, length, IfOk, IsTrue};
+ghost use Rattle.std.specs.List.{list_all};
+ghost use Rattle.cx_base.specs.Name.{is_name_byte, IsName};
+ghost use Rattle.cx_base.specs.Grid.{is_in, IsGrid};
+ghost use Rattle.cx_wire.specs.Format as wire;
+ghost use Rattle.cx_msg.specs.Fields as field;
+ghost use Rattle.cx_msg.specs.Reading.{Reads, Gives};
+
+use crate::fault::ReadFault;
+use crate::items::{Items, items_from};
+use crate::put::put_command;
+use crate::reader::Reader;
+use cx_base::{
+    Command, Commands, Few, Grid, MEMBERS, Name, NoMemory, Op, Reply, Round, Value, is_name_byte,
+};
+use cx_wire::put_u16;
+use std::alloc::Global;
+
+#[tactic(auto, unfolding(crate::specs::Fields::slot))]
+pub fn slot_from(reader: &mut Reader<'_>) -> Result<u64, ReadFault>
+    ensures { Reads field.slot reader.old result reader.new }
+{
+    let left = reader.left();
+    let slot = reader.u64()?;
+    if slot >= 1 << 40 {
+        return Err(ReadFault::Bad { left });
+    }
+    Ok(slot)
+}
+
+#[tactic(auto, unfolding(crate::specs::Fields::mark))]
+pub fn mark_from(reader: &mut Reader<'_>) -> Result<u64, ReadFault>
+    ensures { Reads field.mark reader.old result reader.new }
+{
+    let left = reader.left();
+    let mark = reader.u64()?;
+    if mark > 1 << 40 {
+        return Err(ReadFault::Bad { left });
+    }
+    Ok(mark)
+}
+
+#[tactic(auto, unfolding(crate::specs::Fields::at))]
+pub fn at_from(reader: &mut Reader<'_>) -> Result<u64, ReadFault>
+    ensures { Reads field.at reader.old result reader.new }
+{
+    let left = reader.left();
+    let at = reader.u64()?;
+    if at < 1 || at > 1 << 40 {
+        return Err(ReadFault::Bad { left });
+    }
+    Ok(at)
+}
+
+#[tactic(auto, unfolding(crate::specs::Fields::seq))]
+pub fn seq_from(reader: &mut Reader<'_>) -> Result<u64, ReadFault>
+    ensures { Reads field.seq reader.old result reader.new }
+{
+    let left = reader.left();
+    let seq = reader.u64()?;
+    if seq < 1 {
+        return Err(ReadFault::Bad { left });
+    }
+    Ok(seq)
+}
+
+fn round_fields_from(reader: &mut Reader<'_>) -> Result<Round, ReadFault>
+    ensures { Reads field.round_fields reader.old result reader.new }
+{
+    let r = reader.u32()?;
+    let id = reader.u16()?;
+    let s = reader.u32()?;
+    Ok(Round { r, id, s })
+}
+
+#[tactic(auto, unfolding(crate::specs::Fields::round))]
+pub fn round_from(reader: &mut Reader<'_>) -> Result<Round, ReadFault>
+    ensures { Reads field.round reader.old result reader.new }
+{
+    let left = reader.left();
+    match round_fields_from(reader) {
+        Ok(round) if round.r >= 1 => Ok(round),
+        Err(ReadFault::NoMemory) => Err(ReadFault::NoMemory),
+        _ => Err(ReadFault::Bad { left }),
+    }
+}
+
+#[tactic(auto, unfolding(crate::specs::Fields::round0))]
+pub fn round0_from(reader: &mut Reader<'_>) -> Result<Round, ReadFault>
+    ensures { Reads field.round0 reader.old result reader.new }
+{
+    let left = reader.left();
+    match round_fields_from(reader) {
+        Ok(round) if round.r >= 1 || round == Round::ZERO => Ok(round),
+        Err(ReadFault::NoMemory) => Err(ReadFault::NoMemory),
+        _ => Err(ReadFault::Bad { left }),
+    }
+}
+
+#[tactic(auto, unfolding(crate::specs::Fields::name_byte))]
+fn name_byte_from(reader: &mut Reader<'_>) -> Result<u8, ReadFault>
+    ensures read { Reads field.name_byte reader.old result reader.new }
+    ensures front { IfOk result (λ x. reader.old ≡ x ∷ reader.new) }
+    ensures name { IfOk result (λ x. IsTrue (is_name_byte x)) }
+{
+    let left = reader.left();
+    let byte = reader.u8()?;
+    if !is_name_byte(byte) {
+        return Err(ReadFault::Bad { left });
+    }
+    Ok(byte)
+}
+
+#[tactic(auto, unfolding(crate::specs::Fields::op))]
+pub fn op_from(reader: &mut Reader<'_>) -> Result<Op, ReadFault>
+    ensures { Reads field.op reader.old result reader.new }
+{
+    let left = reader.left();
+    match reader.u8()? {
+        1 => {
+            let key = name_from(reader)?;
+            let text = name_from(reader)?;
+            Ok(Op::Put(key, text))
+        }
+        2 => Ok(Op::Del(name_from(reader)?)),
+        3 => {
+            let key = name_from(reader)?;
+            let text = name_from(reader)?;
+            Ok(Op::App(key, text))
+        }
+        _ => Err(ReadFault::Bad { left }),
+    }
+}
+
+#[tactic(auto, unfolding(crate::specs::Fields::name))]
+pub fn name_from<const N: usize>(reader: &mut Reader<'_>) -> Result<Name<N>, ReadFault>
+    ensures { Reads (field.name N) reader.old result reader.new }
+{
+    let left = reader.left();
+    let len = reader.u8()? as usize;
+    if len < 1 || len > N {
+        return Err(ReadFault::Bad { left });
+    }
+    let name = name_bytes_from(len, reader)?;
+    Ok(Name::new(name))
+}
+
+// The bytes of a name.
+fn name_bytes_from<'a>(count: usize, reader: &mut Reader<'a>) -> Result<&'a [u8], ReadFault>
+    ensures read { Gives (λ x. x.now) result (wire.each_read (λ _. field.name_byte) [] count reader.old) reader.new }
+    ensures len { IfOk result (λ x. length x.now ≡ count) }
+    ensures names { IfOk result (λ x. IsTrue (list_all is_name_byte x.now)) }
+{
+    let bytes = reader.bytes();
+    for _ in 0..count {
+        name_byte_from(reader)?;
+    }
+    Ok(&bytes[..count])
+}
+
+#[tactic(auto, unfolding(crate::specs::Fields::command))]
+pub fn command_from(reader: &mut Reader<'_>) -> Result<Command, ReadFault>
+    ensures { Reads field.command reader.old result reader.new }
+{
+    let client = reader.u16()?;
+    let seq = seq_from(reader)?;
+    let op = op_from(reader)?;
+    Ok(Command { client, seq, op })
+}
+
+pub struct CommandItems;
+
+impl Items for CommandItems {
+    type Item = Command;
+
+    ghost format = { λ _ _. field.command };
+
+    ghost most = { 109 };
+
+    fn next_from(
+        &self,
+        _alloc: Global,
+        _before: &[Command],
+        reader: &mut Reader<'_>,
+    ) -> Result<Command, ReadFault> {
+        command_from(reader)
+    }
+
+    fn put_next(&self, command: &Command, out: &mut Vec<u8>) -> Result<(), NoMemory> {
+        put_command(out, command)
+    }
+}
+
+#[tactic(auto, unfolding(crate::specs::Fields::commands))]
+pub fn commands_from(alloc: Global, reader: &mut Reader<'_>) -> Result<Commands, ReadFault>
+    ensures { Reads field.commands reader.old result reader.new }
+{
+    let left = reader.left();
+    let count = reader.u8()?;
+    if count < 1 || count > 8 {
+        return Err(ReadFault::Bad { left });
+    }
+    let list = items_from(alloc, &CommandItems, count as usize, reader)?;
+    Ok(Few::from_vec(list))
+}
+
+#[tactic(auto, unfolding(crate::specs::Fields::value))]
+pub fn value_from(alloc: Global, reader: &mut Reader<'_>) -> Result<Value, ReadFault>
+    ensures { Reads field.value reader.old result reader.new }
+{
+    let left = reader.left();
+    match reader.u8()? {
+        0 => Ok(Value::Noop),
+        1 => Ok(Value::Batch(commands_from(alloc, reader)?)),
+        _ => Err(ReadFault::Bad { left }),
+    }
+}
+
+#[tactic(auto, unfolding(crate::specs::Fields::reply_len))]
+fn reply_len_from(reader: &mut Reader<'_>) -> Result<u8, ReadFault>
+    ensures { Reads field.reply_len reader.old result reader.new }
+{
+    let left = reader.left();
+    let len = reader.u8()?;
+    if len < 1 || len > 64 {
+        return Err(ReadFault::Bad { left });
+    }
+    Ok(len)
+}
+
+#[tactic(auto, unfolding(crate::specs::Fields::reply))]
+pub fn reply_from(reader: &mut Reader<'_>) -> Result<Reply, ReadFault>
+    ensures { Reads field.reply reader.old result reader.new }
+{
+    let left = reader.left();
+    match reader.u8()? {
+        0 => Ok(Reply::Okay),
+        1 => Ok(Reply::Was(name_from(reader)?)),
+        2 => Ok(Reply::Absent),
+        3 => Ok(Reply::Len(reply_len_from(reader)?)),
+        4 => Ok(Reply::Full),
+        _ => Err(ReadFault::Bad { left }),
+    }
+}
+
+// Whether a number stands in a list.
+fn is_in(id: u16, before: &[u16]) -> bool
+    ensures { result ≡ is_in id before.now }
+{
+    before.iter().any(|other| *other == id)
+}
+
+pub struct MemberItems;
+
+impl Items for MemberItems {
+    type Item = u16;
+
+    ghost format = { λ _ before. field.member before };
+
+    ghost most = { 2 };
+
+    #[tactic(auto, unfolding(crate::specs::Fields::member))]
+    fn next_from(
+        &self,
+        _alloc: Global,
+        before: &[u16],
+        reader: &mut Reader<'_>,
+    ) -> Result<u16, ReadFault> {
+        let left = reader.left();
+        let id = reader.u16()?;
+        if is_in(id, before) {
+            return Err(ReadFault::Bad { left });
+        }
+        Ok(id)
+    }
+
+    #[tactic(auto, unfolding(crate::specs::Fields::member, cx_wire::specs::Format::u16))]
+    fn put_next(&self, id: &u16, out: &mut Vec<u8>) -> Result<(), NoMemory> {
+        put_u16(out, *id)
+    }
+}
+
+#[tactic(auto, unfolding(crate::specs::Fields::grid))]
+pub fn grid_from(alloc: Global, reader: &mut Reader<'_>) -> Result<Grid, ReadFault>
+    ensures { Reads field.grid reader.old result reader.new }
+{
+    let left = reader.left();
+    let rows = reader.u8()?;
+    if rows < 1 {
+        return Err(ReadFault::Bad { left });
+    }
+    let left = reader.left();
+    let cols = reader.u8()?;
+    let count = rows as usize * cols as usize;
+    if cols < 1 || count > MEMBERS {
+        return Err(ReadFault::Bad { left });
+    }
+    let members = items_from(alloc, &MemberItems, count, reader)?;
+    Ok(Grid::from_parts(rows, cols, &members))
+}

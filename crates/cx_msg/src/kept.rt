@@ -1,0 +1,86 @@
+//! Records that roles keep.
+
+use cx_base::{Duplicate, Few, Grid, NoMemory, Round, Value};
+use std::alloc::Global;
+
+/// Values of slots that follow one another, one to 32.
+pub type LogValues = Few<Value, 1, 32>;
+
+/// What a role keeps. A stored record's fields are in their ranges, which whoever stores it owes: rounds are real ones,
+/// slots are below 2^40, `cw` and `mark` are numbers of slots, at most 2^40.
+#[derive(Debug, Drop)]
+pub enum Record {
+    /// An acceptor promises a round.
+    Promise {
+        round: Round,
+    },
+    /// An acceptor votes for a value; enough replicas hold all slots below `cw`.
+    Vote {
+        round: Round,
+        slot: u64,
+        cw: u64,
+        value: Value,
+    },
+    /// An acceptor is told that enough replicas hold so many slots.
+    Water {
+        round: Round,
+        mark: u64,
+    },
+    /// A matchmaker records a round and its grid.
+    Match {
+        round: Round,
+        grid: Grid,
+    },
+    /// A matchmaker forgets the rounds below this one.
+    Garbage {
+        round: Round,
+        grid: Grid,
+    },
+    /// A leader begins a round with this grid.
+    Round {
+        round: Round,
+        grid: Grid,
+    },
+    /// A replica executes the next values.
+    Log {
+        values: LogValues,
+    },
+}
+
+impl Duplicate for Record {
+    fn copy(&self, alloc: Global) -> Result<Self, NoMemory> {
+        match self {
+            Record::Promise { round } => Ok(Record::Promise { round: *round }),
+            Record::Vote {
+                round,
+                slot,
+                cw,
+                value,
+            } => Ok(Record::Vote {
+                round: *round,
+                slot: *slot,
+                cw: *cw,
+                value: value.copy(alloc)?,
+            }),
+            Record::Water { round, mark } => Ok(Record::Water {
+                round: *round,
+                mark: *mark,
+            }),
+            Record::Match { round, grid } => Ok(Record::Match {
+                round: *round,
+                grid: *grid,
+            }),
+            Record::Garbage { round, grid } => Ok(Record::Garbage {
+                round: *round,
+                grid: *grid,
+            }),
+            Record::Round { round, grid } => Ok(Record::Round {
+                round: *round,
+                grid: *grid,
+            }),
+            Record::Log { values } => Ok(Record::Log {
+                values: values.copy(alloc)?,
+            }),
+        }
+    }
+}

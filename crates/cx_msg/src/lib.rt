@@ -1,0 +1,31 @@
+//! Datagrams and records, and their bytes.
+//!
+//! Stands on the base types and on the formats of cx_wire; roles, keepers, the world and the node stand on it. Its theorem:
+//! what `decode` answers is the one datagram that the bytes spell, or the first test that they fail, and what `encode_into`
+//! appends is that spelling, which no other datagram has; likewise for records.
+#![tactic(auto)]
+
+mod bodies;
+mod datagram;
+mod decoding;
+mod encoding;
+mod fault;
+mod fields;
+mod header;
+mod input;
+mod items;
+mod kept;
+mod message;
+mod put;
+mod reader;
+mod records;
+mod roles;
+
+pub use datagram::Datagram;
+pub use decoding::{decode, one_spelling};
+pub use encoding::encode_into;
+pub use fault::WireFault;
+pub use input::{Act, Input, KeptRecord};
+pub use kept::{LogValues, Record};
+pub use message::{Answers, Entries, Entry, Msg, Token, Vote, Votes};
+pub use records::{record_from, record_into};

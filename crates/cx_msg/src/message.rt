@@ -1,0 +1,358 @@
+//! What one role says to another.
+
+use cx_base::{
+    Answered, Command, Commands, Duplicate, Few, Grid, Key, NoMemory, Reply, Round, Text, Value,
+};
+use std::alloc::Global;
+
+/// A round that a matchmaker recorded, and its grid (JSys 2021).
+#[derive(Clone, Copy, Debug, PartialEq, Eq)]
+pub struct Entry {
+    pub round: Round,
+    pub grid: Grid,
+}
+
+impl Duplicate for Entry {
+    fn copy(&self, _alloc: Global) -> Result<Self, NoMemory> {
+        Ok(*self)
+    }
+}
+
+/// A value that an acceptor voted for in a round and a slot. Slots are below 2^40.
+#[derive(Debug, Drop)]
+pub struct Vote {
+    pub round: Round,
+    pub slot: u64,
+    pub value: Value,
+}
+
+impl Duplicate for Vote {
+    fn copy(&self, alloc: Global) -> Result<Self, NoMemory> {
+        Ok(Vote {
+            round: self.round,
+            slot: self.slot,
+            value: self.value.copy(alloc)?,
+        })
+    }
+}
+
+/// A read of a client: the client, and its number, which is 1 or more.
+#[derive(Clone, Copy, Debug, PartialEq, Eq)]
+pub struct Token {
+    pub client: u16,
+    pub seq: u64,
+}
+
+impl Duplicate for Token {
+    fn copy(&self, _alloc: Global) -> Result<Self, NoMemory> {
+        Ok(*self)
+    }
+}
+
+/// Entries of a matchmaker, at most 17, of strictly rising rounds.
+pub type Entries = Few<Entry, 0, 17>;
+
+/// Votes of an acceptor, at most 32, of strictly rising slots.
+pub type Votes = Few<Vote, 0, 32>;
+
+/// Answers to the commands of one slot, one to eight.
+pub type Answers = Few<Answered, 1, 8>;
+
+/// What a datagram says. Rounds are real ones, but for a watermark, which may be none; slots are below 2^40; `cw` and
+/// `mark` are numbers of slots, at most 2^40; a client's numbers are 1 or more.
+#[derive(Debug, Drop)]
+pub enum Msg {
+    /// A client's command.
+    Submit {
+        command: Command,
+    },
+    /// Commands that a batcher gathered.
+    Batch {
+        commands: Commands,
+    },
+    /// The leader leads this round.
+    Leads {
+        round: Round,
+    },
+    /// Asks a matchmaker to record a round and its grid.
+    MatchA {
+        round: Round,
+        grid: Grid,
+    },
+    /// The round is recorded; the earlier ones from the watermark on.
+    MatchB {
+        round: Round,
+        watermark: Round,
+        entries: Entries,
+    },
+    /// The round is not recorded: it is collected (0), a later one is recorded (1), or there is no room (2).
+    MatchNack {
+        round: Round,
+        reason: u8,
+        other: Round,
+    },
+    /// Asks an acceptor to promise a round.
+    Phase1A {
+        round: Round,
+    },
+    /// The round is promised; what was voted from the slot `cw` on.
+    Phase1B {
+        round: Round,
+        cw: u64,
+        votes: Votes,
+    },
+    /// A greater round is promised.
+    Nack {
+        round: Round,
+        promise: Round,
+    },
+    /// Asks a proxy to have a value chosen for a slot; all slots below `cw` are held by enough replicas.
+    Propose {
+        round: Round,
+        grid: Grid,
+        slot: u64,
+        cw: u64,
+        value: Value,
+    },
+    /// Asks an acceptor to vote.
+    Phase2A {
+        round: Round,
+        slot: u64,
+        cw: u64,
+        value: Value,
+    },
+    /// The vote is kept.
+    Phase2B {
+        round: Round,
+        slot: u64,
+    },
+    /// The value is chosen for the slot.
+    Chosen {
+        slot: u64,
+        value: Value,
+    },
+    /// A value was chosen for the slot in this round.
+    ChosenIn {
+        round: Round,
+        slot: u64,
+    },
+    /// What the commands of a slot are answered.
+    Results {
+        slot: u64,
+        answers: Answers,
+    },
+    /// What a client's command is answered; `at` is one more than its slot.
+    Answer {
+        seq: u64,
+        at: u64,
+        reply: Reply,
+    },
+    /// The replica holds so many slots.
+    Held {
+        mark: u64,
+    },
+    /// Asks a replica for the value of a slot.
+    Fetch {
+        mark: u64,
+    },
+    /// Tells an acceptor that enough replicas hold so many slots.
+    Inform {
+        round: Round,
+        mark: u64,
+    },
+    /// The acceptor knows that enough replicas hold so many slots.
+    Informed {
+        round: Round,
+        mark: u64,
+    },
+    /// Asks a matchmaker to forget the rounds below this one.
+    GarbageA {
+        round: Round,
+        grid: Grid,
+    },
+    /// The rounds below this one are forgotten.
+    GarbageB {
+        round: Round,
+    },
+    /// A client's read of a key, to be answered by a replica.
+    ReadReq {
+        seq: u64,
+        replica: u16,
+        key: Key,
+    },
+    /// Asks a matchmaker for its entries.
+    MatchRead {
+        token: Token,
+    },
+    /// The entries of a matchmaker, from the watermark on.
+    MatchReadAck {
+        token: Token,
+        watermark: Round,
+        entries: Entries,
+    },
+    /// Asks an acceptor how far it voted.
+    PreRead {
+        token: Token,
+        watermark: Round,
+    },
+    /// The acceptor voted in no slot from the mark on.
+    PreReadAck {
+        token: Token,
+        watermark: Round,
+        mark: u64,
+    },
+    /// Asks a replica for a key's text, once it holds so many slots.
+    Read {
+        token: Token,
+        mark: u64,
+        key: Key,
+    },
+    /// A key's text where the replica holds so many slots, or that it has none.
+    ReadAnswer {
+        seq: u64,
+        mark: u64,
+        found: Option<Text>,
+    },
+}
+
+impl Duplicate for Msg {
+    fn copy(&self, alloc: Global) -> Result<Self, NoMemory> {
+        match self {
+            Msg::Submit { command } => Ok(Msg::Submit { command: *command }),
+            Msg::Batch { commands } => Ok(Msg::Batch {
+                commands: commands.copy(alloc)?,
+            }),
+            Msg::Leads { round } => Ok(Msg::Leads { round: *round }),
+            Msg::MatchA { round, grid } => Ok(Msg::MatchA {
+                round: *round,
+                grid: *grid,
+            }),
+            Msg::MatchB {
+                round,
+                watermark,
+                entries,
+            } => Ok(Msg::MatchB {
+                round: *round,
+                watermark: *watermark,
+                entries: entries.copy(alloc)?,
+            }),
+            Msg::MatchNack {
+                round,
+                reason,
+                other,
+            } => Ok(Msg::MatchNack {
+                round: *round,
+                reason: *reason,
+                other: *other,
+            }),
+            Msg::Phase1A { round } => Ok(Msg::Phase1A { round: *round }),
+            Msg::Phase1B { round, cw, votes } => Ok(Msg::Phase1B {
+                round: *round,
+                cw: *cw,
+                votes: votes.copy(alloc)?,
+            }),
+            Msg::Nack { round, promise } => Ok(Msg::Nack {
+                round: *round,
+                promise: *promise,
+            }),
+            Msg::Propose {
+                round,
+                grid,
+                slot,
+                cw,
+                value,
+            } => Ok(Msg::Propose {
+                round: *round,
+                grid: *grid,
+                slot: *slot,
+                cw: *cw,
+                value: value.copy(alloc)?,
+            }),
+            Msg::Phase2A {
+                round,
+                slot,
+                cw,
+                value,
+            } => Ok(Msg::Phase2A {
+                round: *round,
+                slot: *slot,
+                cw: *cw,
+                value: value.copy(alloc)?,
+            }),
+            Msg::Phase2B { round, slot } => Ok(Msg::Phase2B {
+                round: *round,
+                slot: *slot,
+            }),
+            Msg::Chosen { slot, value } => Ok(Msg::Chosen {
+                slot: *slot,
+                value: value.copy(alloc)?,
+            }),
+            Msg::ChosenIn { round, slot } => Ok(Msg::ChosenIn {
+                round: *round,
+                slot: *slot,
+            }),
+            Msg::Results { slot, answers } => Ok(Msg::Results {
+                slot: *slot,
+                answers: answers.copy(alloc)?,
+            }),
+            Msg::Answer { seq, at, reply } => Ok(Msg::Answer {
+                seq: *seq,
+                at: *at,
+                reply: *reply,
+            }),
+            Msg::Held { mark } => Ok(Msg::Held { mark: *mark }),
+            Msg::Fetch { mark } => Ok(Msg::Fetch { mark: *mark }),
+            Msg::Inform { round, mark } => Ok(Msg::Inform {
+                round: *round,
+                mark: *mark,
+            }),
+            Msg::Informed { round, mark } => Ok(Msg::Informed {
+                round: *round,
+                mark: *mark,
+            }),
+            Msg::GarbageA { round, grid } => Ok(Msg::GarbageA {
+                round: *round,
+                grid: *grid,
+            }),
+            Msg::GarbageB { round } => Ok(Msg::GarbageB { round: *round }),
+            Msg::ReadReq { seq, replica, key } => Ok(Msg::ReadReq {
+                seq: *seq,
+                replica: *replica,
+                key: *key,
+            }),
+            Msg::MatchRead { token } => Ok(Msg::MatchRead { token: *token }),
+            Msg::MatchReadAck {
+                token,
+                watermark,
+                entries,
+            } => Ok(Msg::MatchReadAck {
+                token: *token,
+                watermark: *watermark,
+                entries: entries.copy(alloc)?,
+            }),
+            Msg::PreRead { token, watermark } => Ok(Msg::PreRead {
+                token: *token,
+                watermark: *watermark,
+            }),
+            Msg::PreReadAck {
+                token,
+                watermark,
+                mark,
+            } => Ok(Msg::PreReadAck {
+                token: *token,
+                watermark: *watermark,
+                mark: *mark,
+            }),
+            Msg::Read { token, mark, key } => Ok(Msg::Read {
+                token: *token,
+                mark: *mark,
+                key: *key,
+            }),
+            Msg::ReadAnswer { seq, mark, found } => Ok(Msg::ReadAnswer {
+                seq: *seq,
+                mark: *mark,
+                found: *found,
+            }),
+        }
+    }
+}

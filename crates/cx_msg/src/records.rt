@@ -1,0 +1,232 @@
+//! Records as bytes, both ways.
+
+ghost use Rattle.std.specs.Prelude.{◌≡◌, ◌≤◌, ◌+◌, ◌++◌, IfOk, IsTrue, OnOk, OnErr, length};
+ghost use Rattle.cx_wire.specs.Format as wire;
+ghost use Rattle.cx_wire.specs.Format.{Appends};
+ghost use Rattle.cx_msg.specs.Fields as field;
+ghost use Rattle.cx_msg.specs.Records as records;
+ghost use Rattle.cx_msg.specs.Reading.{Reads, Gives};
+ghost use Rattle.cx_msg.specs.declared.kept.Record.{Record as Kept};
+
+use crate::fault::{ReadFault, WireFault};
+use crate::fields::{grid_from, mark_from, round_from, slot_from, value_from};
+use crate::items::{Items, items_from, put_items};
+use crate::kept::{LogValues, Record};
+use crate::put::{put_grid, put_mark, put_round, put_slot, put_value};
+use crate::reader::Reader;
+use cx_base::{Few, NoMemory, Round, Value};
+use cx_wire::put_u8;
+use std::alloc::Global;
+
+struct ValueItems;
+
+impl Items for ValueItems {
+    type Item = Value;
+
+    ghost format = { λ _ _. field.value };
+
+    ghost most = { 874 };
+
+    fn next_from(
+        &self,
+        alloc: Global,
+        _before: &[Value],
+        reader: &mut Reader<'_>,
+    ) -> Result<Value, ReadFault> {
+        value_from(alloc, reader)
+    }
+
+    fn put_next(&self, value: &Value, out: &mut Vec<u8>) -> Result<(), NoMemory> {
+        put_value(out, value)
+    }
+}
+
+#[tactic(auto, unfolding(crate::specs::Records::values))]
+fn values_from(alloc: Global, reader: &mut Reader<'_>) -> Result<LogValues, ReadFault>
+    ensures { Reads records.values reader.old result reader.new }
+{
+    let left = reader.left();
+    let count = reader.u8()?;
+    if count < 1 || count > 32 {
+        return Err(ReadFault::Bad { left });
+    }
+    let list = items_from(alloc, &ValueItems, count as usize, reader)?;
+    Ok(Few::from_vec(list))
+}
+
+#[tactic(auto, unfolding(crate::specs::Records::record_cases, crate::specs::Records::vote, crate::specs::Records::round_mark, crate::specs::Records::round_grid))]
+fn fields_from(tag: u8, alloc: Global, reader: &mut Reader<'_>) -> Result<Record, ReadFault>
+    ensures { Gives (λ r. r) result (wire.by_tag records.record_cases tag (length reader.old) reader.old) reader.new }
+{
+    match tag {
+        1 => Ok(Record::Promise {
+            round: round_from(reader)?,
+        }),
+        2 => {
+            let round = round_from(reader)?;
+            let slot = slot_from(reader)?;
+            let cw = mark_from(reader)?;
+            let value = value_from(alloc, reader)?;
+            Ok(Record::Vote {
+                round,
+                slot,
+                cw,
+                value,
+            })
+        }
+        3 => {
+            let round = round_from(reader)?;
+            let mark = mark_from(reader)?;
+            Ok(Record::Water { round, mark })
+        }
+        4 => {
+            let round = round_from(reader)?;
+            let grid = grid_from(alloc, reader)?;
+            Ok(Record::Match { round, grid })
+        }
+        5 => {
+            let round = round_from(reader)?;
+            let grid = grid_from(alloc, reader)?;
+            Ok(Record::Garbage { round, grid })
+        }
+        6 => {
+            let round = round_from(reader)?;
+            let grid = grid_from(alloc, reader)?;
+            Ok(Record::Round { round, grid })
+        }
+        7 => Ok(Record::Log {
+            values: values_from(alloc, reader)?,
+        }),
+        _ => Err(ReadFault::Bad {
+            left: reader.left(),
+        }),
+    }
+}
+
+#[tactic(auto, unfolding(crate::specs::Records::ended, crate::specs::Records::with_tag))]
+fn read(alloc: Global, bytes: &[u8]) -> Result<Record, WireFault>
+    ensures { records.Decodes result (records.recorded bytes.now) }
+{
+    let mut reader = Reader::new(bytes);
+    let tag = match reader.u8() {
+        Ok(tag) => tag,
+        Err(ReadFault::Bad { .. }) => return Err(WireFault::Short { need: 1, have: 0 }),
+        Err(ReadFault::NoMemory) => return Err(WireFault::NoMemory),
+    };
+    if tag < 1 || tag > 7 {
+        return Err(WireFault::Kind(tag));
+    }
+    match fields_from(tag, alloc, &mut reader) {
+        Ok(kept) => {
+            let left = reader.left();
+            if left > 0 {
+                return Err(WireFault::Trailing {
+                    at: bytes.len().saturating_sub(left),
+                });
+            }
+            Ok(kept)
+        }
+        Err(ReadFault::Bad { left }) => {
+            Err(WireFault::Field {
+                kind: tag,
+                at: bytes.len().saturating_sub(left),
+            })
+        }
+        Err(ReadFault::NoMemory) => Err(WireFault::NoMemory),
+    }
+}
+
+/// The record that the bytes spell, all of the bytes; or the first test that they fail.
+pub fn record_from(alloc: Global, bytes: &[u8]) -> Result<Record, WireFault>
+    // What is read is spelled so, and has a spelling.
+    ensures found { IfOk result (λ r. (bytes.now ≡ records.spelling r) × IsTrue (records.fits r)) }
+    // What is spelled so is read, unless memory runs out.
+    ensures only { (r : Kept) → IsTrue (records.fits r) → bytes.now ≡ records.spelling r → records.Decodes result (Ok r) }
+    // Which fault it is.
+    ensures exact { records.Decodes result (records.recorded bytes.now) }
+{
+    read(alloc, bytes)
+}
+
+#[tactic(auto, unfolding(crate::specs::Records::values))]
+fn put_values(out: &mut Vec<u8>, values: &LogValues) -> Result<(), NoMemory>
+    ensures { OnOk result (Appends records.values values.now 27969 out.old.items out.new.items) }
+{
+    let list = values.as_slice();
+    put_u8(out, list.len() as u8)?;
+    put_items(&ValueItems, list, out)
+}
+
+#[tactic(auto, unfolding(crate::specs::Records::vote))]
+fn put_vote(
+    out: &mut Vec<u8>,
+    round: &Round,
+    slot: u64,
+    cw: u64,
+    value: &Value,
+) -> Result<(), NoMemory>
+    ensures { OnOk result (Appends records.vote (round.now, (slot, (cw, value.now))) 900 out.old.items out.new.items) }
+{
+    put_round(out, round)?;
+    put_slot(out, slot)?;
+    put_mark(out, cw)?;
+    put_value(out, value)
+}
+
+#[tactic(auto, unfolding(crate::specs::Records::kept_record, crate::specs::Records::round_mark, crate::specs::Records::round_grid))]
+fn put_record(out: &mut Vec<u8>, kept: &Record) -> Result<(), NoMemory>
+    ensures { OnOk result (Appends records.kept_record kept.now 27970 out.old.items out.new.items) }
+{
+    match kept {
+        Record::Promise { round } => {
+            put_u8(out, 1)?;
+            put_round(out, round)
+        }
+        Record::Vote {
+            round,
+            slot,
+            cw,
+            value,
+        } => {
+            put_u8(out, 2)?;
+            put_vote(out, round, *slot, *cw, value)
+        }
+        Record::Water { round, mark } => {
+            put_u8(out, 3)?;
+            put_round(out, round)?;
+            put_mark(out, *mark)
+        }
+        Record::Match { round, grid } => {
+            put_u8(out, 4)?;
+            put_round(out, round)?;
+            put_grid(out, grid)
+        }
+        Record::Garbage { round, grid } => {
+            put_u8(out, 5)?;
+            put_round(out, round)?;
+            put_grid(out, grid)
+        }
+        Record::Round { round, grid } => {
+            put_u8(out, 6)?;
+            put_round(out, round)?;
+            put_grid(out, grid)
+        }
+        Record::Log { values } => {
+            put_u8(out, 7)?;
+            put_values(out, values)
+        }
+    }
+}
+
+/// Appends the bytes of a record, at most 27,970; an `Err` appends nothing.
+#[tactic(auto, unfolding(crate::specs::Records::kept_record))]
+pub fn record_into(alloc: Global, kept: &Record, out: &mut Vec<u8>) -> Result<(), NoMemory>
+    ensures bytes { OnOk result (out.new.items ≡ out.old.items ++ records.spelling kept.now) }
+    ensures room { OnOk result (length (records.spelling kept.now) ≤ 27970) }
+    ensures err { OnErr result (out.new.items ≡ out.old.items) }
+{
+    let mut whole = Vec::new(alloc);
+    put_record(&mut whole, kept)?;
+    out.extend_from_slice(&whole)?;
+    Ok(())
+}
