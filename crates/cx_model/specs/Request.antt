@@ -48,7 +48,7 @@ abbrev pub is_stale : Token → Event → List Happened → Bool
 is_stale t e events =
     list_any (λ (h : Happened). was_sent h && same_token t (token_of h.event) && not (same_request e h.event)) events
     || (not (list_any (λ (h : Happened). was_sent h && same_token t (token_of h.event)) events)
-        && list_any (λ (h : Happened). was_sent h && not_below t (token_of h.event)) events)
+    && list_any (λ (h : Happened). was_sent h && not_below t (token_of h.event)) events)
 
 -- the datagram of a request
 abbrev pub request : Event → List Letter

@@ -1,0 +1,96 @@
+//! A keeper of records, and why it may refuse.
+
+ghost use Rattle.std.specs.Prelude.{◌≡◌, ◌≤◌, ℕ, List, Result, IfOk, IsTrue, Err};
+ghost use Rattle.cx_base.specs.Faults.{Rises};
+ghost use Rattle.cx_msg.specs.declared.kept.Record.{Record};
+ghost use Rattle.cx_msg.specs.Records.{fits};
+ghost use Rattle.cx_keeper.specs.declared.keeper.KeepFault.{KeepFault};
+ghost use Rattle.cx_keeper.specs.declared.keeper.KeepFault.TheVariants as fault;
+ghost use Rattle.cx_keeper.specs.declared.keeper.OpenFault.TheVariants as open_fault;
+ghost use Rattle.cx_keeper.specs.Keeper.{IsAppend, all_fit};
+
+use cx_base::NoMemory;
+use cx_msg::Record;
+use std::alloc::{AllocError, AllocFailed};
+use thiserror::Error;
+
+/// Why a record was not kept for certain.
+#[derive(Debug, Drop, Error)]
+pub enum KeepFault {
+    /// The store failed; the record is kept or lost, and only `recover` may follow.
+    #[error("a record could not be kept")]
+    Failed,
+    #[error("no memory")]
+    NoMemory,
+}
+
+impl From<NoMemory> for KeepFault {
+    ghost from_gives = { λ _ e. e ≡ fault.NoMemory };
+
+    fn from(_: NoMemory) -> Self {
+        KeepFault::NoMemory
+    }
+}
+
+impl From<AllocError> for KeepFault {
+    ghost from_gives = { λ _ e. e ≡ fault.NoMemory };
+
+    fn from(_: AllocError) -> Self {
+        KeepFault::NoMemory
+    }
+}
+
+impl<T: Drop> From<AllocFailed<T>> for KeepFault {
+    ghost from_gives = { λ _ e. e ≡ fault.NoMemory };
+
+    fn from(_: AllocFailed<T>) -> Self {
+        KeepFault::NoMemory
+    }
+}
+
+/// Why records could not be read.
+#[derive(Debug, Drop, Error)]
+pub enum OpenFault {
+    /// The bytes are no list of records; the first break is at this place, in bytes, at this byte or at the end.
+    #[error("no journal at {at}")]
+    NotJournal { at: u64, byte: Option<u8> },
+    #[error("the store failed")]
+    Failed,
+    #[error("no memory")]
+    NoMemory,
+}
+
+impl From<NoMemory> for OpenFault {
+    ghost from_gives = { λ _ e. e ≡ open_fault.NoMemory };
+
+    fn from(_: NoMemory) -> Self {
+        OpenFault::NoMemory
+    }
+}
+
+/// A list of records that outlives a crash. A crash inside an append keeps or loses that one record.
+pub trait Keeper {
+    /// The records that it keeps.
+    ghost kept: { Self → List Record };
+
+    /// How often it has failed.
+    ghost faults: { Self → ℕ };
+
+    /// What an append may answer, and leave.
+    ghost append_gives: { Self → Record → Result (Unit {0}) KeepFault → Self → Type 0 };
+
+    /// Adds a record at the end. After `Failed` only `recover` may follow.
+    fn append(&mut self, what: &Record) -> Result<(), KeepFault>
+        requires { IsTrue (fits what.now) }
+        ensures { append_gives self.old what.now result self.new };
+
+    /// Reads the records again. `Failed` only where the count of faults rose.
+    fn recover(&mut self) -> Result<Vec<Record>, OpenFault>
+        ensures list { IfOk result (λ records. records.items ≡ kept self.old) }
+        ensures ranges { IfOk result (λ records. IsTrue (all_fit records.items)) }
+        ensures same { kept self.new ≡ kept self.old }
+        ensures cause { result ≡ Err open_fault.Failed → Rises (faults self.old) (faults self.new) }
+        ensures later { faults self.old ≤ faults self.new };
+
+    ghost append_is: { (old : Self) (r : Record) (answer : Result (Unit {0}) KeepFault) (new : Self) → append_gives old r answer new → IsAppend kept faults old r answer new };
+}

@@ -1,0 +1,103 @@
+//! A keeper in memory.
+
+ghost use Rattle.std.specs.Prelude.{◌≡◌, ◌≤◌, ◌+◌, [], IfOk, length, drop, option_to_list};
+ghost use Rattle.cx_keeper.specs.MemKeeper.{kept_of, faults_of, mem_append_gives, mem_append_is};
+
+use crate::{KeepFault, Keeper, OpenFault};
+use cx_base::{Cut, Duplicate, Faults, NoMemory, copy_all};
+use cx_msg::Record;
+use std::alloc::Global;
+use std::marker::Model;
+
+/// Keeps records in memory, and lets an append fail where it is told to.
+#[derive(Drop)]
+pub struct MemKeeper {
+    alloc: Global,
+    kept: Vec<Record>,
+    cut: Cut,
+    faults: Faults,
+}
+
+impl Model for MemKeeper {
+    ghost use Rattle.std.specs.Prelude.{IsTrue};
+    ghost use Rattle.cx_keeper.specs.Keeper.{all_fit};
+    ghost use Rattle.cx_keeper.specs.MemKeeper.{MemKeeperState};
+
+    ghost Value = { MemKeeperState };
+
+    ghost view = { λ keeper. record { kept = keeper.kept.items; cut = keeper.cut; faults = keeper.faults } };
+
+    ghost invariant = { λ keeper. IsTrue (all_fit keeper.kept.items) };
+}
+
+impl MemKeeper {
+    /// No records, and whole appends.
+    pub fn new(alloc: Global) -> Self
+        ensures { result ≡ record { kept = []; cut = Cut.Whole; faults = 0 } }
+    {
+        MemKeeper {
+            alloc,
+            kept: Vec::new(alloc),
+            cut: Cut::Whole,
+            faults: Faults::none(),
+        }
+    }
+
+    /// How many records it keeps. It takes no memory.
+    pub fn len(&self) -> usize
+        ensures { result ≡ length self.now.kept }
+    {
+        self.kept.len()
+    }
+
+    /// The record that was kept since there were so many, if one was.
+    pub fn kept_since(&self, count: usize) -> Result<Option<Record>, NoMemory>
+        requires least { count ≤ length self.now.kept }
+        requires most { length self.now.kept ≤ count + 1 }
+        ensures { IfOk result (λ r. option_to_list r ≡ drop count self.now.kept) }
+    {
+        match self.kept.get(count) {
+            None => Ok(None),
+            Some(record) => Ok(Some(record.copy(self.alloc)?)),
+        }
+    }
+
+    /// How appends go from here on: `Torn` loses the record and fails, `Kept` keeps it and fails. It takes no memory.
+    pub fn cut(&mut self, cut: Cut)
+        ensures { self.new ≡ record self.old { cut = cut } }
+    {
+        self.cut = cut;
+    }
+}
+
+impl Keeper for MemKeeper {
+    ghost kept = { kept_of };
+
+    ghost faults = { faults_of };
+
+    ghost append_gives = { mem_append_gives };
+
+    ghost append_is = { mem_append_is };
+
+    fn append(&mut self, what: &Record) -> Result<(), KeepFault> {
+        match self.cut {
+            Cut::Whole => {
+                self.kept.push(what.copy(self.alloc)?)?;
+                Ok(())
+            }
+            Cut::Torn => {
+                self.faults.add();
+                Err(KeepFault::Failed)
+            }
+            Cut::Kept => {
+                self.kept.push(what.copy(self.alloc)?)?;
+                self.faults.add();
+                Err(KeepFault::Failed)
+            }
+        }
+    }
+
+    fn recover(&mut self) -> Result<Vec<Record>, OpenFault> {
+        Ok(copy_all(self.alloc, &self.kept)?)
+    }
+}

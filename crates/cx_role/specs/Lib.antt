@@ -1,0 +1,3 @@
+pub mod Outbox
+pub mod Role
+pub mod Wake

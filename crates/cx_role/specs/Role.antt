@@ -1,0 +1,44 @@
+-- The law of a role's step.
+use Rattle.std.specs.Prelude.{◌≡◌, false, List, [], Option, None, Some, Result, Ok, Err}
+use Rattle.cx_base.specs.declared.why.Why.{Why}
+use Rattle.cx_keeper.specs.declared.keeper.KeepFault.{KeepFault}
+use Rattle.cx_keeper.specs.declared.keeper.KeepFault.TheVariants.{Failed}
+use Rattle.cx_model.specs.Outcome.{Outcome}
+use Rattle.cx_model.specs.Rules.{Rules, Running, running_after}
+use Rattle.cx_msg.specs.Letter.{Letter}
+use Rattle.cx_msg.specs.declared.kept.Record.{Record}
+
+-- what an append may answer, and leave
+abbrev pub Appending : Type 0 → Type 1
+Appending K = K → Record → Result (Unit {0}) KeepFault → K → Type 0
+
+-- the keeper after the row's record, if it has one, was appended
+abbrev pub Keeps : {K : Type 0} → Appending K → Option Record → K → K → Type 0
+Keeps append_gives None old new = new ≡ old
+Keeps append_gives (Some r) old new = append_gives old r (Ok tt) new
+
+-- a whole step is the row: its word, its record, its state and its sends
+pub record Steps {K D V : Type 0} (append_gives : Appending K) (rules : Rules D V) (before : Running D V) (outcome : Outcome V) (w : Why) (old new : K) (after : Running D V) (sent : List Letter) : Type 0 where
+  pub why : w ≡ outcome.why
+  pub kept : Keeps append_gives outcome.kept old new
+  pub state : after ≡ running_after rules before outcome
+  pub sends : sent ≡ outcome.sends
+
+-- a step of a row that keeps nothing
+pub record Replies {D V : Type 0} (rules : Rules D V) (before : Running D V) (outcome : Outcome V) (w : Why) (after : Running D V) (sent : List Letter) : Type 0 where
+  pub why : w ≡ outcome.why
+  pub nothing : outcome.kept ≡ None
+  pub state : after ≡ running_after rules before outcome
+  pub sends : sent ≡ outcome.sends
+
+-- nothing has changed, and nothing was sent
+pub record StaysAt {K S : Type 0} (kept_of : K → List Record) (before after : S) (old new : K) (sent : List Letter) : Type 0 where
+  pub kept : kept_of new ≡ kept_of old
+  pub state : after ≡ before
+  pub sends : sent ≡ []
+
+-- the row's append failed, nothing was sent, and the role has to be opened again
+pub record FailsAt {K D V : Type 0} (append_gives : Appending K) (outcome : Outcome V) (old new : K) (after : Running D V) (sent : List Letter) : Type 0 where
+  pub append : (r : Record) × (outcome.kept ≡ Some r) × append_gives old r (Err Failed) new
+  pub dead : after.live ≡ false
+  pub sends : sent ≡ []

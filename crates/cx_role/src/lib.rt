@@ -1,0 +1,14 @@
+//! What a role is, and where it puts what it sends.
+//!
+//! Stands on the model and the keepers; each role crate stands on it, and the world and the node drive roles through it
+//! alone. Its law is the contract of `Role`: a whole step is the row of the role's rules over any keeper, want of memory
+//! leaves everything as it was, and a failed append sends nothing.
+#![tactic(auto)]
+
+mod names;
+mod outbox;
+mod role;
+
+pub use names::{is_for, names_grid, names_round, names_value};
+pub use outbox::{MAX_SENDS, Outbox};
+pub use role::{Role, StepFault, WakeFault};

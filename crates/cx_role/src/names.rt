@@ -1,0 +1,185 @@
+//! Which names of a datagram lie in the cluster.
+
+ghost use Rattle.std.specs.Prelude.{◌≡◌, ◌&&◌, nat_lt};
+ghost use Rattle.std.specs.List.{list_all};
+ghost use Rattle.cx_base.specs.declared.command.Answered.{Answered};
+ghost use Rattle.cx_base.specs.declared.command.Command.{Command};
+ghost use Rattle.cx_base.specs.Role.{same_role};
+ghost use Rattle.cx_model.specs.Names.{count_of, names_role, names_round, names_grid, names_command, names_value, names_entry, names_vote, names_answer, names_token, names_body, names};
+ghost use Rattle.cx_msg.specs.declared.message.Entry.{Entry};
+ghost use Rattle.cx_msg.specs.declared.message.Vote.{Vote};
+
+use cx_base::{Answered, Cluster, Command, Grid, Kind, RoleId, Round, Value};
+use cx_msg::{Datagram, Entry, Msg, Token, Vote};
+
+fn count_of(cluster: &Cluster, kind: Kind) -> u16
+    ensures { result ≡ count_of cluster.now kind }
+{
+    match kind {
+        Kind::Client => cluster.clients,
+        Kind::Batcher => cluster.batchers,
+        Kind::Leader => cluster.leaders,
+        Kind::Proxy => cluster.proxies,
+        Kind::Acceptor => cluster.acceptors,
+        Kind::Matchmaker => 2 * cluster.f as u16 + 1,
+        Kind::Replica => cluster.replicas,
+        Kind::Unbatcher => cluster.unbatchers,
+        Kind::Reader => cluster.readers,
+    }
+}
+
+fn names_role(cluster: &Cluster, role: RoleId) -> bool
+    ensures { result ≡ names_role cluster.now role }
+{
+    role.index < count_of(cluster, role.kind)
+}
+
+/// Whether the leader that a round names is in the cluster. It takes no memory.
+pub fn names_round(cluster: &Cluster, round: Round) -> bool
+    ensures { result ≡ names_round cluster.now round }
+{
+    round.id < cluster.leaders
+}
+
+fn are_acceptors(acceptors: u16, ids: &[u16]) -> bool
+    ensures { result ≡ list_all (λ id. nat_lt id acceptors) ids.now }
+{
+    ids.iter().all(|id| *id < acceptors)
+}
+
+/// Whether all members of a grid are in the cluster. It takes no memory.
+pub fn names_grid(cluster: &Cluster, grid: &Grid) -> bool
+    ensures { result ≡ names_grid cluster.now grid.now }
+{
+    are_acceptors(cluster.acceptors, grid.members())
+}
+
+fn names_commands(cluster: &Cluster, commands: &[Command]) -> bool
+    ensures { result ≡ list_all (λ (k : Command). names_command cluster.now k) commands.now }
+{
+    commands
+        .iter()
+        .all(|command| command.client < cluster.clients)
+}
+
+/// Whether the clients of all commands of a value are in the cluster. It takes no memory.
+pub fn names_value(cluster: &Cluster, value: &Value) -> bool
+    ensures { result ≡ names_value cluster.now value.now }
+{
+    match value {
+        Value::Noop => true,
+        Value::Batch(commands) => names_commands(cluster, commands.as_slice()),
+    }
+}
+
+fn names_entry(cluster: &Cluster, entry: &Entry) -> bool
+    ensures { result ≡ names_entry cluster.now entry.now }
+{
+    names_round(cluster, entry.round) && names_grid(cluster, &entry.grid)
+}
+
+fn names_entries(cluster: &Cluster, entries: &[Entry]) -> bool
+    ensures { result ≡ list_all (λ (e : Entry). names_entry cluster.now e) entries.now }
+{
+    entries.iter().all(|entry| names_entry(cluster, entry))
+}
+
+fn names_vote(cluster: &Cluster, vote: &Vote) -> bool
+    ensures { result ≡ names_vote cluster.now vote.now }
+{
+    names_round(cluster, vote.round) && names_value(cluster, &vote.value)
+}
+
+fn names_votes(cluster: &Cluster, votes: &[Vote]) -> bool
+    ensures { result ≡ list_all (λ (v : Vote). names_vote cluster.now v) votes.now }
+{
+    votes.iter().all(|vote| names_vote(cluster, vote))
+}
+
+fn names_answers(cluster: &Cluster, answers: &[Answered]) -> bool
+    ensures { result ≡ list_all (λ (a : Answered). names_answer cluster.now a) answers.now }
+{
+    answers.iter().all(|answer| answer.client < cluster.clients)
+}
+
+fn names_token(cluster: &Cluster, token: Token) -> bool
+    ensures { result ≡ names_token cluster.now token }
+{
+    token.client < cluster.clients
+}
+
+fn names_body(cluster: &Cluster, msg: &Msg) -> bool
+    ensures { result ≡ names_body cluster.now msg.now }
+{
+    match msg {
+        Msg::Submit { command } => command.client < cluster.clients,
+        Msg::Batch { commands } => names_commands(cluster, commands.as_slice()),
+        Msg::Leads { round } => names_round(cluster, *round),
+        Msg::MatchA { round, grid } => names_round(cluster, *round) && names_grid(cluster, grid),
+        Msg::MatchB {
+            round,
+            watermark,
+            entries,
+        } => {
+            names_round(cluster, *round)
+                && names_round(cluster, *watermark)
+                && names_entries(cluster, entries.as_slice())
+        }
+        Msg::MatchNack { round, other, .. } => {
+            names_round(cluster, *round) && names_round(cluster, *other)
+        }
+        Msg::Phase1A { round } => names_round(cluster, *round),
+        Msg::Phase1B { round, votes, .. } => {
+            names_round(cluster, *round) && names_votes(cluster, votes.as_slice())
+        }
+        Msg::Nack { round, promise } => {
+            names_round(cluster, *round) && names_round(cluster, *promise)
+        }
+        Msg::Propose {
+            round,
+            grid,
+            value,
+            ..
+        } => {
+            names_round(cluster, *round) && names_grid(cluster, grid) && names_value(cluster, value)
+        }
+        Msg::Phase2A { round, value, .. } => {
+            names_round(cluster, *round) && names_value(cluster, value)
+        }
+        Msg::Phase2B { round, .. } => names_round(cluster, *round),
+        Msg::Chosen { value, .. } => names_value(cluster, value),
+        Msg::ChosenIn { round, .. } => names_round(cluster, *round),
+        Msg::Results { answers, .. } => names_answers(cluster, answers.as_slice()),
+        Msg::Answer { .. } | Msg::Held { .. } | Msg::Fetch { .. } | Msg::ReadAnswer { .. } => true,
+        Msg::Inform { round, .. } | Msg::Informed { round, .. } => names_round(cluster, *round),
+        Msg::GarbageA { round, grid } => names_round(cluster, *round) && names_grid(cluster, grid),
+        Msg::GarbageB { round } => names_round(cluster, *round),
+        Msg::ReadReq { replica, .. } => *replica < cluster.replicas,
+        Msg::MatchRead { token } | Msg::Read { token, .. } => names_token(cluster, *token),
+        Msg::MatchReadAck {
+            token,
+            watermark,
+            entries,
+        } => {
+            names_token(cluster, *token)
+                && names_round(cluster, *watermark)
+                && names_entries(cluster, entries.as_slice())
+        }
+        Msg::PreRead { token, watermark }
+        | Msg::PreReadAck {
+            token,
+            watermark,
+            ..
+        } => { names_token(cluster, *token) && names_round(cluster, *watermark) }
+    }
+}
+
+/// Whether a datagram is to this role, and each name in it lies in the cluster. It takes no memory.
+pub fn is_for(cluster: &Cluster, me: RoleId, datagram: &Datagram) -> bool
+    ensures { result ≡ (same_role datagram.now.to me && names cluster.now datagram.now) }
+{
+    datagram.to().is(me)
+        && names_role(cluster, datagram.from())
+        && names_role(cluster, datagram.to())
+        && names_body(cluster, datagram.msg())
+}

@@ -1,0 +1,147 @@
+//! A role of the protocol.
+
+ghost use Rattle.std.specs.Prelude.{◌≡◌, [], true, None, IfOk, IfErr, IsErrOf, IsTrue, OnErr};
+ghost use Rattle.cx_keeper.specs.Keeper.{all_fit};
+ghost use Rattle.cx_model.specs.Rules.{Rules, Running, opened, refused, outcome_of, IsFit};
+ghost use Rattle.cx_msg.specs.declared.input.Input.TheVariants as input;
+ghost use Rattle.cx_role.specs.declared.role.StepFault.TheVariants as fault;
+ghost use Rattle.cx_role.specs.declared.role.WakeFault.TheVariants as wake;
+ghost use Rattle.cx_role.specs.Role.{Steps, Replies, StaysAt, FailsAt};
+ghost use Rattle.cx_role.specs.Wake.{IsWakeFault};
+
+use crate::Outbox;
+use cx_base::{Cluster, NoMemory, Order, RoleId, Why};
+use cx_keeper::Keeper;
+use cx_msg::{Datagram, Record};
+use std::alloc::{AllocError, AllocFailed, Global};
+use thiserror::Error;
+
+/// Why a step was not made.
+#[derive(Debug, Drop, Error)]
+pub enum StepFault {
+    /// The keeper failed. Nothing was sent, and the role has to be opened again from what the keeper recovers.
+    #[error("a record could not be kept")]
+    Failed,
+    #[error("no memory")]
+    NoMemory,
+}
+
+impl From<NoMemory> for StepFault {
+    ghost from_gives = { λ _ e. e ≡ fault.NoMemory };
+
+    fn from(_: NoMemory) -> Self {
+        StepFault::NoMemory
+    }
+}
+
+impl From<AllocError> for StepFault {
+    ghost from_gives = { λ _ e. e ≡ fault.NoMemory };
+
+    fn from(_: AllocError) -> Self {
+        StepFault::NoMemory
+    }
+}
+
+impl<T: Drop> From<AllocFailed<T>> for StepFault {
+    ghost from_gives = { λ _ e. e ≡ fault.NoMemory };
+
+    fn from(_: AllocFailed<T>) -> Self {
+        StepFault::NoMemory
+    }
+}
+
+/// Why a role could not be opened.
+#[derive(Debug, Drop, Error)]
+pub enum WakeFault {
+    /// The role could not have appended the record at this place.
+    #[error("record {index} is not the role's own")]
+    Record { index: usize },
+    #[error("no memory")]
+    NoMemory,
+}
+
+impl From<NoMemory> for WakeFault {
+    ghost from_gives = { λ _ e. e ≡ wake.NoMemory };
+
+    fn from(_: NoMemory) -> Self {
+        WakeFault::NoMemory
+    }
+}
+
+impl From<AllocError> for WakeFault {
+    ghost from_gives = { λ _ e. e ≡ wake.NoMemory };
+
+    fn from(_: AllocError) -> Self {
+        WakeFault::NoMemory
+    }
+}
+
+/// A kind of role: it takes one datagram, order or tick at a time, makes at most one append, and then changes its state and
+/// sends. Memory is taken first, so that want of it leaves everything as it was.
+pub trait Role: Sized {
+    /// The part of its state that its records leave.
+    ghost Durable: { Type 0 };
+
+    /// The part that is lost when it stops.
+    ghost Volatile: { Type 0 };
+
+    /// What it does, by the rules.
+    ghost rules: { Rules Durable Volatile };
+
+    /// Its state.
+    ghost state: { Self → Running Durable Volatile };
+
+    /// The role as these records leave it. The fault names exactly the first record that the role could not have appended
+    /// in the state that those before it leave.
+    fn open(
+        alloc: Global,
+        cluster: &Cluster,
+        me: RoleId,
+        records: &[Record],
+    ) -> Result<Self, WakeFault>
+        requires { IsTrue (all_fit records.now) }
+        ensures role { IfOk result (λ role. state role ≡ opened rules cluster.now me records.now) }
+        ensures whole { IfOk result (λ _. refused rules cluster.now me records.now ≡ None) }
+        ensures fault { IfErr result (IsWakeFault (refused rules cluster.now me records.now)) };
+
+    /// One datagram. It first answers `stranger`, and nothing changes, where the datagram isn't to this role, no row of this
+    /// role names its kind, or a name in it lies outside the cluster.
+    fn take<K: Keeper>(
+        &mut self,
+        keeper: &mut K,
+        datagram: &Datagram,
+        out: &mut Outbox,
+    ) -> Result<Why, StepFault>
+        requires live { (state self.old).live ≡ true }
+        requires empty { out.old.list ≡ [] }
+        ensures ok { IfOk result (λ why. Steps K.append_gives rules (state self.old) (outcome_of rules (state self.old) (input.Take datagram.now)) why keeper.old keeper.new (state self.new) out.new.list) }
+        ensures no_memory { IsErrOf result StepFault.NoMemory → StaysAt K.kept (state self.old) (state self.new) keeper.old keeper.new out.new.list }
+        ensures failed { IsErrOf result StepFault.Failed → FailsAt K.append_gives (outcome_of rules (state self.old) (input.Take datagram.now)) keeper.old keeper.new (state self.new) out.new.list }
+        ensures fits { IsFit rules (state self.old).cluster (state self.old).me (state self.old).durable (outcome_of rules (state self.old) (input.Take datagram.now)).kept };
+
+    /// One order, by the same law; only leaders have rows for orders.
+    fn order<K: Keeper>(
+        &mut self,
+        keeper: &mut K,
+        order: &Order,
+        out: &mut Outbox,
+    ) -> Result<Why, StepFault>
+        requires live { (state self.old).live ≡ true }
+        requires empty { out.old.list ≡ [] }
+        ensures ok { IfOk result (λ why. Steps K.append_gives rules (state self.old) (outcome_of rules (state self.old) (input.Order order.now)) why keeper.old keeper.new (state self.new) out.new.list) }
+        ensures no_memory { IsErrOf result StepFault.NoMemory → StaysAt K.kept (state self.old) (state self.new) keeper.old keeper.new out.new.list }
+        ensures failed { IsErrOf result StepFault.Failed → FailsAt K.append_gives (outcome_of rules (state self.old) (input.Order order.now)) keeper.old keeper.new (state self.new) out.new.list }
+        ensures fits { IsFit rules (state self.old).cluster (state self.old).me (state self.old).durable (outcome_of rules (state self.old) (input.Order order.now)).kept };
+
+    /// One tick: what is waited for is sent again. A tick keeps nothing.
+    fn tick(&mut self, out: &mut Outbox) -> Result<Why, NoMemory>
+        requires live { (state self.old).live ≡ true }
+        requires empty { out.old.list ≡ [] }
+        ensures ok { IfOk result (λ why. Replies rules (state self.old) (outcome_of rules (state self.old) input.Tick) why (state self.new) out.new.list) }
+        ensures no_memory { OnErr result (state self.new ≡ state self.old) }
+        ensures sends { OnErr result (out.new.list ≡ []) };
+
+    /// Whether the role may take a step: until an append fails. It takes no memory.
+    fn live(&self) -> bool
+        ensures { result ≡ (state self.now).live };
+}
