@@ -1,7 +1,9 @@
 //! Rows and columns of a grid.
 
 ghost use Rattle.std.specs.Prelude.{◌≡◌, ◌<◌, IsTrue};
+ghost use Rattle.std.specs.List.{list_any};
 ghost use Rattle.cx_base.specs.Grid.{is_in};
+ghost use Rattle.cx_base.specs.Lists.{below};
 ghost use Rattle.cx_grid.specs.Quorum.{member_at, row_of, column_of, is_whole, row_whole, column_whole, Meets};
 
 use crate::marks::Marks;
@@ -40,29 +42,17 @@ pub fn in_column(grid: &Grid, col: u8, id: u16) -> bool
 }
 
 /// Whether some row is marked from end to end, which makes a read quorum (VLDB 2021). It takes no memory.
-#[tactic(auto, using(crate::proofs::Crossing::numbers_more))]
 pub fn row_whole(grid: &Grid, marks: &Marks) -> bool
     ensures { result ≡ row_whole grid.now marks.now }
 {
-    for row in 0..grid.rows() {
-        if is_row_whole(grid, marks, row) {
-            return true;
-        }
-    }
-    false
+    grid.cols() > 0 && some_row(grid, marks)
 }
 
 /// Whether some column is marked from end to end, which makes a write quorum (VLDB 2021). It takes no memory.
-#[tactic(auto, using(crate::proofs::Crossing::numbers_more))]
 pub fn column_whole(grid: &Grid, marks: &Marks) -> bool
     ensures { result ≡ column_whole grid.now marks.now }
 {
-    for col in 0..grid.cols() {
-        if is_column_whole(grid, marks, col) {
-            return true;
-        }
-    }
-    false
+    grid.rows() > 0 && some_column(grid, marks)
 }
 
 /// A law: a whole row and a whole column share a member that is marked in both.
@@ -100,4 +90,28 @@ fn is_among(ids: &[u16], id: u16) -> bool
     ensures { result ≡ is_in id ids.now }
 {
     ids.iter().any(|other| *other == id)
+}
+
+#[tactic(auto, using(crate::proofs::Crossing::numbers_more))]
+fn some_row(grid: &Grid, marks: &Marks) -> bool
+    ensures { result ≡ list_any (λ a. is_whole (row_of grid.now a) marks.now) (below grid.now.rows) }
+{
+    for row in 0..grid.rows() {
+        if is_row_whole(grid, marks, row) {
+            return true;
+        }
+    }
+    false
+}
+
+#[tactic(auto, using(crate::proofs::Crossing::numbers_more))]
+fn some_column(grid: &Grid, marks: &Marks) -> bool
+    ensures { result ≡ list_any (λ b. is_whole (column_of grid.now b) marks.now) (below grid.now.cols) }
+{
+    for col in 0..grid.cols() {
+        if is_column_whole(grid, marks, col) {
+            return true;
+        }
+    }
+    false
 }
