@@ -1,0 +1,4 @@
+//! The run of events over all roles.
+#![tactic(auto)]
+
+mod seat;
