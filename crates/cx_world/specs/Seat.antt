@@ -1,10 +1,11 @@
 -- A role with its records, running or not.
-use Rattle.std.specs.Prelude.{◌≡◌, ℕ, true, List, [], ◌∷◌, ◌++◌, Option, None, Some, option_to_list, slice_get, slice_index_or, slice_set}
+use Rattle.std.specs.Prelude.{◌≡◌, ℕ, true, IsTrue, List, [], ◌∷◌, ◌++◌, Option, None, Some, option_to_list, slice_get, slice_index_or, slice_set}
 use Rattle.cx_base.specs.declared.cluster.Cluster.{Cluster}
 use Rattle.cx_msg.specs.Letter.{Letter}
 use Rattle.cx_msg.specs.declared.kept.Record.{Record}
 use Rattle.cx_msg.specs.declared.input.KeptRecord.{KeptRecord}
 use Rattle.cx_base.specs.declared.role.Kind.{Kind}
+use Rattle.cx_model.specs.Names.{names_role}
 use Rattle.cx_model.specs.World.{records_of}
 use Rattle.cx_msg.specs.declared.input.Act.{Act}
 use Rattle.cx_base.specs.declared.event.Cut.{Cut}
@@ -21,6 +22,12 @@ why_of_cut Whole = why.Down
 why_of_cut Torn = why.Torn
 why_of_cut Kept = why.Kept
 
+-- a role of the cluster, of its rules' kind
+pub record IsPlace {D V : Type 0} (rules : Rules D V) (c : Cluster) (who : RoleId) : Type 0 where
+  pub kind : who.kind ≡ rules.kind
+  pub named : IsTrue (names_role c who)
+
+-- a role of a cluster where it runs, and the records that its keeper keeps
 pub record Seat (S : Type 0) : Type 0 where
   pub cluster : Cluster
   pub me : RoleId

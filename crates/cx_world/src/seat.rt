@@ -2,12 +2,13 @@
 
 ghost use Rattle.std.specs.Prelude.{◌≡◌, [], IfOk, IsErrOf, None, Some, true};
 ghost use Rattle.cx_keeper.specs.MemKeeper.{kept_of, mem_append_gives};
+ghost use Rattle.cx_model.specs.Names.{count_of};
 ghost use Rattle.cx_model.specs.Rules.{Rules, Running, outcome_of, IsFit};
 ghost use Rattle.cx_model.specs.World.{fresh_roles};
 ghost use Rattle.cx_msg.specs.declared.input.Act.TheVariants.{Give, Stop, Wake};
 ghost use Rattle.cx_role.specs.declared.role.StepFault.TheVariants as fault;
 ghost use Rattle.cx_role.specs.Role.{Steps, StaysAt, FailsAt};
-ghost use Rattle.cx_world.specs.Seat.{AreSeats, roles_in, Seat, IsTurned, TurnsAt, seat_turn, volatile_of, why_of_cut};
+ghost use Rattle.cx_world.specs.Seat.{AreSeats, roles_in, Seat, IsPlace, IsTurned, TurnsAt, seat_turn, volatile_of, why_of_cut};
 
 use cx_base::{Cluster, Cut, Kind, NoMemory, RoleId, Why};
 use cx_keeper::{Keeper, MemKeeper};
@@ -36,13 +37,13 @@ impl<R: Role> Model for Seat<R> {
     ghost use Rattle.std.specs.Prelude.{◌≡◌, None};
     ghost use Rattle.std.specs.Option.{ForSome};
     ghost use Rattle.cx_model.specs.Rules.{refused};
-    ghost use Rattle.cx_world.specs.Seat.{Seat, Stands};
+    ghost use Rattle.cx_world.specs.Seat.{Seat, Stands, IsPlace};
 
     ghost Value = { Seat R };
 
     ghost view = { λ seat. record { cluster = seat.cluster; me = seat.me; role = seat.role; records = seat.keeper.kept } };
 
-    ghost invariant = { λ seat. (refused R.rules seat.cluster seat.me seat.keeper.kept ≡ None) × ForSome seat.role (λ r. Stands R.rules seat.cluster seat.me seat.keeper.kept (R.state r)) };
+    ghost invariant = { λ seat. IsPlace R.rules seat.cluster seat.me × (refused R.rules seat.cluster seat.me seat.keeper.kept ≡ None) × ForSome seat.role (λ r. Stands R.rules seat.cluster seat.me seat.keeper.kept (R.state r)) };
 }
 
 fn why_of_cut(cut: Cut) -> Why
@@ -87,6 +88,7 @@ fn step<R: Role>(
 impl<R: Role + Drop> Seat<R> {
     /// A running role without records.
     pub fn opened(alloc: Global, cluster: &Cluster, me: RoleId) -> Result<Self, NoMemory>
+        requires { IsPlace R.rules cluster.now me }
         ensures cluster { IfOk result (λ seat. seat.cluster ≡ cluster.now) }
         ensures me { IfOk result (λ seat. seat.me ≡ me) }
         ensures records { IfOk result (λ seat. seat.records ≡ []) }
@@ -200,6 +202,8 @@ pub fn open_all<R: Role + Drop>(
     kind: Kind,
     count: u16,
 ) -> Result<Vec<Seat<R>>, NoMemory>
+    requires kind { kind ≡ R.rules.kind }
+    requires count { count ≡ count_of cluster.now kind }
     ensures roles { IfOk result (λ seats. roles_in R.state seats.items ≡ fresh_roles (R.rules.fresh cluster.now) count) }
     ensures seats { IfOk result (λ seats. AreSeats cluster.now kind [] seats.items) }
 {
