@@ -14,9 +14,9 @@ returns-clause-free c =
     let other : place < length pairs → (d : Pair) → bytes_eq (get_or pairs place d).key c.args.key.now ≡ false =
     λ l d. elim c.else-place-pairs.branch [
       | else-place-pairs-via-then-place-pairs+else-same_key w ↦
-      subst (λ (p : Pair). bytes_eq p.key c.args.key.now ≡ false)
-      (get_or_default pairs place w.index-pairs-place.result d l)
-      (sym w.same_key.ensures ∙ w.if-same_key.false)
+          subst (λ (p : Pair). bytes_eq p.key c.args.key.now ≡ false)
+          (get_or_default pairs place w.index-pairs-place.result d l)
+          (sym w.same_key.ensures ∙ w.if-same_key.false)
       | else-place-pairs-via-else-place-pairs w ↦ absurd (omega arith)
     ] in
     record { inside = found.inside; before = found.before; behind = behind_place c.args.key.now pairs place c.requires found.behind other }
