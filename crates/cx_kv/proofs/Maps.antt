@@ -1,5 +1,5 @@
 -- Maps with rising keys, cut at a place.
-use Rattle.std.proofs.Common.{◌≡◌, ℕ, zero, suc, ◌+◌, ◌<◌, ◌≤◌, ◌⊎◌, inl, inr, Bool, true, false, nat_lt, List, [], ◌∷◌, ◌++◌, length, get_or, take, drop, set, refl, ap, sym, subst, ◌∙◌, arith, Option, Some, None, Result, Ok, Err, OnOk, OnErr}
+use Rattle.std.proofs.Common.{◌≡◌, ℕ, zero, suc, ◌+◌, ◌<◌, ◌≤◌, ◌⊎◌, inl, inr, true, false, nat_lt, List, [], ◌∷◌, length, get_or, drop, set, refl, ap, sym, subst, ◌∙◌, arith, Option, Some, None, Result, Ok, Err, OnOk, OnErr}
 use Rattle.std.specs.Str.{bytes_eq}
 use Rattle.std.specs.List.{AllWithin, insert, remove}
 use Rattle.std.specs.List.Sorted.{IsPartitionedBy}
@@ -10,7 +10,6 @@ use Rattle.cx_base.specs.declared.command.Pair.{Pair}
 use Rattle.cx_base.specs.declared.command.Op.{Op}
 use Rattle.cx_base.specs.declared.command.Op.TheVariants.{Put, Del, App}
 use Rattle.cx_kv.specs.Rising.{IsBeforeAll, IsRising}
-use Rattle.cx_kv.specs.Place.{IsPlace}
 use Rattle.cx_kv.proofs.Keys.{is_less-back, is_less-ne, is_less-trans, is_less-other, same_bytes, bytes_ne}
 
 -- a key before all comes before each

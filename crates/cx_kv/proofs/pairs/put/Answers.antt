@@ -1,5 +1,4 @@
-use Rattle.std.proofs.Common.{sym, rules, ◌≡◌, ◌∙◌}
-use Rattle.std.specs.List.{insert}
+use Rattle.std.proofs.Common.{sym, ◌∙◌}
 use Rattle.cx_kv.proofs.Maps.{with_text-held, with_text-free}
 use Rattle.cx_kv.proofs.pairs.put.Goals as goal
 

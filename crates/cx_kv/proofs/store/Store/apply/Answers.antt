@@ -1,5 +1,3 @@
-use Rattle.std.proofs.Common.{sym, subst}
-use Rattle.cx_kv.specs.Rising.{IsRising}
 use Rattle.cx_kv.proofs.Maps.{IsRising_either}
 use Rattle.cx_kv.proofs.store.Store.apply.Goals as goal
 
