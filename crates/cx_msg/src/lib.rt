@@ -6,6 +6,7 @@
 #![tactic(auto)]
 
 mod bodies;
+mod copies;
 mod datagram;
 mod decoding;
 mod encoding;
@@ -15,15 +16,17 @@ mod header;
 mod input;
 mod items;
 mod kept;
+mod lists;
 mod message;
 mod put;
+mod put_bodies;
 mod reader;
 mod records;
 mod roles;
 
 pub use datagram::Datagram;
 pub use decoding::{decode, one_spelling};
-pub use encoding::encode_into;
+pub use encoding::{body_into, encode_into};
 pub use fault::WireFault;
 pub use input::{Act, Input, KeptRecord};
 pub use kept::{LogValues, Record};
