@@ -1,6 +1,7 @@
 -- What a write takes.
-use Rattle.std.specs.Prelude.{◌≡◌, ◌≤◌, ◌<◌, ℕ, Bool, true, false, List, length, take, Option, ⊤}
+use Rattle.std.specs.Prelude.{◌⊎◌, ◌≡◌, ◌≤◌, ◌<◌, ℕ, Bool, true, false, List, length, take, Option, ⊤}
 use Rattle.std.specs.Io.KnownBytes.{Keeps, Appends}
+use Rattle.cx_base.specs.Faults.{Rises}
 use Rattle.cx_edge.specs.declared.sink.WriteEnd.{WriteEnd}
 use Rattle.cx_edge.specs.declared.sink.WriteEnd.TheVariants.{Took, Failed}
 
@@ -28,3 +29,7 @@ AppendsPart old new bytes = (count : ℕ) × Appends old new (take count bytes)
 abbrev pub WritesAll : Option (List ℕ) → Option (List ℕ) → Bool → List ℕ → Type 0
 WritesAll old new true bytes = Appends old new bytes
 WritesAll old new false bytes = AppendsPart old new bytes
+
+-- a text was written, or the sink has failed and a part of it was
+abbrev pub Says : Option (List ℕ) → Option (List ℕ) → ℕ → ℕ → List ℕ → Type 0
+Says old new faults faults_after text = Appends old new text ⊎ (AppendsPart old new text × Rises faults faults_after)
