@@ -1,5 +1,5 @@
 -- Tables at the place of a client, and without it.
-use Rattle.std.proofs.Common.{◌≡◌, ℕ, zero, suc, ◌<◌, ◌⊎◌, inl, inr, ◌==◌, Bool, true, false, List, [], ◌∷◌, ◌++◌, length, get_or, set, refl, ap, sym, arith, Option, Some, None}
+use Rattle.std.proofs.Common.{◌≡◌, ℕ, zero, suc, ◌<◌, inl, inr, ◌==◌, true, false, List, [], ◌∷◌, ◌++◌, length, get_or, set, refl, ap, arith, Some, None}
 use Rattle.std.specs.List.{AllWithin}
 use Rattle.std.proofs.lemmas.Bool.{cases_Bool, eq-eqb}
 use Rattle.cx_base.specs.Noted.{noted_for, with_answer}
@@ -15,8 +15,7 @@ with_answer-held answer (a ∷ notes) (suc place) d before l same =
 
 pub with_answer-none : (answer : Answered) (notes : List Answered) → noted_for answer.client notes ≡ None → notes ++ answer ∷ [] ≡ with_answer answer notes
 with_answer-none answer [] h = refl
-with_answer-none answer (a ∷ notes) h = step (cases_Bool (a.client == answer.client))
-  where
-    step : ((a.client == answer.client) ≡ true) ⊎ ((a.client == answer.client) ≡ false) → (a ∷ notes) ++ answer ∷ [] ≡ with_answer answer (a ∷ notes)
-    step (inl e) = let n : Some a ≡ None = rw e at h in cc
-    step (inr e) = rw e (ap (λ (rest : List Answered). a ∷ rest) (with_answer-none answer notes (rw e at h)))
+with_answer-none answer (a ∷ notes) h = elim (cases_Bool (a.client == answer.client)) as (λ _. (a ∷ notes) ++ answer ∷ [] ≡ with_answer answer (a ∷ notes)) [
+  | inl e ↦ let n : Some a ≡ None = rw e at h in cc
+  | inr e ↦ rw e (ap (λ (rest : List Answered). a ∷ rest) (with_answer-none answer notes (rw e at h)))
+]
