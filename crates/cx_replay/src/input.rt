@@ -1,11 +1,13 @@
 //! The events of a whole input, behind the one header that is taken so far.
 
-ghost use Rattle.std.specs.Prelude.{◌≡◌, IfOk};
+ghost use Rattle.std.specs.Prelude.{◌≡◌, IfOk, IfSome, IsTrue};
+ghost use Rattle.std.specs.List.{list_all};
 ghost use Rattle.std.specs.Option.{option_map};
+ghost use Rattle.cx_base.specs.Asked.{takes_event};
 ghost use Rattle.cx_replay.specs.Input.{one_of_each, input_of};
 
 use cx_base::{Cluster, Event, NoMemory};
-use cx_script::events;
+use cx_script::{events, spelled_events_are_taken};
 use std::alloc::Global;
 
 /// The most bytes that an input of the form can have, with room to spare.
@@ -34,8 +36,10 @@ pub fn one_of_each() -> Cluster
 
 /// The events that an input spells, None exactly where it has another form.
 pub fn read_input(alloc: Global, bytes: &[u8]) -> Result<Option<Vec<Event>>, NoMemory>
-    ensures { IfOk result (λ events. option_map (λ es. es.items) events ≡ input_of bytes.now) }
+    ensures events { IfOk result (λ events. option_map (λ es. es.items) events ≡ input_of bytes.now) }
+    ensures taken { IfOk result (λ events. IfSome events (λ es. IsTrue (list_all takes_event es.items))) }
 {
+    spelled_events_are_taken();
     if bytes.len() > LIMIT {
         return Ok(None);
     }
