@@ -3,5 +3,6 @@
 
 mod chosen;
 mod counts;
+mod folded;
 mod seat;
 mod stale;
