@@ -5,6 +5,8 @@
 #![tactic(auto)]
 
 mod line;
+#[cfg(test)]
+mod tests;
 mod top;
 
 use crate::top::top;

@@ -12,8 +12,8 @@ use cx_msg::{KeptRecord, Record};
 use cx_trace::Folded;
 use std::alloc::Global;
 
-// The values that a replica kept, in order.
-fn log(alloc: Global, kept: &[KeptRecord], replica: u16) -> Result<Vec<Value>, NoMemory>
+/// The values that a replica kept, in order.
+pub fn log(alloc: Global, kept: &[KeptRecord], replica: u16) -> Result<Vec<Value>, NoMemory>
     ensures { IfOk result (λ values. values.items ≡ log_of replica kept.now) }
 {
     let me = RoleId::new(Kind::Replica, replica);
