@@ -1,0 +1,40 @@
+-- What an event does, told of every world.
+use Rattle.std.proofs.Common.{◌≡◌, true, false, List, [], Option, None, Some, ap, sym, ◌∙◌, subst, append-nil, refl, if◌then◌else◌}
+use Rattle.cx_base.specs.declared.event.Event.{Event}
+use Rattle.cx_base.specs.declared.event.Happened.{Happened}
+use Rattle.cx_base.specs.declared.role.Kind.TheVariants as kind
+use Rattle.cx_base.specs.declared.role.RoleId.{RoleId}
+use Rattle.cx_base.specs.declared.why.Why.{Why}
+use Rattle.cx_base.specs.declared.why.Why.TheVariants as why
+use Rattle.cx_base.specs.Role.{role}
+use Rattle.cx_model.specs.Request.{is_stale, request}
+use Rattle.cx_model.specs.World.{World, Change, nothing, ask, act_at}
+use Rattle.cx_msg.specs.Letter.{Letter}
+use Rattle.cx_msg.specs.declared.input.Act.{Act}
+use Rattle.cx_msg.specs.declared.input.KeptRecord.{KeptRecord}
+use Rattle.cx_msg.specs.declared.message.Token.{Token}
+use Rattle.cx_world.specs.World.{SeatLists, HasSeats, IsChange}
+
+-- a change that keeps nothing leaves the seats
+pub quiet : (w : World) (seats : SeatLists) (who at : Option RoleId) (u v : Why) (sends sent : List Letter) (more : Option KeptRecord) → at ≡ who → v ≡ u → more ≡ None → sent ≡ sends
+    → HasSeats w.cluster w.roles w.kept seats → IsChange w (record { who = who; why = u; roles = w.roles; kept = []; sends = sends }) at v more seats sent
+quiet w seats who at u v sends sent more same_who same_why none same_sends has =
+    record {
+      who_is = same_who;
+      why = same_why;
+      kept = rw none refl;
+      sends = same_sends;
+      seats = subst (λ ks. HasSeats w.cluster w.roles ks seats) (sym (append-nil w.kept)) has;
+    }
+
+pub asked_stale : (t : Token) (e : Event) (events : List Happened) (w : World) → w.events ≡ events → is_stale t e events ≡ true
+    → ask w e (Some t) ≡ nothing (Some (role kind.Client t.client)) w.roles why.Stale
+asked_stale t e events w same stale = rw (same, stale) refl
+
+pub asked_sent : (t : Token) (e : Event) (events : List Happened) (w : World) → w.events ≡ events → is_stale t e events ≡ false
+    → ◌≡◌ {A = Change} (ask w e (Some t)) (record { who = Some (role kind.Client t.client); why = why.Sent; roles = w.roles; kept = []; sends = request e })
+asked_sent t e events w same fresh = rw (same, fresh) refl
+
+-- the same act at the same role
+pub act_from : (w : World) (P : Change → Type 0) (a b : Act) (r s : RoleId) → a ≡ b → r ≡ s → P (act_at w a r) → P (act_at w b s)
+act_from w P a b r s same there h = subst (λ x. P (act_at w b x)) there (subst (λ x. P (act_at w x r)) same h)

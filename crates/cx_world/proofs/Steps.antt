@@ -1,0 +1,72 @@
+-- The world after an event is the model's step, and what was true of the world before is true of it.
+use Rattle.std.proofs.Common.{◌≡◌, ◌+◌, ◌*◌, List, [], ◌∷◌, ◌++◌, Option, ap, sym, ◌∙◌, subst, refl}
+use Rattle.std.specs.Option.{option_to_list}
+use Rattle.cx_base.specs.declared.cluster.Cluster.{Cluster}
+use Rattle.cx_base.specs.declared.event.Event.{Event}
+use Rattle.cx_base.specs.declared.event.Happened.{Happened}
+use Rattle.cx_base.specs.declared.role.Kind.TheVariants as kind
+use Rattle.cx_base.specs.declared.role.RoleId.{RoleId}
+use Rattle.cx_base.specs.declared.why.Why.{Why}
+use Rattle.cx_model.specs.Acceptor.{acceptor_rules}
+use Rattle.cx_model.specs.Batcher.{batcher_rules}
+use Rattle.cx_model.specs.Leader.{leader_rules}
+use Rattle.cx_model.specs.Matchmaker.{matchmaker_rules}
+use Rattle.cx_model.specs.Proxy.{proxy_rules}
+use Rattle.cx_model.specs.Replica.{replica_rules}
+use Rattle.cx_model.specs.Unbatcher.{unbatcher_rules}
+use Rattle.cx_model.specs.World.{World, Roles, change, step, start, fresh_roles, run, run_from, event_list}
+use Rattle.cx_msg.specs.Letter.{Letter}
+use Rattle.cx_msg.specs.declared.input.KeptRecord.{KeptRecord}
+use Rattle.cx_world.specs.Seat.{AreSeats}
+use Rattle.cx_world.specs.World.{SeatLists, IsChange, Holds, roles_of, volatiles}
+
+run_one : (w : World) (es : List Event) (e : Event) → run_from w (es ++ e ∷ []) ≡ step (run_from w es) e
+run_one w [] e = refl
+run_one w (d ∷ es) e = run_one (step w d) es e
+
+event_list_one : (hs : List Happened) (h : Happened) → event_list (hs ++ h ∷ []) ≡ event_list hs ++ h.event ∷ []
+event_list_one [] h = refl
+event_list_one (g ∷ hs) h = ap (λ l. g.event ∷ l) (event_list_one hs h)
+
+abbrev make_world : Cluster → Roles → List Happened → List KeptRecord → List Letter → World
+make_world c roles events kept sent = record { cluster = c; roles = roles; events = events; kept = kept; sent = sent }
+
+same_world : (c : Cluster) (r s : Roles) (e f : List Happened) (k l : List KeptRecord) (d g : List Letter) → r ≡ s → e ≡ f → k ≡ l → d ≡ g → make_world c r e k d ≡ make_world c s f l g
+same_world c r s e f k l d g p q t u = cc
+
+pub held_after : (w : World) (e : Event) (at : Option RoleId) (u : Why) (r : Option KeptRecord) (seats : SeatLists) (sends : List Letter)
+    → IsChange w (change w e) at u r seats sends → w ≡ run w.cluster (event_list w.events)
+    → (events : List Happened) (kept : List KeptRecord) (sent out : List Letter)
+    → events ≡ w.events ++ record { event = e; why = u } ∷ [] → kept ≡ w.kept ++ option_to_list r → sent ≡ w.sent ++ sends → out ≡ []
+    → Holds (make_world w.cluster (roles_of seats) events kept sent) seats out
+unfolding step
+held_after w e at u r seats sends ch ran events kept sent out same_events same_kept same_sent empty =
+    let to = change w e in
+    let all_kept : kept ≡ w.kept ++ to.kept = same_kept ∙ ap (λ l. w.kept ++ l) ch.kept in
+    let stepped : make_world w.cluster (roles_of seats) events kept sent ≡ step w e =
+    same_world w.cluster (roles_of seats) to.roles events (w.events ++ record { event = e; why = to.why } ∷ []) kept (w.kept ++ to.kept) sent (w.sent ++ to.sends)
+    (sym ch.seats.roles) (same_events ∙ ap (λ x. w.events ++ record { event = e; why = x } ∷ []) ch.why) all_kept (same_sent ∙ ap (λ l. w.sent ++ l) ch.sends) in
+    let listed : event_list events ≡ event_list w.events ++ e ∷ [] = ap (λ l. event_list l) same_events ∙ event_list_one w.events (record { event = e; why = u }) in
+    record {
+      out = empty;
+      seats = record {
+        roles = refl;
+        batchers = subst (λ l. AreSeats w.cluster kind.Batcher l seats.batchers) (sym all_kept) ch.seats.batchers;
+        leaders = subst (λ l. AreSeats w.cluster kind.Leader l seats.leaders) (sym all_kept) ch.seats.leaders;
+        proxies = subst (λ l. AreSeats w.cluster kind.Proxy l seats.proxies) (sym all_kept) ch.seats.proxies;
+        acceptors = subst (λ l. AreSeats w.cluster kind.Acceptor l seats.acceptors) (sym all_kept) ch.seats.acceptors;
+        matchmakers = subst (λ l. AreSeats w.cluster kind.Matchmaker l seats.matchmakers) (sym all_kept) ch.seats.matchmakers;
+        replicas = subst (λ l. AreSeats w.cluster kind.Replica l seats.replicas) (sym all_kept) ch.seats.replicas;
+        unbatchers = subst (λ l. AreSeats w.cluster kind.Unbatcher l seats.unbatchers) (sym all_kept) ch.seats.unbatchers;
+      };
+      ran = stepped ∙ ap (λ x. step x e) ran ∙ sym (run_one _ (event_list w.events) e) ∙ ap (λ l. run w.cluster l) (sym listed);
+    }
+
+-- seats that were just opened are those of the world in which nothing has happened
+pub same_start : (c : Cluster) (seats : SeatLists)
+    → volatiles seats.batchers ≡ fresh_roles (batcher_rules.fresh c) c.batchers → volatiles seats.leaders ≡ fresh_roles (leader_rules.fresh c) c.leaders
+    → volatiles seats.proxies ≡ fresh_roles (proxy_rules.fresh c) c.proxies → volatiles seats.acceptors ≡ fresh_roles (acceptor_rules.fresh c) c.acceptors
+    → volatiles seats.matchmakers ≡ fresh_roles (matchmaker_rules.fresh c) (2 * c.f + 1) → volatiles seats.replicas ≡ fresh_roles (replica_rules.fresh c) c.replicas
+    → volatiles seats.unbatchers ≡ fresh_roles (unbatcher_rules.fresh c) c.unbatchers
+    → make_world c (roles_of seats) [] [] [] ≡ start c
+same_start c seats p q r s t u v = rw (p, q, r, s, t, u, v) refl

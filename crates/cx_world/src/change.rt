@@ -1,0 +1,243 @@
+//! What an event does to the roles.
+
+ghost use Rattle.std.specs.Prelude.{◌≡◌, ◌≤◌, ◌∷◌, [], IfOk, OnOk, IsTrue, None, Some, option_to_list};
+ghost use Rattle.cx_base.specs.Asked.{takes_event};
+ghost use Rattle.cx_model.specs.Request.{request};
+ghost use Rattle.cx_model.specs.World.{act_at, ask, change, come, kept_by};
+ghost use Rattle.cx_base.specs.Role.{role};
+ghost use Rattle.cx_base.specs.declared.role.Kind.{Kind};
+ghost use Rattle.cx_msg.specs.Letter.{letter};
+ghost use Rattle.cx_msg.specs.declared.message.Msg.{Msg};
+ghost use Rattle.cx_msg.specs.declared.input.Act.TheVariants.{Give};
+ghost use Rattle.cx_world.specs.World.{AsksAfter, Changes, ChangesAfter};
+
+use crate::seat::{Seat, Turned, act_at};
+use crate::stale::is_stale;
+use cx_acceptor::Acceptor;
+use cx_base::{Command, Cut, Duplicate, Event, Happened, Kind, NoMemory, Op, RoleId, Why};
+use cx_batch::{Batcher, Unbatcher};
+use cx_leader::Leader;
+use cx_match::Matchmaker;
+use cx_msg::{Act, Datagram, Input, KeptRecord, Token, read_req, submit};
+use cx_proxy::Proxy;
+use cx_replica::Replica;
+use cx_role::Outbox;
+use std::alloc::Global;
+
+/// The roles with their keepers, by kind.
+#[derive(Drop)]
+pub struct Seats {
+    pub batchers: Vec<Seat<Batcher>>,
+    pub leaders: Vec<Seat<Leader>>,
+    pub proxies: Vec<Seat<Proxy>>,
+    pub acceptors: Vec<Seat<Acceptor>>,
+    pub matchmakers: Vec<Seat<Matchmaker>>,
+    pub replicas: Vec<Seat<Replica>>,
+    pub unbatchers: Vec<Seat<Unbatcher>>,
+}
+
+/// What an event came to, beside the roles and the outbox: at which role, in which word, and which record was kept.
+#[derive(Drop)]
+pub struct Changed {
+    pub who: Option<RoleId>,
+    pub why: Why,
+    pub kept: Option<KeptRecord>,
+}
+
+fn of_role(who: RoleId, turned: Turned) -> Changed
+    ensures who { result.who ≡ Some who }
+    ensures why { result.why ≡ turned.why }
+    ensures kept { option_to_list result.kept ≡ kept_by who turned.kept }
+{
+    Changed {
+        who: Some(who),
+        why: turned.why,
+        kept: turned.kept.map(|what| KeptRecord { role: who, what }),
+    }
+}
+
+fn nothing(who: Option<RoleId>, why: Why) -> Changed
+    ensures who { result.who ≡ who }
+    ensures why { result.why ≡ why }
+    ensures kept { result.kept ≡ None }
+{
+    Changed {
+        who,
+        why,
+        kept: None,
+    }
+}
+
+// An act at a role. A client hears whatever it is given, and readers never run.
+fn act(
+    alloc: Global,
+    seats: &mut Seats,
+    who: RoleId,
+    act: &Act,
+    out: &mut Outbox,
+) -> Result<Changed, NoMemory>
+    requires { out.old.list ≡ [] }
+    ensures { IfOk result (λ changed. Changes (λ w. act_at w act.now who) seats.old changed seats.new out.new.list) }
+{
+    match who.kind {
+        Kind::Client => Ok(nothing(Some(who), Why::Heard)),
+        Kind::Batcher => {
+            let turned = act_at(alloc, &mut seats.batchers, who.index, act, out)?;
+            Ok(of_role(who, turned))
+        }
+        Kind::Leader => {
+            let turned = act_at(alloc, &mut seats.leaders, who.index, act, out)?;
+            Ok(of_role(who, turned))
+        }
+        Kind::Proxy => {
+            let turned = act_at(alloc, &mut seats.proxies, who.index, act, out)?;
+            Ok(of_role(who, turned))
+        }
+        Kind::Acceptor => {
+            let turned = act_at(alloc, &mut seats.acceptors, who.index, act, out)?;
+            Ok(of_role(who, turned))
+        }
+        Kind::Matchmaker => {
+            let turned = act_at(alloc, &mut seats.matchmakers, who.index, act, out)?;
+            Ok(of_role(who, turned))
+        }
+        Kind::Replica => {
+            let turned = act_at(alloc, &mut seats.replicas, who.index, act, out)?;
+            Ok(of_role(who, turned))
+        }
+        Kind::Unbatcher => {
+            let turned = act_at(alloc, &mut seats.unbatchers, who.index, act, out)?;
+            Ok(of_role(who, turned))
+        }
+        Kind::Reader => Ok(nothing(Some(who), Why::Down)),
+    }
+}
+
+// A command for a batcher; its number is taken by value, so that its range is known.
+#[tactic(auto, unfolding(cx_msg::specs::Fields::seq, cx_wire::specs::Format::u64))]
+fn submission(client: u16, seq: u64, op: Op, batcher: u16) -> Datagram
+    requires { 1 ≤ seq }
+    ensures { result ≡ letter (role Kind.Client client) (role Kind.Batcher batcher) (Msg.Submit (record { client = client; seq = seq; op = op })) }
+{
+    submit(client, batcher, Command { client, seq, op })
+}
+
+// The datagram of a request goes out.
+#[tactic(auto, unfolding(cx_msg::specs::Fields::seq, cx_wire::specs::Format::u64))]
+fn send(event: &Event, out: &mut Outbox) -> Result<(), NoMemory>
+    requires empty { out.old.list ≡ [] }
+    requires taken { IsTrue (takes_event event.now) }
+    ensures { OnOk result (out.new.list ≡ request event.now) }
+{
+    match event {
+        Event::Write { command, batcher } => {
+            out.room(1)?;
+            out.push(submission(command.client, command.seq, command.op, *batcher));
+        }
+        Event::Read {
+            client,
+            seq,
+            reader,
+            replica,
+            key,
+        } => {
+            out.room(1)?;
+            out.push(read_req(*client, *reader, *seq, *replica, *key));
+        }
+        _ => {}
+    }
+    Ok(())
+}
+
+// A client asks.
+fn ask(
+    token: Token,
+    event: &Event,
+    events: &[Happened],
+    out: &mut Outbox,
+) -> Result<Changed, NoMemory>
+    requires empty { out.old.list ≡ [] }
+    requires taken { IsTrue (takes_event event.now) }
+    ensures { IfOk result (λ changed. AsksAfter (λ w. ask w event.now (Some token)) events.now changed out.new.list) }
+{
+    let who = RoleId::new(Kind::Client, token.client);
+    if is_stale(token, event, events) {
+        return Ok(nothing(Some(who), Why::Stale));
+    }
+    send(event, out)?;
+    Ok(nothing(Some(who), Why::Sent))
+}
+
+fn deliver(
+    alloc: Global,
+    seats: &mut Seats,
+    datagram: &Datagram,
+    cut: Cut,
+    out: &mut Outbox,
+) -> Result<Changed, NoMemory>
+    requires { out.old.list ≡ [] }
+    ensures { IfOk result (λ changed. Changes (λ w. come w cut (Some datagram.now)) seats.old changed seats.new out.new.list) }
+{
+    let who = datagram.to();
+    let datagram = datagram.copy(alloc)?;
+    let take = Act::Give {
+        input: Input::Take { datagram },
+        cut,
+    };
+    act(alloc, seats, who, &take, out)
+}
+
+fn give(input: Input, cut: Cut) -> Act
+    ensures { result ≡ Give input cut }
+{
+    Act::Give { input, cut }
+}
+
+/// One event, which the world takes: what it does to the roles, told of every world that has these seats and histories.
+pub fn change(
+    alloc: Global,
+    seats: &mut Seats,
+    sent: &[Datagram],
+    events: &[Happened],
+    event: &Event,
+    out: &mut Outbox,
+) -> Result<Changed, NoMemory>
+    requires empty { out.old.list ≡ [] }
+    requires taken { IsTrue (takes_event event.now) }
+    ensures { IfOk result (λ changed. ChangesAfter (λ w. change w event.now) sent.now events.now seats.old changed seats.new out.new.list) }
+{
+    match event {
+        Event::Write { command, .. } => {
+            let token = Token {
+                client: command.client,
+                seq: command.seq,
+            };
+            ask(token, event, events, out)
+        }
+        Event::Read { client, seq, .. } => {
+            let token = Token {
+                client: *client,
+                seq: *seq,
+            };
+            ask(token, event, events, out)
+        }
+        Event::Deliver { number, cut } => {
+            let number = *number as usize;
+            if number >= sent.len() {
+                return Ok(nothing(None, Why::Absent));
+            }
+            deliver(alloc, seats, &sent[number], *cut, out)
+        }
+        Event::Tick(role) => {
+            let tick = give(Input::Tick, Cut::Whole);
+            act(alloc, seats, *role, &tick, out)
+        }
+        Event::Order { leader, order, cut } => {
+            let who = RoleId::new(Kind::Leader, *leader);
+            let order = give(Input::Order { order: *order }, *cut);
+            act(alloc, seats, who, &order, out)
+        }
+        Event::Crash(role) => act(alloc, seats, *role, &Act::Stop, out),
+        Event::Restart(role) => act(alloc, seats, *role, &Act::Wake, out),
+    }
+}

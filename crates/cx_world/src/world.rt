@@ -1,0 +1,218 @@
+//! The world: all roles, and the histories of what happened.
+
+ghost use Rattle.std.specs.Prelude.{◌≡◌, ◌≤◌, ◌++◌, ◌∷◌, [], true, false, IfOk, OnOk, OnErr, IsTrue, length, drop, option_to_list, slice_get};
+ghost use Rattle.cx_base.specs.Asked.{takes_event};
+ghost use Rattle.cx_model.specs.Chosen.{chosen_prefix};
+ghost use Rattle.cx_model.specs.World.{step, start, run, event_list};
+ghost use Rattle.cx_world.specs.Counts.{counts_of};
+ghost use Rattle.cx_world.specs.Folded.{folded_of};
+ghost use Rattle.cx_world.specs.World.{IsPrefix, BeginWith, effect_of};
+
+use crate::change::{Changed, Seats, change};
+use crate::chosen::chosen_prefix;
+use crate::counts::{Counts, count};
+use crate::folded::folded;
+use crate::seat::open_all;
+use cx_base::{Cluster, Duplicate, Event, Happened, Kind, NoMemory, Values, Why};
+use cx_msg::{Datagram, KeptRecord};
+use cx_role::Outbox;
+use cx_trace::{Effect, Folded};
+use std::alloc::Global;
+use std::marker::Model;
+
+/// All roles of a cluster with their keepers, and the histories: events with what they came to, records that were kept, and
+/// datagrams that were sent, numbered from 0.
+#[derive(Drop)]
+pub struct World {
+    alloc: Global,
+    cluster: Cluster,
+    seats: Seats,
+    events: Vec<Happened>,
+    kept: Vec<KeptRecord>,
+    sent: Vec<Datagram>,
+    out: Outbox,
+    spent: bool,
+}
+
+impl Model for World {
+    ghost use Rattle.std.specs.Prelude.{◌≡◌, false};
+    ghost use Rattle.cx_world.specs.World.{WorldState};
+
+    ghost Value = { WorldState };
+
+    ghost use Rattle.cx_world.specs.World.{Holds, roles_of, lists_of};
+
+    ghost view = { λ w. record { world = record { cluster = w.cluster; roles = roles_of (lists_of w.seats); events = w.events.items; kept = w.kept.items; sent = w.sent.items }; spent = w.spent } };
+
+    ghost invariant = { λ w. w.spent ≡ false → Holds (record { cluster = w.cluster; roles = roles_of (lists_of w.seats); events = w.events.items; kept = w.kept.items; sent = w.sent.items }) (lists_of w.seats) w.out.list };
+}
+
+fn push_copy<T: Copy + Drop>(list: &mut Vec<T>, item: &T) -> Result<(), NoMemory>
+    ensures ok { OnOk result (list.new.items ≡ list.old.items ++ item.now ∷ []) }
+    ensures err { OnErr result (list.new.items ≡ list.old.items) }
+{
+    list.push(*item)?;
+    Ok(())
+}
+
+fn push_if<T: Drop>(list: &mut Vec<T>, item: Option<T>) -> Result<(), NoMemory>
+    ensures ok { OnOk result (list.new.items ≡ list.old.items ++ option_to_list item) }
+    ensures err { OnErr result (list.new.items ≡ list.old.items) }
+{
+    if let Some(item) = item {
+        list.push(item)?;
+    }
+    Ok(())
+}
+
+// Writes what happened into the histories.
+fn note(
+    events: &mut Vec<Happened>,
+    kept: &mut Vec<KeptRecord>,
+    sent: &mut Vec<Datagram>,
+    event: &Event,
+    why: Why,
+    what: Option<KeptRecord>,
+    out: &mut Outbox,
+) -> Result<(), NoMemory>
+    ensures events { OnOk result (events.new.items ≡ events.old.items ++ record { event = event.now; why = why } ∷ []) }
+    ensures kept { OnOk result (kept.new.items ≡ kept.old.items ++ option_to_list what) }
+    ensures sent { OnOk result (sent.new.items ≡ sent.old.items ++ out.old.list) }
+    ensures out { OnOk result (out.new.list ≡ []) }
+    ensures events_begin { OnErr result (IsPrefix events.old.items events.new.items) }
+    ensures kept_begin { OnErr result (IsPrefix kept.old.items kept.new.items) }
+    ensures sent_begin { OnErr result (IsPrefix sent.old.items sent.new.items) }
+{
+    push_copy(events, &Happened { event: *event, why })?;
+    push_if(kept, what)?;
+    out.move_to(sent)
+}
+
+impl World {
+    /// All roles run, with no records, and nothing has happened.
+    pub fn new(alloc: Global, cluster: Cluster) -> Result<World, NoMemory>
+        ensures { IfOk result (λ world. world ≡ record { world = start cluster; spent = false }) }
+    {
+        let matchmakers = 2 * cluster.f as u16 + 1;
+        let seats = Seats {
+            batchers: open_all(alloc, &cluster, Kind::Batcher, cluster.batchers)?,
+            leaders: open_all(alloc, &cluster, Kind::Leader, cluster.leaders)?,
+            proxies: open_all(alloc, &cluster, Kind::Proxy, cluster.proxies)?,
+            acceptors: open_all(alloc, &cluster, Kind::Acceptor, cluster.acceptors)?,
+            matchmakers: open_all(alloc, &cluster, Kind::Matchmaker, matchmakers)?,
+            replicas: open_all(alloc, &cluster, Kind::Replica, cluster.replicas)?,
+            unbatchers: open_all(alloc, &cluster, Kind::Unbatcher, cluster.unbatchers)?,
+        };
+        Ok(World {
+            alloc,
+            cluster,
+            seats,
+            events: Vec::new(alloc),
+            kept: Vec::new(alloc),
+            sent: Vec::new(alloc),
+            out: Outbox::new(alloc),
+            spent: false,
+        })
+    }
+
+    /// One event: the new world is the model's step of the old one, and the effect tells what the step did. After want of
+    /// memory the world is spent, and its histories begin with those from before.
+    #[tactic(auto, unfolding(cx_model::specs::World::step))]
+    pub fn step(&mut self, event: &Event) -> Result<Effect, NoMemory>
+        requires fresh { self.old.spent ≡ false }
+        requires taken { IsTrue (takes_event event.now) }
+        ensures ok { OnOk result (self.new ≡ record { world = step self.old.world event.now; spent = false }) }
+        ensures effect { IfOk result (λ effect. effect ≡ effect_of self.old.world event.now) }
+        ensures spent { OnErr result (self.new.spent ≡ true) }
+        ensures begun { OnErr result (BeginWith self.old.world self.new.world) }
+    {
+        self.spent = true;
+        let first = self.sent.len() as u64;
+        let Changed { who, why, kept } = change(
+            self.alloc,
+            &mut self.seats,
+            &self.sent,
+            &self.events,
+            event,
+            &mut self.out,
+        )?;
+        note(
+            &mut self.events,
+            &mut self.kept,
+            &mut self.sent,
+            event,
+            why,
+            kept,
+            &mut self.out,
+        )?;
+        self.spent = false;
+        Ok(Effect {
+            event: self.events.len() as u64,
+            who,
+            why,
+            first,
+            end: self.sent.len() as u64,
+        })
+    }
+
+    /// Whether a step was cut off for want of memory. It takes no memory.
+    pub fn spent(&self) -> bool
+        ensures { result ≡ self.now.spent }
+    {
+        self.spent
+    }
+
+    /// The cluster.
+    pub fn cluster(&self) -> &Cluster
+        ensures { result.now ≡ self.now.world.cluster }
+    {
+        &self.cluster
+    }
+
+    /// The datagrams that were sent since there were so many. It takes no memory.
+    pub fn sent_since(&self, first: u64) -> &[Datagram]
+        requires { first ≤ length self.now.world.sent }
+        ensures { result.now ≡ drop first self.now.world.sent }
+    {
+        &self.sent[first as usize..]
+    }
+
+    /// The datagram of this number, None exactly where it wasn't sent.
+    pub fn datagram(&self, number: u64) -> Result<Option<Datagram>, NoMemory>
+        ensures { IfOk result (λ datagram. datagram ≡ slice_get self.now.world.sent number) }
+    {
+        match self.sent.get(number as usize) {
+            None => Ok(None),
+            Some(datagram) => Ok(Some(datagram.copy(self.alloc)?)),
+        }
+    }
+
+    /// The values chosen in slot 0, 1 and so on, up to the first slot without one; from the kept votes and rounds alone.
+    pub fn chosen_prefix(&self) -> Result<Values, NoMemory>
+        ensures { IfOk result (λ values. values ≡ chosen_prefix self.now.world.kept) }
+    {
+        chosen_prefix(self.alloc, &self.kept)
+    }
+
+    /// How many values a replica kept, and the map that they leave.
+    pub fn folded(&self, replica: u16) -> Result<Folded, NoMemory>
+        ensures { IfOk result (λ folded. folded ≡ folded_of replica self.now.world.kept) }
+    {
+        folded(self.alloc, &self.kept, replica)
+    }
+
+    /// How much has happened. It takes no memory.
+    pub fn counts(&self) -> Counts
+        ensures { result ≡ counts_of self.now.world }
+    {
+        count(&self.events, &self.kept, &self.sent)
+    }
+
+    /// What is true of every world that isn't spent: it is the run of its events. It takes no memory.
+    pub fn law(&self)
+        requires { self.now.spent ≡ false }
+        ensures { self.now.world ≡ run self.now.world.cluster (event_list self.now.world.events) }
+    {
+        let _ = &self.spent;
+    }
+}
