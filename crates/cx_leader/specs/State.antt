@@ -1,11 +1,9 @@
 -- What the parts of a leader owe one another.
-use Rattle.std.specs.Prelude.{◌≡◌, ◌≤◌, ◌<◌, ◌+◌, ◌^◌, ℕ, Bool, true, false, ◌&&◌, ◌||◌, nat_lt, nat_le, is_some, length, Option, None, Some, IsTrue}
-use Rattle.std.specs.List.{list_all}
+use Rattle.std.specs.Prelude.{◌≤◌, ◌<◌, ◌+◌, ◌^◌, ℕ, Bool, true, false, ◌||◌, is_some, length, Option, None, Some, IsTrue}
+use Rattle.std.specs.List.{All}
 use Rattle.cx_base.specs.declared.cluster.Cluster.{Cluster}
 use Rattle.cx_base.specs.declared.command.Placed.{Placed}
-use Rattle.cx_base.specs.declared.role.RoleId.{RoleId}
-use Rattle.cx_base.specs.declared.role.Kind.TheVariants.{Leader}
-use Rattle.cx_msg.specs.Fields.{round, grid, value}
+use Rattle.cx_msg.specs.Fields.{round, value as placed_value}
 use Rattle.cx_msg.specs.declared.message.Entry.{Entry}
 use Rattle.cx_model.specs.declared.states.Mode.{Mode}
 use Rattle.cx_model.specs.declared.states.Mode.TheVariants.{Idle, Matching, Phase1, Leading}
@@ -17,19 +15,20 @@ is_idle Matching = false
 is_idle Phase1 = false
 is_idle Leading = false
 
--- a round and a grid that have a spelling, if there are any
+-- a round that has a spelling, if there is one
 abbrev pub own_fits : Option Entry → Bool
 own_fits None = true
-own_fits (Some e) = round.fits e.round && grid.fits e.grid
+own_fits (Some e) = round.fits e.round
 
--- a value that has a spelling, with a slot of [cw, next)
-abbrev pub is_proposal : ℕ → ℕ → Placed → Bool
-is_proposal cw next p = nat_le cw p.slot && nat_lt p.slot next && value.fits p.value
+-- a value that has a spelling, at a slot of [cw, next)
+pub record IsProposal (cw next : ℕ) (p : Placed) : Type 0 where
+  pub low : cw ≤ p.slot
+  pub high : p.slot < next
+  pub value : IsTrue (placed_value.fits p.value)
 
 -- what holds of each leader
-pub record IsLeader (c : Cluster) (me : RoleId) (d : LeaderDurable) (v : LeaderVolatile) : Type 0 where
-  pub kind : me.kind ≡ Leader
-  pub named : me.index < c.leaders
+pub record IsLeader (c : Cluster) (index : ℕ) (d : LeaderDurable) (v : LeaderVolatile) : Type 0 where
+  pub named : index < c.leaders
   -- its own round is a real one, and each mode but Idle has one
   pub own : IsTrue (own_fits d.own)
   pub begun : IsTrue (is_idle v.mode || is_some d.own)
@@ -41,4 +40,4 @@ pub record IsLeader (c : Cluster) (me : RoleId) (d : LeaderDurable) (v : LeaderV
   pub window : v.next ≤ v.cw + 32
   pub end : v.next ≤ 2 ^ 40
   pub count : v.cw + length v.proposed ≤ v.next
-  pub proposed : IsTrue (list_all (λ (p : Placed). is_proposal v.cw v.next p) v.proposed)
+  pub proposed : All (IsProposal v.cw v.next) v.proposed

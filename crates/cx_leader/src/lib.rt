@@ -6,6 +6,9 @@
 #![tactic(auto)]
 
 mod leader;
+mod leading;
 mod matching;
+mod rounds;
+mod sending;
 
 pub use leader::Leader;
