@@ -10,5 +10,6 @@ mod leading;
 mod matching;
 mod rounds;
 mod sending;
+mod ticks;
 
 pub use leader::Leader;
