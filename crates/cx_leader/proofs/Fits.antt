@@ -1,12 +1,10 @@
 -- A leader keeps only records that it may keep.
-use Rattle.std.specs.Prelude.{◌≡◌, ◌<◌, ◌+◌, ◌==◌, ◌&&◌, ◌||◌, ℕ, Bool, true, false, not, max, nat_lt, nat_le, List, [], ◌∷◌, ◌++◌, length, Option, None, Some, IsTrue, refl}
+use Rattle.std.specs.Prelude.{◌≡◌, ◌<◌, ◌+◌, ◌==◌, ◌&&◌, ℕ, true, not, max, nat_lt, nat_le, List, [], ◌∷◌, ◌++◌, length, Option, None, Some, IsTrue, refl}
 use Rattle.std.specs.List.{list_any}
 use Rattle.std.proofs.Common.{ap, arith, sym}
 use Rattle.std.proofs.lemmas.Bool.Decides.{nat_tests}
 use Rattle.cx_base.specs.declared.cluster.Cluster.{Cluster}
 use Rattle.cx_base.specs.declared.command.Command.{Command}
-use Rattle.cx_base.specs.declared.event.Order.{Order}
-use Rattle.cx_base.specs.declared.event.Order.TheVariants.{Lead, Change, Collect}
 use Rattle.cx_base.specs.declared.role.Kind.{Kind}
 use Rattle.cx_base.specs.declared.role.Kind.TheVariants as kind
 use Rattle.cx_base.specs.declared.role.RoleId.{RoleId}
@@ -20,8 +18,8 @@ use Rattle.cx_msg.specs.declared.message.Entry.{Entry}
 use Rattle.cx_msg.specs.declared.message.Msg.{Msg}
 use Rattle.cx_msg.specs.declared.message.Msg.TheVariants as msg
 use Rattle.cx_model.specs.declared.states.MatchAnswer.{MatchAnswer}
-use Rattle.cx_model.specs.Leader.{LeaderDurable, LeaderVolatile, is_matching, is_leading, is_past_window, round_of, enough, live_entries, matched_by, match_counted, match_b_row, propose_in, batch_row, chosen_in_row, lead_in, lead_row, leader_takes, leader_row, leader_fits, leader_rules, follows}
-use Rattle.cx_model.specs.Names.{names, names_grid, names_role, names_round, count_of}
+use Rattle.cx_model.specs.Leader.{LeaderDurable, LeaderVolatile, is_matching, is_leading, is_past_window, round_of, enough, live_entries, matched_by, match_b_row, propose_in, chosen_in_row, lead_in, lead_row, leader_takes, leader_row, leader_rules}
+use Rattle.cx_model.specs.Names.{names, names_grid, names_role}
 use Rattle.cx_model.specs.Outcome.{Outcome, either_way, by_test}
 use Rattle.cx_model.specs.Rules.{IsFit}
 

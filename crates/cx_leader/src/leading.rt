@@ -48,14 +48,7 @@ impl Leader {
         let value = placed.value.copy(self.alloc)?;
         self.proposed.reserve(1)?;
         out.room(1)?;
-        out.push(proposal(
-            &self.cluster,
-            self.index,
-            &own,
-            self.cw,
-            self.next,
-            value,
-        ));
+        out.push(proposal(&self.cluster, self.index, &own, self.cw, self.next, value));
         self.proposed.push_reserved(placed);
         self.next += 1;
         Ok(Why::Proposed)
@@ -93,14 +86,7 @@ impl Leader {
             return Ok(());
         }
         let value = placed.value.copy(self.alloc)?;
-        out.push(proposal(
-            &self.cluster,
-            self.index,
-            own,
-            self.cw,
-            placed.slot,
-            value,
-        ));
+        out.push(proposal(&self.cluster, self.index, own, self.cw, placed.slot, value));
         Ok(())
     }
 

@@ -72,16 +72,13 @@ pub fn has_live(told: &[MatchAnswer]) -> bool
 fn some_live_with(entries: &[Entry], watermark: Round, acceptor: u16) -> bool
     ensures { result ≡ list_any (λ (e : EntryOf). not (is_before e.round watermark) && is_in acceptor e.grid.members) entries.now }
 {
-    entries
-        .iter()
-        .any(|entry| is_live(entry, watermark) && is_member(&entry.grid, acceptor))
+    entries.iter().any(|entry| is_live(entry, watermark) && is_member(&entry.grid, acceptor))
 }
 
 fn live_with_told(told: &[MatchAnswer], watermark: Round, acceptor: u16) -> bool
     ensures { result ≡ list_any (λ (a : AnswerOf). list_any (λ (e : EntryOf). not (is_before e.round watermark) && is_in acceptor e.grid.members) a.entries) told.now }
 {
-    told.iter()
-        .any(|answer| some_live_with(answer.entries.as_slice(), watermark, acceptor))
+    told.iter().any(|answer| some_live_with(answer.entries.as_slice(), watermark, acceptor))
 }
 
 /// Whether an acceptor is a member of a grid that was told and is not retired.
@@ -140,9 +137,7 @@ impl Leader {
         ensures sends { OnErr result (out.new.list ≡ []) }
     {
         self.told.reserve(1)?;
-        out.room(usize::from(
-            self.cluster.acceptors.max(self.cluster.batchers),
-        ))?;
+        out.room(usize::from(self.cluster.acceptors.max(self.cluster.batchers)))?;
         self.told.push_reserved(answer);
         if self.told.len() <= usize::from(self.cluster.f) {
             return Ok(Why::Counted);

@@ -25,7 +25,13 @@ pub fn ask_matchmakers(leader: u16, round: Round, grid: &Grid, count: u16, out: 
 }
 
 /// Asks the members of the grids that were told and are not retired to promise the round.
-pub fn ask_members(leader: u16, round: Round, cluster: &Cluster, told: &[MatchAnswer], out: &mut Outbox)
+pub fn ask_members(
+    leader: u16,
+    round: Round,
+    cluster: &Cluster,
+    told: &[MatchAnswer],
+    out: &mut Outbox,
+)
     requires spare { cluster.now.acceptors ≤ out.old.spare }
     requires round { IsTrue (field.round.fits round) }
     ensures { out.new.list ≡ out.old.list ++ map (phase1a_to (role Kind.Leader leader) round) (members_of cluster.now (live_entries told.now)) }

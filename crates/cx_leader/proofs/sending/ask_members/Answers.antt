@@ -16,11 +16,11 @@ loop-acceptor-preserved c =
     let loop = c.loop-acceptor in
     let n = c.args.cluster.now.acceptors in
     elim c.if-is_live_member.branch [
-      then-is_live_member w ↦ record {
+      | then-is_live_member w ↦ record {
         list = rw (w.out-is, w.push.ensures.list, w.phase1a.ensures) (sent_on_passed is_member send loop.out.list _ loop.acceptor n c.loop-acceptor-test.true (sym c.is_live_member.ensures ∙ w.if-is_live_member.true) loop.invariant.list);
         spare = rw w.out-is (omega arith);
       }
-    | else-is_live_member w ↦ record {
+      | else-is_live_member w ↦ record {
         list = rw w.out-is (sent_on_failed is_member send loop.out.list _ loop.acceptor n c.loop-acceptor-test.true (sym c.is_live_member.ensures ∙ w.if-is_live_member.false) loop.invariant.list);
         spare = rw w.out-is (omega arith);
       }

@@ -11,6 +11,6 @@ use Rattle.cx_leader.proofs.sending.ask_members.Given as goal
 abbrev pub invariant-loop-acceptor : goal.invariant-loop-acceptor
 invariant-loop-acceptor l = record {
   list : l.out.list ++ map (phase1a_to (role Leader l.leader) l.round) (filter (λ a. list_any (λ (e : Entry). is_in a e.grid.members) (live_entries l.told)) (numbers l.acceptor (l.cluster.acceptors - l.acceptor)))
-    ≡ l.fn.out.list ++ map (phase1a_to (role Leader l.leader) l.round) (members_of l.cluster (live_entries l.told));
+      ≡ l.fn.out.list ++ map (phase1a_to (role Leader l.leader) l.round) (members_of l.cluster (live_entries l.told));
   spare : l.cluster.acceptors ≤ l.out.spare + l.acceptor;
 }

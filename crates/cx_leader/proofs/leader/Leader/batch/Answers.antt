@@ -1,4 +1,4 @@
-use Rattle.std.proofs.Common.{◌≡◌, ◌<◌, ◌+◌, ◌^◌, IsTrue, refl, arith}
+use Rattle.std.proofs.Common.{◌<◌, ◌+◌, ◌^◌, IsTrue, refl, arith}
 use Rattle.cx_base.specs.declared.command.Placed.{Placed}
 use Rattle.cx_base.specs.declared.command.Value.TheVariants.{Batch}
 use Rattle.cx_msg.specs.Fields.{value}
