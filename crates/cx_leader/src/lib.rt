@@ -10,6 +10,8 @@ mod leading;
 mod matching;
 mod rounds;
 mod sending;
+#[cfg(test)]
+mod tests;
 mod ticks;
 
 pub use leader::Leader;
