@@ -1,0 +1,126 @@
+//! Which rounds follow one another, and the order to begin one.
+
+ghost use Rattle.std.specs.Prelude.{◌≡◌, ◌==◌, ◌&&◌, ◌+◌, ◌*◌, [], true, Some, IfOk, IsErrOf, IsTrue};
+ghost use Rattle.cx_base.specs.Round.{same_round};
+ghost use Rattle.cx_model.specs.Leader.{round_of, follows, lead_in, lead_row, leader_rules};
+ghost use Rattle.cx_model.specs.Names.{names_round, names_grid};
+ghost use Rattle.cx_model.specs.Rules.{IsFit};
+ghost use Rattle.cx_msg.specs.Fields as field;
+ghost use Rattle.cx_role.specs.declared.role.StepFault.TheVariants as fault;
+ghost use Rattle.cx_role.specs.Role.{Steps, StaysAt, FailsAt};
+
+use crate::Leader;
+use crate::sending::ask_matchmakers;
+use cx_base::{Cluster, Grid, Round, Why};
+use cx_keeper::{KeepFault, Keeper};
+use cx_model::Mode;
+use cx_msg::{Entry, Record, grid_fits};
+use cx_role::{Outbox, StepFault, names_grid, names_round};
+
+/// Whether two rounds are the same.
+pub fn is_same(a: Round, b: Round) -> bool
+    ensures { result ≡ same_round a b }
+{
+    a.r == b.r && a.id == b.id && a.s == b.s
+}
+
+/// The round of an entry, or no round.
+pub fn round_of(own: &Option<Entry>) -> Round
+    ensures { result ≡ round_of own.now }
+{
+    match own {
+        None => Round::ZERO,
+        Some(entry) => entry.round,
+    }
+}
+
+fn is_changed(own: Round, round: Round) -> bool
+    ensures { result ≡ same_round round (record own { s = own.s + 1 }) }
+{
+    match Round::change_after(own) {
+        None => false,
+        Some(next) => is_same(round, next),
+    }
+}
+
+fn follows(own: Round, round: Round) -> bool
+    ensures { result ≡ follows own round }
+{
+    own.is_before(&round) && round.s == 0 || is_changed(own, round)
+}
+
+/// Whether a leader with this last round may begin that one with this grid.
+pub fn may_begin(cluster: &Cluster, leader: u16, own: Round, round: Round, grid: &Grid) -> bool
+    ensures { result ≡ (names_round cluster.now round && names_grid cluster.now grid.now && (round.id == leader) && follows own round) }
+{
+    names_round(cluster, round)
+        && names_grid(cluster, grid)
+        && round.id == leader
+        && follows(own, round)
+}
+
+/// How many matchmakers a cluster has.
+pub fn matchmakers(cluster: &Cluster) -> u16
+    ensures { result ≡ 2 * cluster.now.f + 1 }
+{
+    2 * u16::from(cluster.f) + 1
+}
+
+impl Leader {
+    #[tactic(auto, unfolding(cx_msg::specs::Records::kept_record, cx_msg::specs::Records::round_grid))]
+    fn begin<K: Keeper>(
+        &mut self,
+        keeper: &mut K,
+        round: Round,
+        grid: &Grid,
+        out: &mut Outbox,
+    ) -> Result<Why, StepFault>
+        requires live { self.old.live ≡ true }
+        requires empty { out.old.list ≡ [] }
+        requires round { IsTrue (field.round.fits round) }
+        ensures ok { IfOk result (λ why. Steps K.append_gives leader_rules self.old (lead_in self.old.cluster self.old.me self.old.volatile grid.now (Some round)) why keeper.old keeper.new self.new out.new.list) }
+        ensures no_memory { IsErrOf result StepFault.NoMemory → StaysAt K.kept self.old self.new keeper.old keeper.new out.new.list }
+        ensures failed { IsErrOf result StepFault.Failed → FailsAt K.append_gives (lead_in self.old.cluster self.old.me self.old.volatile grid.now (Some round)) keeper.old keeper.new self.new out.new.list }
+    {
+        let count = matchmakers(&self.cluster);
+        out.room(usize::from(count))?;
+        grid_fits(grid);
+        match keeper.append(&Record::Round { round, grid: *grid }) {
+            Ok(()) => {}
+            Err(KeepFault::NoMemory) => return Err(StepFault::NoMemory),
+            Err(KeepFault::Failed) => {
+                self.live = false;
+                return Err(StepFault::Failed);
+            }
+        }
+        self.own = Some(Entry { round, grid: *grid });
+        self.mode = Mode::Matching;
+        self.told.clear();
+        ask_matchmakers(self.index, round, grid, count, out);
+        Ok(Why::Started)
+    }
+
+    /// The order to lead: a round above all that it has seen, kept before the matchmakers are asked to record it.
+    #[tactic(auto, using(crate::proofs::Fits::lead_fits), unfolding(cx_msg::specs::Fields::round, cx_wire::specs::Format::u16, cx_wire::specs::Format::u32))]
+    pub(crate) fn lead<K: Keeper>(
+        &mut self,
+        keeper: &mut K,
+        grid: &Grid,
+        out: &mut Outbox,
+    ) -> Result<Why, StepFault>
+        requires live { self.old.live ≡ true }
+        requires empty { out.old.list ≡ [] }
+        ensures ok { IfOk result (λ why. Steps K.append_gives leader_rules self.old (lead_row self.old.cluster self.old.me self.old.durable self.old.volatile grid.now) why keeper.old keeper.new self.new out.new.list) }
+        ensures no_memory { IsErrOf result StepFault.NoMemory → StaysAt K.kept self.old self.new keeper.old keeper.new out.new.list }
+        ensures failed { IsErrOf result StepFault.Failed → FailsAt K.append_gives (lead_row self.old.cluster self.old.me self.old.durable self.old.volatile grid.now) keeper.old keeper.new self.new out.new.list }
+        ensures fits { IsFit leader_rules self.old.cluster self.old.me self.old.durable (lead_row self.old.cluster self.old.me self.old.durable self.old.volatile grid.now).kept }
+    {
+        if !names_grid(&self.cluster, grid) {
+            return Ok(Why::Stranger);
+        }
+        match Round::lead_after(round_of(&self.own), self.seen, self.index) {
+            None => Ok(Why::End),
+            Some(round) => self.begin(keeper, round, grid, out),
+        }
+    }
+}
