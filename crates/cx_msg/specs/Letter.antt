@@ -55,10 +55,18 @@ header_of d = record {
   said = length (body_shape d.msg).bytes;
 }
 
+-- whether each field of a message is in its range
+abbrev pub msg_fits : Msg → Bool
+msg_fits m = (body_shape m).fits
+
+-- the bytes of a datagram's body
+abbrev pub body : Letter → List ℕ
+body d = (body_shape d.msg).bytes
+
 -- what has a spelling: the roles are those of the kind, and each field is in its range
 abbrev pub fits : Letter → Bool
-fits d = u16.fits d.from.index && u16.fits d.to.index && is_listed senders (body_shape d.msg).tag (code_of d.from.kind) && is_listed receivers (body_shape d.msg).tag (code_of d.to.kind) && (body_shape d.msg).fits
+fits d = u16.fits d.from.index && u16.fits d.to.index && is_listed senders (body_shape d.msg).tag (code_of d.from.kind) && is_listed receivers (body_shape d.msg).tag (code_of d.to.kind) && msg_fits d.msg
 
 -- the bytes of a datagram
 abbrev pub spelling : Letter → List ℕ
-spelling d = header.spell (header_of d) ++ (body_shape d.msg).bytes
+spelling d = header.spell (header_of d) ++ body d

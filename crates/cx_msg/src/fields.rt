@@ -3,19 +3,20 @@
 ghost use Rattle.std.specs.Prelude.{◌≡◌, [], ◌∷◌, ◌≤◌, ◌<◌, length, IfOk, IsTrue};
 ghost use Rattle.std.specs.List.{list_all};
 ghost use Rattle.cx_base.specs.Name.{is_name_byte, IsName};
-ghost use Rattle.cx_base.specs.Grid.{is_in, IsGrid};
+ghost use Rattle.cx_base.specs.Grid.{IsGrid};
 ghost use Rattle.cx_wire.specs.Format as wire;
 ghost use Rattle.cx_msg.specs.Fields as field;
+ghost use Rattle.cx_msg.specs.Messages as message;
 ghost use Rattle.cx_msg.specs.Reading.{Reads, Gives};
 
 use crate::fault::ReadFault;
-use crate::items::{Items, items_from};
-use crate::put::put_command;
+use crate::items::items_from;
+use crate::lists::{AnsweredItems, CommandItems, EntryItems, MemberItems, VoteItems};
+use crate::message::{Answers, Entries, Token, Votes};
 use crate::reader::Reader;
 use cx_base::{
-    Command, Commands, Few, Grid, MEMBERS, Name, NoMemory, Op, Reply, Round, Value, is_name_byte,
+    Command, Commands, Few, Grid, MEMBERS, Name, Op, Reply, Round, Text, Value, is_name_byte,
 };
-use cx_wire::put_u16;
 use std::alloc::Global;
 
 #[tactic(auto, unfolding(crate::specs::Fields::slot))]
@@ -170,29 +171,6 @@ pub fn command_from(reader: &mut Reader<'_>) -> Result<Command, ReadFault>
     Ok(Command { client, seq, op })
 }
 
-pub struct CommandItems;
-
-impl Items for CommandItems {
-    type Item = Command;
-
-    ghost format = { λ _ _. field.command };
-
-    ghost most = { 109 };
-
-    fn next_from(
-        &self,
-        _alloc: Global,
-        _before: &[Command],
-        reader: &mut Reader<'_>,
-    ) -> Result<Command, ReadFault> {
-        command_from(reader)
-    }
-
-    fn put_next(&self, command: &Command, out: &mut Vec<u8>) -> Result<(), NoMemory> {
-        put_command(out, command)
-    }
-}
-
 #[tactic(auto, unfolding(crate::specs::Fields::commands))]
 pub fn commands_from(alloc: Global, reader: &mut Reader<'_>) -> Result<Commands, ReadFault>
     ensures { Reads field.commands reader.old result reader.new }
@@ -245,43 +223,6 @@ pub fn reply_from(reader: &mut Reader<'_>) -> Result<Reply, ReadFault>
     }
 }
 
-// Whether a number stands in a list.
-fn is_in(id: u16, before: &[u16]) -> bool
-    ensures { result ≡ is_in id before.now }
-{
-    before.iter().any(|other| *other == id)
-}
-
-pub struct MemberItems;
-
-impl Items for MemberItems {
-    type Item = u16;
-
-    ghost format = { λ _ before. field.member before };
-
-    ghost most = { 2 };
-
-    #[tactic(auto, unfolding(crate::specs::Fields::member))]
-    fn next_from(
-        &self,
-        _alloc: Global,
-        before: &[u16],
-        reader: &mut Reader<'_>,
-    ) -> Result<u16, ReadFault> {
-        let left = reader.left();
-        let id = reader.u16()?;
-        if is_in(id, before) {
-            return Err(ReadFault::Bad { left });
-        }
-        Ok(id)
-    }
-
-    #[tactic(auto, unfolding(crate::specs::Fields::member, cx_wire::specs::Format::u16))]
-    fn put_next(&self, id: &u16, out: &mut Vec<u8>) -> Result<(), NoMemory> {
-        put_u16(out, *id)
-    }
-}
-
 #[tactic(auto, unfolding(crate::specs::Fields::grid))]
 pub fn grid_from(alloc: Global, reader: &mut Reader<'_>) -> Result<Grid, ReadFault>
     ensures { Reads field.grid reader.old result reader.new }
@@ -299,4 +240,76 @@ pub fn grid_from(alloc: Global, reader: &mut Reader<'_>) -> Result<Grid, ReadFau
     }
     let members = items_from(alloc, &MemberItems, count, reader)?;
     Ok(Grid::from_parts(rows, cols, &members))
+}
+
+#[tactic(auto, unfolding(crate::specs::Messages::token))]
+pub fn token_from(reader: &mut Reader<'_>) -> Result<Token, ReadFault>
+    ensures { Reads message.token reader.old result reader.new }
+{
+    let client = reader.u16()?;
+    let seq = seq_from(reader)?;
+    Ok(Token { client, seq })
+}
+
+#[tactic(auto, unfolding(crate::specs::Messages::reason))]
+pub fn reason_from(reader: &mut Reader<'_>) -> Result<u8, ReadFault>
+    ensures { Reads message.reason reader.old result reader.new }
+{
+    let left = reader.left();
+    let reason = reader.u8()?;
+    if reason > 2 {
+        return Err(ReadFault::Bad { left });
+    }
+    Ok(reason)
+}
+
+#[tactic(auto, unfolding(crate::specs::Messages::found))]
+pub fn found_from(reader: &mut Reader<'_>) -> Result<Option<Text>, ReadFault>
+    ensures { Reads message.found reader.old result reader.new }
+{
+    let left = reader.left();
+    match reader.u8()? {
+        0 => Ok(None),
+        1 => Ok(Some(name_from(reader)?)),
+        _ => Err(ReadFault::Bad { left }),
+    }
+}
+
+#[tactic(auto, unfolding(crate::specs::Messages::entries))]
+pub fn entries_from(alloc: Global, reader: &mut Reader<'_>) -> Result<Entries, ReadFault>
+    ensures { Reads message.entries reader.old result reader.new }
+{
+    let left = reader.left();
+    let count = reader.u8()?;
+    if count > 17 {
+        return Err(ReadFault::Bad { left });
+    }
+    let list = items_from(alloc, &EntryItems, count as usize, reader)?;
+    Ok(Few::from_vec(list))
+}
+
+#[tactic(auto, unfolding(crate::specs::Messages::votes))]
+pub fn votes_from(alloc: Global, cw: u64, reader: &mut Reader<'_>) -> Result<Votes, ReadFault>
+    ensures { Reads (message.votes cw) reader.old result reader.new }
+{
+    let left = reader.left();
+    let count = reader.u8()?;
+    if count > 32 {
+        return Err(ReadFault::Bad { left });
+    }
+    let list = items_from(alloc, &VoteItems { cw }, count as usize, reader)?;
+    Ok(Few::from_vec(list))
+}
+
+#[tactic(auto, unfolding(crate::specs::Messages::answers))]
+pub fn answers_from(alloc: Global, reader: &mut Reader<'_>) -> Result<Answers, ReadFault>
+    ensures { Reads message.answers reader.old result reader.new }
+{
+    let left = reader.left();
+    let count = reader.u8()?;
+    if count < 1 || count > 8 {
+        return Err(ReadFault::Bad { left });
+    }
+    let list = items_from(alloc, &AnsweredItems, count as usize, reader)?;
+    Ok(Few::from_vec(list))
 }

@@ -1,5 +1,8 @@
 //! What one role says to another.
 
+ghost use Rattle.std.specs.Prelude.{◌≡◌};
+ghost use Rattle.cx_msg.specs.Names.{name_of_message};
+
 use cx_base::{
     Answered, Command, Commands, Duplicate, Few, Grid, Key, NoMemory, Reply, Round, Text, Value,
 };
@@ -215,144 +218,41 @@ pub enum Msg {
     },
 }
 
-impl Duplicate for Msg {
-    fn copy(&self, alloc: Global) -> Result<Self, NoMemory> {
+impl Msg {
+    /// Its name in texts, which is that of its kind. It takes no memory.
+    pub fn name(&self) -> &'static str
+        ensures { result.now ≡ name_of_message self.now }
+    {
         match self {
-            Msg::Submit { command } => Ok(Msg::Submit { command: *command }),
-            Msg::Batch { commands } => Ok(Msg::Batch {
-                commands: commands.copy(alloc)?,
-            }),
-            Msg::Leads { round } => Ok(Msg::Leads { round: *round }),
-            Msg::MatchA { round, grid } => Ok(Msg::MatchA {
-                round: *round,
-                grid: *grid,
-            }),
-            Msg::MatchB {
-                round,
-                watermark,
-                entries,
-            } => Ok(Msg::MatchB {
-                round: *round,
-                watermark: *watermark,
-                entries: entries.copy(alloc)?,
-            }),
-            Msg::MatchNack {
-                round,
-                reason,
-                other,
-            } => Ok(Msg::MatchNack {
-                round: *round,
-                reason: *reason,
-                other: *other,
-            }),
-            Msg::Phase1A { round } => Ok(Msg::Phase1A { round: *round }),
-            Msg::Phase1B { round, cw, votes } => Ok(Msg::Phase1B {
-                round: *round,
-                cw: *cw,
-                votes: votes.copy(alloc)?,
-            }),
-            Msg::Nack { round, promise } => Ok(Msg::Nack {
-                round: *round,
-                promise: *promise,
-            }),
-            Msg::Propose {
-                round,
-                grid,
-                slot,
-                cw,
-                value,
-            } => Ok(Msg::Propose {
-                round: *round,
-                grid: *grid,
-                slot: *slot,
-                cw: *cw,
-                value: value.copy(alloc)?,
-            }),
-            Msg::Phase2A {
-                round,
-                slot,
-                cw,
-                value,
-            } => Ok(Msg::Phase2A {
-                round: *round,
-                slot: *slot,
-                cw: *cw,
-                value: value.copy(alloc)?,
-            }),
-            Msg::Phase2B { round, slot } => Ok(Msg::Phase2B {
-                round: *round,
-                slot: *slot,
-            }),
-            Msg::Chosen { slot, value } => Ok(Msg::Chosen {
-                slot: *slot,
-                value: value.copy(alloc)?,
-            }),
-            Msg::ChosenIn { round, slot } => Ok(Msg::ChosenIn {
-                round: *round,
-                slot: *slot,
-            }),
-            Msg::Results { slot, answers } => Ok(Msg::Results {
-                slot: *slot,
-                answers: answers.copy(alloc)?,
-            }),
-            Msg::Answer { seq, at, reply } => Ok(Msg::Answer {
-                seq: *seq,
-                at: *at,
-                reply: *reply,
-            }),
-            Msg::Held { mark } => Ok(Msg::Held { mark: *mark }),
-            Msg::Fetch { mark } => Ok(Msg::Fetch { mark: *mark }),
-            Msg::Inform { round, mark } => Ok(Msg::Inform {
-                round: *round,
-                mark: *mark,
-            }),
-            Msg::Informed { round, mark } => Ok(Msg::Informed {
-                round: *round,
-                mark: *mark,
-            }),
-            Msg::GarbageA { round, grid } => Ok(Msg::GarbageA {
-                round: *round,
-                grid: *grid,
-            }),
-            Msg::GarbageB { round } => Ok(Msg::GarbageB { round: *round }),
-            Msg::ReadReq { seq, replica, key } => Ok(Msg::ReadReq {
-                seq: *seq,
-                replica: *replica,
-                key: *key,
-            }),
-            Msg::MatchRead { token } => Ok(Msg::MatchRead { token: *token }),
-            Msg::MatchReadAck {
-                token,
-                watermark,
-                entries,
-            } => Ok(Msg::MatchReadAck {
-                token: *token,
-                watermark: *watermark,
-                entries: entries.copy(alloc)?,
-            }),
-            Msg::PreRead { token, watermark } => Ok(Msg::PreRead {
-                token: *token,
-                watermark: *watermark,
-            }),
-            Msg::PreReadAck {
-                token,
-                watermark,
-                mark,
-            } => Ok(Msg::PreReadAck {
-                token: *token,
-                watermark: *watermark,
-                mark: *mark,
-            }),
-            Msg::Read { token, mark, key } => Ok(Msg::Read {
-                token: *token,
-                mark: *mark,
-                key: *key,
-            }),
-            Msg::ReadAnswer { seq, mark, found } => Ok(Msg::ReadAnswer {
-                seq: *seq,
-                mark: *mark,
-                found: *found,
-            }),
+            Msg::Submit { .. } => "Submit",
+            Msg::Batch { .. } => "Batch",
+            Msg::Leads { .. } => "Leads",
+            Msg::MatchA { .. } => "MatchA",
+            Msg::MatchB { .. } => "MatchB",
+            Msg::MatchNack { .. } => "MatchNack",
+            Msg::Phase1A { .. } => "Phase1A",
+            Msg::Phase1B { .. } => "Phase1B",
+            Msg::Nack { .. } => "Nack",
+            Msg::Propose { .. } => "Propose",
+            Msg::Phase2A { .. } => "Phase2A",
+            Msg::Phase2B { .. } => "Phase2B",
+            Msg::Chosen { .. } => "Chosen",
+            Msg::ChosenIn { .. } => "ChosenIn",
+            Msg::Results { .. } => "Results",
+            Msg::Answer { .. } => "Answer",
+            Msg::Held { .. } => "Held",
+            Msg::Fetch { .. } => "Fetch",
+            Msg::Inform { .. } => "Inform",
+            Msg::Informed { .. } => "Informed",
+            Msg::GarbageA { .. } => "GarbageA",
+            Msg::GarbageB { .. } => "GarbageB",
+            Msg::ReadReq { .. } => "ReadReq",
+            Msg::MatchRead { .. } => "MatchRead",
+            Msg::MatchReadAck { .. } => "MatchReadAck",
+            Msg::PreRead { .. } => "PreRead",
+            Msg::PreReadAck { .. } => "PreReadAck",
+            Msg::Read { .. } => "Read",
+            Msg::ReadAnswer { .. } => "ReadAnswer",
         }
     }
 }

@@ -3,11 +3,13 @@
 ghost use Rattle.std.specs.Prelude.{◌≡◌, ◌≤◌, ◌+◌, ◌*◌, ◌++◌, [], length, OnOk};
 ghost use Rattle.cx_wire.specs.Format as wire;
 ghost use Rattle.cx_msg.specs.Fields as field;
+ghost use Rattle.cx_msg.specs.Messages as message;
 ghost use Rattle.cx_wire.specs.Format.{Appends};
 
-use crate::fields::{CommandItems, MemberItems};
 use crate::items::put_items;
-use cx_base::{Command, Commands, Grid, Name, NoMemory, Op, Reply, Round, Value};
+use crate::lists::{AnsweredItems, CommandItems, EntryItems, MemberItems, VoteItems};
+use crate::message::{Answers, Entries, Token, Votes};
+use cx_base::{Command, Commands, Grid, Name, NoMemory, Op, Reply, Round, Text, Value};
 use cx_wire::{put_u8, put_u16, put_u32, put_u64};
 
 #[tactic(auto, unfolding(crate::specs::Fields::slot))]
@@ -147,4 +149,59 @@ pub fn put_reply(out: &mut Vec<u8>, reply: &Reply) -> Result<(), NoMemory>
         }
         Reply::Full => put_u8(out, 4),
     }
+}
+
+#[tactic(auto, unfolding(crate::specs::Messages::entries))]
+pub fn put_entries(out: &mut Vec<u8>, entries: &Entries) -> Result<(), NoMemory>
+    ensures { OnOk result (Appends message.entries entries.now 749 out.old.items out.new.items) }
+{
+    let list = entries.as_slice();
+    put_u8(out, list.len() as u8)?;
+    put_items(&EntryItems, list, out)
+}
+
+#[tactic(auto, unfolding(crate::specs::Messages::votes))]
+pub fn put_votes(out: &mut Vec<u8>, cw: u64, votes: &Votes) -> Result<(), NoMemory>
+    ensures { OnOk result (Appends (message.votes cw) votes.now 28545 out.old.items out.new.items) }
+{
+    let list = votes.as_slice();
+    put_u8(out, list.len() as u8)?;
+    put_items(&VoteItems { cw }, list, out)
+}
+
+#[tactic(auto, unfolding(crate::specs::Messages::answers))]
+pub fn put_answers(out: &mut Vec<u8>, answers: &Answers) -> Result<(), NoMemory>
+    ensures { OnOk result (Appends message.answers answers.now 673 out.old.items out.new.items) }
+{
+    let list = answers.as_slice();
+    put_u8(out, list.len() as u8)?;
+    put_items(&AnsweredItems, list, out)
+}
+
+#[tactic(auto, unfolding(crate::specs::Messages::found))]
+pub fn put_found(out: &mut Vec<u8>, found: &Option<Text>) -> Result<(), NoMemory>
+    ensures { OnOk result (Appends message.found found.now 66 out.old.items out.new.items) }
+{
+    match found {
+        None => put_u8(out, 0),
+        Some(text) => {
+            put_u8(out, 1)?;
+            put_name(out, text)
+        }
+    }
+}
+
+#[tactic(auto, unfolding(crate::specs::Messages::reason))]
+pub fn put_reason(out: &mut Vec<u8>, reason: u8) -> Result<(), NoMemory>
+    ensures { OnOk result (Appends message.reason reason 1 out.old.items out.new.items) }
+{
+    put_u8(out, reason)
+}
+
+#[tactic(auto, unfolding(crate::specs::Messages::token))]
+pub fn put_token(out: &mut Vec<u8>, token: &Token) -> Result<(), NoMemory>
+    ensures { OnOk result (Appends message.token token.now 10 out.old.items out.new.items) }
+{
+    put_u16(out, token.client)?;
+    put_seq(out, token.seq)
 }

@@ -3,43 +3,20 @@
 ghost use Rattle.std.specs.Prelude.{◌≡◌, ◌≤◌, ◌+◌, ◌++◌, IfOk, IsTrue, OnOk, OnErr, length};
 ghost use Rattle.cx_wire.specs.Format as wire;
 ghost use Rattle.cx_wire.specs.Format.{Appends};
-ghost use Rattle.cx_msg.specs.Fields as field;
 ghost use Rattle.cx_msg.specs.Records as records;
 ghost use Rattle.cx_msg.specs.Reading.{Reads, Gives};
 ghost use Rattle.cx_msg.specs.declared.kept.Record.{Record as Kept};
 
 use crate::fault::{ReadFault, WireFault};
 use crate::fields::{grid_from, mark_from, round_from, slot_from, value_from};
-use crate::items::{Items, items_from, put_items};
+use crate::items::{items_from, put_items};
 use crate::kept::{LogValues, Record};
+use crate::lists::ValueItems;
 use crate::put::{put_grid, put_mark, put_round, put_slot, put_value};
 use crate::reader::Reader;
 use cx_base::{Few, NoMemory, Round, Value};
 use cx_wire::put_u8;
 use std::alloc::Global;
-
-struct ValueItems;
-
-impl Items for ValueItems {
-    type Item = Value;
-
-    ghost format = { λ _ _. field.value };
-
-    ghost most = { 874 };
-
-    fn next_from(
-        &self,
-        alloc: Global,
-        _before: &[Value],
-        reader: &mut Reader<'_>,
-    ) -> Result<Value, ReadFault> {
-        value_from(alloc, reader)
-    }
-
-    fn put_next(&self, value: &Value, out: &mut Vec<u8>) -> Result<(), NoMemory> {
-        put_value(out, value)
-    }
-}
 
 #[tactic(auto, unfolding(crate::specs::Records::values))]
 fn values_from(alloc: Global, reader: &mut Reader<'_>) -> Result<LogValues, ReadFault>

@@ -1,0 +1,313 @@
+//! The bodies of messages, appended to bytes.
+
+ghost use Rattle.std.specs.Prelude.{◌≡◌, ◌≤◌, ◌+◌, ◌++◌, length, OnOk};
+ghost use Rattle.cx_msg.specs.Messages as message;
+ghost use Rattle.cx_wire.specs.Format.{Appends};
+
+use crate::message::{Answers, Entries, Msg, Token, Votes};
+use crate::put::{
+    put_answers, put_at, put_command, put_commands, put_entries, put_found, put_grid, put_mark,
+    put_name, put_reason, put_reply, put_round, put_seq, put_slot, put_token, put_value, put_votes,
+};
+use cx_base::{Grid, Key, NoMemory, Reply, Round, Text, Value};
+use cx_wire::put_u16;
+
+/// A message's number on the wire.
+pub fn kind_of(msg: &Msg) -> u8
+    ensures { result ≡ (message.body_shape msg.now).tag }
+{
+    match msg {
+        Msg::Submit { .. } => 1,
+        Msg::Batch { .. } => 2,
+        Msg::Leads { .. } => 3,
+        Msg::MatchA { .. } => 4,
+        Msg::MatchB { .. } => 5,
+        Msg::MatchNack { .. } => 6,
+        Msg::Phase1A { .. } => 7,
+        Msg::Phase1B { .. } => 8,
+        Msg::Nack { .. } => 9,
+        Msg::Propose { .. } => 10,
+        Msg::Phase2A { .. } => 11,
+        Msg::Phase2B { .. } => 12,
+        Msg::Chosen { .. } => 13,
+        Msg::ChosenIn { .. } => 14,
+        Msg::Results { .. } => 15,
+        Msg::Answer { .. } => 16,
+        Msg::Held { .. } => 17,
+        Msg::Fetch { .. } => 18,
+        Msg::Inform { .. } => 19,
+        Msg::Informed { .. } => 20,
+        Msg::GarbageA { .. } => 21,
+        Msg::GarbageB { .. } => 22,
+        Msg::ReadReq { .. } => 23,
+        Msg::MatchRead { .. } => 24,
+        Msg::MatchReadAck { .. } => 25,
+        Msg::PreRead { .. } => 26,
+        Msg::PreReadAck { .. } => 27,
+        Msg::Read { .. } => 28,
+        Msg::ReadAnswer { .. } => 29,
+    }
+}
+
+#[tactic(auto, unfolding(crate::specs::Messages::round_grid))]
+fn put_round_grid(out: &mut Vec<u8>, round: &Round, grid: &Grid) -> Result<(), NoMemory>
+    ensures { OnOk result (Appends message.round_grid (round.now, grid.now) 44 out.old.items out.new.items) }
+{
+    put_round(out, round)?;
+    put_grid(out, grid)
+}
+
+#[tactic(auto, unfolding(crate::specs::Messages::round_slot))]
+fn put_round_slot(out: &mut Vec<u8>, round: &Round, slot: u64) -> Result<(), NoMemory>
+    ensures { OnOk result (Appends message.round_slot (round.now, slot) 18 out.old.items out.new.items) }
+{
+    put_round(out, round)?;
+    put_slot(out, slot)
+}
+
+#[tactic(auto, unfolding(crate::specs::Messages::round_mark))]
+fn put_round_mark(out: &mut Vec<u8>, round: &Round, mark: u64) -> Result<(), NoMemory>
+    ensures { OnOk result (Appends message.round_mark (round.now, mark) 18 out.old.items out.new.items) }
+{
+    put_round(out, round)?;
+    put_mark(out, mark)
+}
+
+#[tactic(auto, unfolding(crate::specs::Messages::match_b))]
+fn put_match_b(
+    out: &mut Vec<u8>,
+    round: &Round,
+    watermark: &Round,
+    entries: &Entries,
+) -> Result<(), NoMemory>
+    ensures { OnOk result (Appends message.match_b (round.now, (watermark.now, entries.now)) 769 out.old.items out.new.items) }
+{
+    put_round(out, round)?;
+    put_round(out, watermark)?;
+    put_entries(out, entries)
+}
+
+#[tactic(auto, unfolding(crate::specs::Messages::match_nack))]
+fn put_match_nack(
+    out: &mut Vec<u8>,
+    round: &Round,
+    reason: u8,
+    other: &Round,
+) -> Result<(), NoMemory>
+    ensures { OnOk result (Appends message.match_nack (round.now, (reason, other.now)) 21 out.old.items out.new.items) }
+{
+    put_round(out, round)?;
+    put_reason(out, reason)?;
+    put_round(out, other)
+}
+
+#[tactic(auto, unfolding(crate::specs::Messages::phase1b))]
+fn put_phase1b(out: &mut Vec<u8>, round: &Round, cw: u64, votes: &Votes) -> Result<(), NoMemory>
+    ensures { OnOk result (Appends message.phase1b (round.now, (cw, votes.now)) 28563 out.old.items out.new.items) }
+{
+    put_round(out, round)?;
+    put_mark(out, cw)?;
+    put_votes(out, cw, votes)
+}
+
+#[tactic(auto, unfolding(crate::specs::Messages::propose))]
+fn put_propose(
+    out: &mut Vec<u8>,
+    round: &Round,
+    grid: &Grid,
+    slot: u64,
+    cw: u64,
+    value: &Value,
+) -> Result<(), NoMemory>
+    ensures { OnOk result (Appends message.propose (round.now, (grid.now, (slot, (cw, value.now)))) 934 out.old.items out.new.items) }
+{
+    put_round(out, round)?;
+    put_grid(out, grid)?;
+    put_slot(out, slot)?;
+    put_mark(out, cw)?;
+    put_value(out, value)
+}
+
+#[tactic(auto, unfolding(crate::specs::Messages::phase2a))]
+fn put_phase2a(
+    out: &mut Vec<u8>,
+    round: &Round,
+    slot: u64,
+    cw: u64,
+    value: &Value,
+) -> Result<(), NoMemory>
+    ensures { OnOk result (Appends message.phase2a (round.now, (slot, (cw, value.now))) 900 out.old.items out.new.items) }
+{
+    put_round(out, round)?;
+    put_slot(out, slot)?;
+    put_mark(out, cw)?;
+    put_value(out, value)
+}
+
+#[tactic(auto, unfolding(crate::specs::Messages::slot_value))]
+fn put_slot_value(out: &mut Vec<u8>, slot: u64, value: &Value) -> Result<(), NoMemory>
+    ensures { OnOk result (Appends message.slot_value (slot, value.now) 882 out.old.items out.new.items) }
+{
+    put_slot(out, slot)?;
+    put_value(out, value)
+}
+
+#[tactic(auto, unfolding(crate::specs::Messages::nack))]
+fn put_nack(out: &mut Vec<u8>, round: &Round, promise: &Round) -> Result<(), NoMemory>
+    ensures { OnOk result (Appends message.nack (round.now, promise.now) 20 out.old.items out.new.items) }
+{
+    put_round(out, round)?;
+    put_round(out, promise)
+}
+
+#[tactic(auto, unfolding(crate::specs::Messages::results))]
+fn put_results(out: &mut Vec<u8>, slot: u64, answers: &Answers) -> Result<(), NoMemory>
+    ensures { OnOk result (Appends message.results (slot, answers.now) 681 out.old.items out.new.items) }
+{
+    put_slot(out, slot)?;
+    put_answers(out, answers)
+}
+
+#[tactic(auto, unfolding(crate::specs::Messages::answer))]
+fn put_answer(out: &mut Vec<u8>, seq: u64, at: u64, reply: &Reply) -> Result<(), NoMemory>
+    ensures { OnOk result (Appends message.answer (seq, (at, reply.now)) 82 out.old.items out.new.items) }
+{
+    put_seq(out, seq)?;
+    put_at(out, at)?;
+    put_reply(out, reply)
+}
+
+#[tactic(auto, unfolding(crate::specs::Messages::read_req))]
+fn put_read_req(out: &mut Vec<u8>, seq: u64, replica: u16, key: &Key) -> Result<(), NoMemory>
+    ensures { OnOk result (Appends message.read_req (seq, (replica, key.now)) 43 out.old.items out.new.items) }
+{
+    put_seq(out, seq)?;
+    put_u16(out, replica)?;
+    put_name(out, key)
+}
+
+#[tactic(auto, unfolding(crate::specs::Messages::match_read_ack))]
+fn put_match_read_ack(
+    out: &mut Vec<u8>,
+    token: &Token,
+    watermark: &Round,
+    entries: &Entries,
+) -> Result<(), NoMemory>
+    ensures { OnOk result (Appends message.match_read_ack (token.now, (watermark.now, entries.now)) 769 out.old.items out.new.items) }
+{
+    put_token(out, token)?;
+    put_round(out, watermark)?;
+    put_entries(out, entries)
+}
+
+#[tactic(auto, unfolding(crate::specs::Messages::pre_read))]
+fn put_pre_read(out: &mut Vec<u8>, token: &Token, watermark: &Round) -> Result<(), NoMemory>
+    ensures { OnOk result (Appends message.pre_read (token.now, watermark.now) 20 out.old.items out.new.items) }
+{
+    put_token(out, token)?;
+    put_round(out, watermark)
+}
+
+#[tactic(auto, unfolding(crate::specs::Messages::pre_read_ack))]
+fn put_pre_read_ack(
+    out: &mut Vec<u8>,
+    token: &Token,
+    watermark: &Round,
+    mark: u64,
+) -> Result<(), NoMemory>
+    ensures { OnOk result (Appends message.pre_read_ack (token.now, (watermark.now, mark)) 28 out.old.items out.new.items) }
+{
+    put_token(out, token)?;
+    put_round(out, watermark)?;
+    put_mark(out, mark)
+}
+
+#[tactic(auto, unfolding(crate::specs::Messages::read_key))]
+fn put_read_key(out: &mut Vec<u8>, token: &Token, mark: u64, key: &Key) -> Result<(), NoMemory>
+    ensures { OnOk result (Appends message.read_key (token.now, (mark, key.now)) 51 out.old.items out.new.items) }
+{
+    put_token(out, token)?;
+    put_mark(out, mark)?;
+    put_name(out, key)
+}
+
+#[tactic(auto, unfolding(crate::specs::Messages::read_answer))]
+fn put_read_answer(
+    out: &mut Vec<u8>,
+    seq: u64,
+    mark: u64,
+    found: &Option<Text>,
+) -> Result<(), NoMemory>
+    ensures { OnOk result (Appends message.read_answer (seq, (mark, found.now)) 82 out.old.items out.new.items) }
+{
+    put_seq(out, seq)?;
+    put_mark(out, mark)?;
+    put_found(out, found)
+}
+
+/// Appends a message's body, at most 28,563 bytes.
+pub fn put_body(out: &mut Vec<u8>, msg: &Msg) -> Result<(), NoMemory>
+    ensures bytes { OnOk result (out.new.items ≡ out.old.items ++ (message.body_shape msg.now).bytes) }
+    ensures room { OnOk result (length out.new.items ≤ length out.old.items + 28563) }
+{
+    match msg {
+        Msg::Submit { command } => put_command(out, command),
+        Msg::Batch { commands } => put_commands(out, commands),
+        Msg::Leads { round } | Msg::Phase1A { round } | Msg::GarbageB { round } => {
+            put_round(out, round)
+        }
+        Msg::MatchA { round, grid } | Msg::GarbageA { round, grid } => {
+            put_round_grid(out, round, grid)
+        }
+        Msg::MatchB {
+            round,
+            watermark,
+            entries,
+        } => put_match_b(out, round, watermark, entries),
+        Msg::MatchNack {
+            round,
+            reason,
+            other,
+        } => put_match_nack(out, round, *reason, other),
+        Msg::Phase1B { round, cw, votes } => put_phase1b(out, round, *cw, votes),
+        Msg::Nack { round, promise } => put_nack(out, round, promise),
+        Msg::Propose {
+            round,
+            grid,
+            slot,
+            cw,
+            value,
+        } => put_propose(out, round, grid, *slot, *cw, value),
+        Msg::Phase2A {
+            round,
+            slot,
+            cw,
+            value,
+        } => put_phase2a(out, round, *slot, *cw, value),
+        Msg::Phase2B { round, slot } | Msg::ChosenIn { round, slot } => {
+            put_round_slot(out, round, *slot)
+        }
+        Msg::Chosen { slot, value } => put_slot_value(out, *slot, value),
+        Msg::Results { slot, answers } => put_results(out, *slot, answers),
+        Msg::Answer { seq, at, reply } => put_answer(out, *seq, *at, reply),
+        Msg::Held { mark } | Msg::Fetch { mark } => put_mark(out, *mark),
+        Msg::Inform { round, mark } | Msg::Informed { round, mark } => {
+            put_round_mark(out, round, *mark)
+        }
+        Msg::ReadReq { seq, replica, key } => put_read_req(out, *seq, *replica, key),
+        Msg::MatchRead { token } => put_token(out, token),
+        Msg::MatchReadAck {
+            token,
+            watermark,
+            entries,
+        } => put_match_read_ack(out, token, watermark, entries),
+        Msg::PreRead { token, watermark } => put_pre_read(out, token, watermark),
+        Msg::PreReadAck {
+            token,
+            watermark,
+            mark,
+        } => put_pre_read_ack(out, token, watermark, *mark),
+        Msg::Read { token, mark, key } => put_read_key(out, token, *mark, key),
+        Msg::ReadAnswer { seq, mark, found } => put_read_answer(out, *seq, *mark, found),
+    }
+}
