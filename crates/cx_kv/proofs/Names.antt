@@ -1,0 +1,14 @@
+-- Texts that are joined.
+use Rattle.std.proofs.Common.{ℕ, ◌+◌, ◌≤◌, List, ◌++◌, length, arith, ◌∙◌}
+use Rattle.std.specs.List.{list_all}
+use Rattle.std.proofs.lemmas.Bool.{and_from}
+use Rattle.std.proofs.lemmas.List.{length-append}
+use Rattle.std.proofs.lemmas.List.Folds.{list_all-append}
+use Rattle.cx_base.specs.Name.{IsName, is_name_byte}
+
+pub IsName-append : (limit : ℕ) (one other : List ℕ) → IsName limit one → IsName limit other → length one + length other ≤ limit → IsName limit (one ++ other)
+IsName-append limit one other h k fits = record {
+  some = omega (arith, length-append one other, h.some);
+  room = omega (arith, length-append one other);
+  each = list_all-append is_name_byte one other ∙ and_from (list_all is_name_byte one) (list_all is_name_byte other) h.each k.each;
+}

@@ -1,0 +1,14 @@
+-- Maps as lists whose keys rise.
+use Rattle.std.specs.Prelude.{◌≡◌, ℕ, true, List, [], ◌∷◌}
+use Rattle.cx_base.specs.Fold.{is_less}
+use Rattle.cx_base.specs.declared.command.Pair.{Pair}
+
+-- a key comes before all keys of a map
+abbrev pub IsBeforeAll : List ℕ → List Pair → Type 0
+IsBeforeAll key [] = Unit {0}
+IsBeforeAll key (p ∷ map) = (is_less key p.key ≡ true) × IsBeforeAll key map
+
+-- each key comes before all keys behind it
+abbrev pub IsRising : List Pair → Type 0
+IsRising [] = Unit {0}
+IsRising (p ∷ map) = IsBeforeAll p.key map × IsRising map
