@@ -9,6 +9,7 @@ mod command;
 mod event;
 mod faults;
 mod few;
+mod fold;
 mod grid;
 mod grid_fault;
 mod memory;
@@ -24,6 +25,7 @@ pub use command::{Answered, Command, Commands, Op, Pair, Placed, Reply, Value, V
 pub use event::{Cut, Event, Happened, Order};
 pub use faults::Faults;
 pub use few::{Few, Series, copy_all};
+pub use fold::acts;
 pub use grid::{Grid, MEMBERS};
 pub use grid_fault::GridFault;
 pub use memory::{Duplicate, NoMemory};

@@ -1,4 +1,7 @@
 //! The run of events over all roles.
 #![tactic(auto)]
 
+mod chosen;
+mod counts;
 mod seat;
+mod stale;

@@ -1,0 +1,4 @@
+pub mod Put
+pub mod Reply
+pub mod Summary
+pub mod Trace

@@ -1,0 +1,102 @@
+-- The lines of the trace: events, and the datagrams that they send.
+use Rattle.std.specs.Prelude.{ℕ, ◌+◌, List, [], ◌∷◌, ◌++◌, codes, decimal, Option, None, Some}
+use Rattle.cx_base.specs.Role.{role, role_text}
+use Rattle.cx_base.specs.Why.{why_text}
+use Rattle.cx_base.specs.declared.event.Event.{Event}
+use Rattle.cx_base.specs.declared.event.Event.TheVariants as event
+use Rattle.cx_base.specs.declared.event.Order.{Order}
+use Rattle.cx_base.specs.declared.event.Order.TheVariants.{Lead, Change, Collect}
+use Rattle.cx_base.specs.declared.role.RoleId.{RoleId}
+use Rattle.cx_base.specs.declared.role.Kind.TheVariants.{Client, Leader}
+use Rattle.cx_msg.specs.Letter.{Letter, body}
+use Rattle.cx_msg.specs.Names.{name_of_message}
+use Rattle.cx_msg.specs.declared.message.Msg.{Msg}
+use Rattle.cx_msg.specs.declared.message.Msg.TheVariants.{Submit, Batch, Leads, MatchA, MatchB, MatchNack, Phase1A, Phase1B, Nack, Propose, Phase2A, Phase2B, Chosen, ChosenIn, Results, Answer, Held, Fetch, Inform, Informed, GarbageA, GarbageB, ReadReq, MatchRead, MatchReadAck, PreRead, PreReadAck, Read, ReadAnswer}
+use Rattle.cx_trace.specs.Put.{hex}
+use Rattle.cx_trace.specs.Reply.{reply_text, found_text}
+use Rattle.cx_trace.specs.declared.effect.Effect.{Effect}
+
+-- a request of a client: who, and its number
+unfoldable pub request_text : ℕ → ℕ → List ℕ
+request_text client seq = role_text (role Client client) ++ codes " " ++ decimal seq
+
+abbrev pub order_text : Order → List ℕ
+order_text (Lead grid) = codes "lead "
+order_text (Change grid) = codes "change "
+order_text Collect = codes "collect "
+
+-- whom a datagram reached, if it was sent before
+abbrev pub reached_text : Option RoleId → List ℕ
+reached_text None = []
+reached_text (Some who) = codes " " ++ role_text who
+
+-- what happened, and to whom
+abbrev pub happening_text : Event → Option RoleId → List ℕ
+happening_text (event.Write command batcher) who = codes "write " ++ request_text command.client command.seq
+happening_text (event.Read client seq reader replica key) who = codes "read " ++ request_text client seq
+happening_text (event.Deliver number cut) who = codes "deliver " ++ decimal number ++ reached_text who
+happening_text (event.Tick r) who = codes "tick " ++ role_text r
+happening_text (event.Order leader order cut) who = order_text order ++ role_text (role Leader leader)
+happening_text (event.Crash r) who = codes "crash " ++ role_text r
+happening_text (event.Restart r) who = codes "restart " ++ role_text r
+
+-- the line of an event, with its number and what it came to
+unfoldable pub event_text : Event → Effect → List ℕ
+event_text e effect =
+    codes "@" ++ decimal effect.event ++ codes " " ++ happening_text e effect.who ++ codes " " ++ why_text effect.why ++ codes "\n"
+
+-- the line of a client's answer
+unfoldable pub answer_line : ℕ → ℕ → ℕ → List ℕ → List ℕ
+answer_line client seq at reply =
+    codes "answer " ++ request_text client seq ++ codes " at " ++ decimal at ++ codes " " ++ reply ++ codes "\n"
+
+-- the line of a client's read
+unfoldable pub read_line : ℕ → ℕ → ℕ → List ℕ → List ℕ
+read_line client seq mark found =
+    codes "read " ++ request_text client seq ++ codes " at " ++ decimal mark ++ codes " " ++ found ++ codes "\n"
+
+-- what a message tells the client that gets it: only answers tell it something
+abbrev pub told_text : ℕ → Msg → List ℕ
+told_text client (Answer seq at reply) = answer_line client seq at (reply_text reply)
+told_text client (ReadAnswer seq mark found) = read_line client seq mark (found_text found)
+told_text client (Submit a) = []
+told_text client (Batch a) = []
+told_text client (Leads a) = []
+told_text client (MatchA a b) = []
+told_text client (MatchB a b c) = []
+told_text client (MatchNack a b c) = []
+told_text client (Phase1A a) = []
+told_text client (Phase1B a b c) = []
+told_text client (Nack a b) = []
+told_text client (Propose a b c d e) = []
+told_text client (Phase2A a b c d) = []
+told_text client (Phase2B a b) = []
+told_text client (Chosen a b) = []
+told_text client (ChosenIn a b) = []
+told_text client (Results a b) = []
+told_text client (Held a) = []
+told_text client (Fetch a) = []
+told_text client (Inform a b) = []
+told_text client (Informed a b) = []
+told_text client (GarbageA a b) = []
+told_text client (GarbageB a) = []
+told_text client (ReadReq a b c) = []
+told_text client (MatchRead a) = []
+told_text client (MatchReadAck a b c) = []
+told_text client (PreRead a b) = []
+told_text client (PreReadAck a b c) = []
+told_text client (Read a b c) = []
+
+-- the line of a datagram up to its body: its number, who sends it, who gets it, and its name
+unfoldable pub head_text : ℕ → Letter → List ℕ
+head_text n d =
+    codes "+" ++ decimal n ++ codes " " ++ role_text d.from ++ codes " " ++ role_text d.to ++ codes " " ++ name_of_message d.msg ++ codes " "
+
+-- the line of a datagram, and behind it what it tells a client
+unfoldable pub datagram_text : ℕ → Letter → List ℕ
+datagram_text n d = head_text n d ++ hex (body d) ++ codes "\n" ++ told_text d.to.index d.msg
+
+-- the lines of datagrams, whose numbers rise from n
+abbrev pub datagrams_text : ℕ → List Letter → List ℕ
+datagrams_text n [] = []
+datagrams_text n (d ∷ ds) = datagram_text n d ++ datagrams_text (n + 1) ds

@@ -1,0 +1,89 @@
+//! The lines of events.
+
+ghost use Rattle.std.specs.Prelude.{◌≡◌, ◌++◌, OnErr, OnOk};
+ghost use Rattle.cx_trace.specs.Trace.{event_text, happening_text, order_text, reached_text};
+
+use crate::effect::Effect;
+use crate::put::{put, put_number, put_request, put_role, put_role_at};
+use cx_base::{Event, Kind, NoMemory, Order, RoleId};
+
+fn put_order(text: &mut Vec<u8>, order: &Order) -> Result<(), NoMemory>
+    ensures { OnOk result (text.new.items ≡ text.old.items ++ order_text order.now) }
+{
+    match order {
+        Order::Lead(_) => put(text, b"lead "),
+        Order::Change(_) => put(text, b"change "),
+        Order::Collect => put(text, b"collect "),
+    }
+}
+
+fn put_reached(text: &mut Vec<u8>, who: Option<RoleId>) -> Result<(), NoMemory>
+    ensures { OnOk result (text.new.items ≡ text.old.items ++ reached_text who) }
+{
+    match who {
+        None => Ok(()),
+        Some(role) => {
+            put(text, b" ")?;
+            put_role(text, role)
+        }
+    }
+}
+
+fn put_happening(text: &mut Vec<u8>, event: &Event, who: Option<RoleId>) -> Result<(), NoMemory>
+    ensures { OnOk result (text.new.items ≡ text.old.items ++ happening_text event.now who) }
+{
+    match event {
+        Event::Write { command, .. } => {
+            put(text, b"write ")?;
+            put_request(text, command.client, command.seq)
+        }
+        Event::Read { client, seq, .. } => {
+            put(text, b"read ")?;
+            put_request(text, *client, *seq)
+        }
+        Event::Deliver { number, .. } => {
+            put(text, b"deliver ")?;
+            put_number(text, *number)?;
+            put_reached(text, who)
+        }
+        Event::Tick(role) => {
+            put(text, b"tick ")?;
+            put_role(text, *role)
+        }
+        Event::Order { leader, order, .. } => {
+            put_order(text, order)?;
+            put_role_at(text, Kind::Leader, u64::from(*leader))
+        }
+        Event::Crash(role) => {
+            put(text, b"crash ")?;
+            put_role(text, *role)
+        }
+        Event::Restart(role) => {
+            put(text, b"restart ")?;
+            put_role(text, *role)
+        }
+    }
+}
+
+#[tactic(auto, unfolding(crate::specs::Trace::event_text))]
+fn put_event(text: &mut Vec<u8>, event: &Event, effect: &Effect) -> Result<(), NoMemory>
+    ensures { OnOk result (text.new.items ≡ text.old.items ++ event_text event.now effect.now) }
+{
+    put(text, b"@")?;
+    put_number(text, effect.event)?;
+    put(text, b" ")?;
+    put_happening(text, event, effect.who)?;
+    put(text, b" ")?;
+    put(text, effect.why.text().as_bytes())?;
+    put(text, b"\n")
+}
+
+/// Appends the line of an event; an `Err` appends nothing.
+pub fn event_into(event: &Event, effect: &Effect, out: &mut Vec<u8>) -> Result<(), NoMemory>
+    ensures ok { OnOk result (out.new.items ≡ out.old.items ++ event_text event.now effect.now) }
+    ensures err { OnErr result (out.new.items ≡ out.old.items) }
+{
+    let mut line = Vec::new(*out.allocator());
+    put_event(&mut line, event, effect)?;
+    put(out, &line)
+}

@@ -1,0 +1,67 @@
+//! Pieces of text, each put at the end of a text.
+
+ghost use Rattle.std.specs.Prelude.{◌≡◌, ◌<◌, ◌++◌, OnErr, OnOk, decimal};
+ghost use Rattle.cx_base.specs.Role.{role, role_text};
+ghost use Rattle.cx_trace.specs.Put.{hex, hex_digit};
+ghost use Rattle.cx_trace.specs.Trace.{request_text};
+
+use cx_base::{Kind, NoMemory, RoleId};
+use itoa::Buffer;
+
+pub fn put(text: &mut Vec<u8>, piece: &[u8]) -> Result<(), NoMemory>
+    ensures ok { OnOk result (text.new.items ≡ text.old.items ++ piece.now) }
+    ensures err { OnErr result (text.new.items ≡ text.old.items) }
+{
+    text.extend_from_slice(piece)?;
+    Ok(())
+}
+
+pub fn put_number(text: &mut Vec<u8>, number: u64) -> Result<(), NoMemory>
+    ensures { OnOk result (text.new.items ≡ text.old.items ++ decimal number) }
+{
+    let mut buffer = Buffer::new();
+    put(text, buffer.format(number).as_bytes())
+}
+
+// The role of a kind, whose index need not fit a role's: a place in a list.
+pub fn put_role_at(text: &mut Vec<u8>, kind: Kind, index: u64) -> Result<(), NoMemory>
+    ensures { OnOk result (text.new.items ≡ text.old.items ++ role_text (role kind index)) }
+{
+    put(text, kind.text().as_bytes())?;
+    put(text, b":")?;
+    put_number(text, index)
+}
+
+pub fn put_role(text: &mut Vec<u8>, role: RoleId) -> Result<(), NoMemory>
+    ensures { OnOk result (text.new.items ≡ text.old.items ++ role_text role) }
+{
+    put_role_at(text, role.kind, u64::from(role.index))
+}
+
+// A request of a client: who, and its number.
+#[tactic(auto, unfolding(crate::specs::Trace::request_text))]
+pub fn put_request(text: &mut Vec<u8>, client: u16, seq: u64) -> Result<(), NoMemory>
+    ensures { OnOk result (text.new.items ≡ text.old.items ++ request_text client seq) }
+{
+    put_role_at(text, Kind::Client, u64::from(client))?;
+    put(text, b" ")?;
+    put_number(text, seq)
+}
+
+fn hex_digit(half: u8) -> u8
+    requires { half < 16 }
+    ensures { result ≡ hex_digit half }
+{
+    if half < 10 { b'0' + half } else { b'a' - 10 + half }
+}
+
+// Two lower hexadecimal digits for each byte.
+pub fn put_hex(text: &mut Vec<u8>, bytes: &[u8]) -> Result<(), NoMemory>
+    ensures { OnOk result (text.new.items ≡ text.old.items ++ hex bytes.now) }
+{
+    for byte in bytes {
+        text.push(hex_digit(*byte / 16))?;
+        text.push(hex_digit(*byte % 16))?;
+    }
+    Ok(())
+}
