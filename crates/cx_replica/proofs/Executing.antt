@@ -16,56 +16,54 @@ use Rattle.cx_base.specs.declared.command.Reply.TheVariants.{Okay, Was, Absent, 
 use Rattle.cx_base.specs.Fold.{reply_of, reply_removed, reply_appended, text_at}
 use Rattle.cx_base.specs.Noted.{noted_for, with_answer}
 use Rattle.cx_wire.specs.Format.{u8, u16, u64}
-use Rattle.cx_msg.specs.Fields.{at, slot, seq, name, op, command, reply, reply_len}
+use Rattle.cx_msg.specs.Fields.{at, slot, seq, name, op, command, reply}
 use Rattle.cx_msg.specs.Messages.{answered}
+use Rattle.cx_msg.specs.Ranges.{is_text_len}
 use Rattle.cx_model.specs.Replica.{Machine, Executed, acting, execute, execute_behind, execute_all}
 use Rattle.cx_table.specs.Judged.{judged, judge_of}
 use Rattle.cx_table.specs.declared.judge.Judge.{Judge}
 use Rattle.cx_table.specs.declared.judge.Judge.TheVariants as judge
-use Rattle.cx_replica.specs.Replies.{HasTextIn}
 
 -- a text that fits has 1 to limit bytes
 name_length : (limit : ℕ) (text : List ℕ) → (name limit).fits text ≡ true → (1 ≤ length text) × (length text ≤ limit)
 unfolding name u8
 name_length limit text h = grind (arith, nat_tests)
 
-len_fits : (n : ℕ) → 1 ≤ n → n ≤ 64 → reply.fits (Len n) ≡ true
-unfolding reply reply_len u8
-len_fits n some most = grind (arith, nat_tests)
-
-reply_removed_fits : (old : Option (List ℕ)) → HasTextIn (reply_removed old) → reply.fits (reply_removed old) ≡ true
-unfolding reply
-reply_removed_fits None h = refl
-reply_removed_fits (Some text) h = h
-
-reply_appended_fits : (more : List ℕ) (old : Option (List ℕ)) → (name 64).fits more ≡ true → reply.fits (reply_appended more old) ≡ true
-unfolding reply
-reply_appended_fits more None h = let l = name_length 64 more h in len_fits (length more) l.0 l.1
-reply_appended_fits more (Some old) h = go (nat_lt 64 (length old + length more)) refl
+appended_length : (more : List ℕ) (old : Option (List ℕ)) → (name 64).fits more ≡ true → is_text_len (reply_appended more old) ≡ true
+appended_length more None h = let l = name_length 64 more h in grind (arith, nat_tests)
+appended_length more (Some old) h = go (nat_lt 64 (length old + length more)) refl
   where
-    go : (b : Bool) → nat_lt 64 (length old + length more) ≡ b → reply.fits (if b then Full else Len (length old + length more)) ≡ true
+    go : (b : Bool) → nat_lt 64 (length old + length more) ≡ b → is_text_len (if b then Full else Len (length old + length more)) ≡ true
     go true e = refl
-    go false e =
-        let l = name_length 64 more h in
-        let most : length old + length more ≤ 64 = grind (arith, nat_tests) in
-        len_fits (length old + length more) (omega (arith, l.0)) most
+    go false e = let l = name_length 64 more h in grind (arith, nat_tests)
 
--- a reply to an operation that fits, fits
-pub reply_fits : (map : List Pair) (o : Op) → op.fits o ≡ true → HasTextIn (reply_of map o) → reply.fits (reply_of map o) ≡ true
-unfolding op reply
-reply_fits map (Put key text) h texts = refl
-reply_fits map (Del key) h texts = reply_removed_fits (text_at key map) texts
-reply_fits map (App key text) h texts = reply_appended_fits text (text_at key map) ((and_parts ((name 32).fits key) ((name 64).fits text) h).1)
+removed_length : (old : Option (List ℕ)) → is_text_len (reply_removed old) ≡ true
+removed_length None = refl
+removed_length (Some text) = refl
 
--- the answer to a command that fits, fits
-pub acting_fits : (n : ℕ) (m : Machine) (c : Command) (r : Reply) → at.fits n ≡ true → command.fits c ≡ true → r ≡ reply_of m.map c.op → HasTextIn r
-    → answered.fits (record { client = c.client; seq = c.seq; at = n; reply = r }) ≡ true
-unfolding answered command
-acting_fits n m c r in_slots fit is texts =
+op_length : (map : List Pair) (o : Op) → op.fits o ≡ true → is_text_len (reply_of map o) ≡ true
+unfolding op
+op_length map (Put key text) h = refl
+op_length map (Del key) h = removed_length (text_at key map)
+op_length map (App key text) h = appended_length text (text_at key map) ((and_parts ((name 32).fits key) ((name 64).fits text) h).1)
+
+command_parts : (c : Command) → command.fits c ≡ true → (u16.fits c.client ≡ true) × (seq.fits c.seq ≡ true) × (op.fits c.op ≡ true)
+unfolding command
+command_parts c fit =
     let who = and_parts (u16.fits c.client) (seq.fits c.seq && op.fits c.op) fit in
     let what = and_parts (seq.fits c.seq) (op.fits c.op) who.1 in
-    let fine : reply.fits r ≡ true = subst (λ (x : Reply). reply.fits x ≡ true) (sym is) (reply_fits m.map c.op what.1 (subst HasTextIn is texts)) in
-    rw (who.0, what.0, in_slots, fine) refl
+    (who.0, what.0, what.1)
+
+-- a length in the reply to a command that fits is that of a text
+pub reply_length : (map : List Pair) (c : Command) → command.fits c ≡ true → is_text_len (reply_of map c.op) ≡ true
+reply_length map c fit = op_length map c.op ((command_parts c fit).2)
+
+-- the answer to a command that fits, fits
+pub answer_fits : (n : ℕ) (c : Command) (r : Reply) → at.fits n ≡ true → command.fits c ≡ true → reply.fits r ≡ true
+    → answered.fits (record { client = c.client; seq = c.seq; at = n; reply = r }) ≡ true
+unfolding answered
+answer_fits n c r in_slots fit fine =
+    let parts = command_parts c fit in rw (parts.0, parts.1, in_slots, fine) refl
 
 -- what is noted for a client is the client's
 noted_client : (client : ℕ) (notes : List Answered) (a : Answered) → noted_for client notes ≡ Some a → a.client ≡ client

@@ -1,3 +1,4 @@
 pub mod Executing
 pub mod Progress
 pub mod Values
+pub mod Letters

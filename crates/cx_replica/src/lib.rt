@@ -5,5 +5,9 @@
 //! keeper, and a replica is opened exactly from the records that it could have appended.
 #![tactic(auto)]
 
+mod apply;
 mod machine;
+mod replica;
 mod sending;
+
+pub use replica::Replica;

@@ -11,12 +11,11 @@ ghost use Rattle.cx_msg.specs.Messages as message;
 ghost use Rattle.cx_model.specs.Replica.{new_machine, acting, execute, execute_all, execute_value, machine_from, results_from};
 ghost use Rattle.cx_table.specs.Judged.{judge_of};
 ghost use Rattle.cx_table.specs.declared.judge.Judge.TheVariants as judge;
-ghost use Rattle.cx_replica.specs.Replies.{HasTextIn};
 
 use crate::sending::send_results;
-use cx_base::{Answered, Cluster, Command, Duplicate, NoMemory, Reply, RoleId, Value};
+use cx_base::{Answered, Cluster, Command, Duplicate, NoMemory, RoleId, Value};
 use cx_kv::Store;
-use cx_msg::name_fits;
+use cx_msg::reply_fits;
 use cx_role::Outbox;
 use cx_table::{Judge, Table};
 use std::alloc::Global;
@@ -67,6 +66,7 @@ impl Machine {
     }
 
     /// Executes a command that acts, and adds its answer; `at` is one more than its slot.
+    #[tactic(auto, using(crate::proofs::Executing::reply_length))]
     fn act(
         &mut self,
         at: u64,
@@ -82,7 +82,7 @@ impl Machine {
         ensures fit { OnOk result (IsTrue (list_all (λ (a : Answered). message.answered.fits a) answers.new.items)) }
     {
         let reply = self.store.apply(command)?;
-        text_fits(&reply);
+        reply_fits(&reply);
         answers.push(Answered {
             client: command.client,
             seq: command.seq,
@@ -191,14 +191,5 @@ impl Machine {
             send_results(cluster, me, slot, answers, out);
         }
         Ok(())
-    }
-}
-
-// The text of a reply has a spelling.
-fn text_fits(reply: &Reply)
-    ensures { HasTextIn reply.now }
-{
-    if let Reply::Was(text) = reply {
-        name_fits(text);
     }
 }

@@ -1,7 +1,7 @@
 use Rattle.std.proofs.Common.{◌≡◌, true}
 use Rattle.cx_base.specs.declared.command.Answered.{Answered}
 use Rattle.cx_msg.specs.Messages.{answered}
-use Rattle.cx_replica.proofs.Executing.{acting_fits, notes_fit, one_more_fits}
+use Rattle.cx_replica.proofs.Executing.{answer_fits, notes_fit, one_more_fits}
 use Rattle.cx_replica.proofs.machine.Machine.act.Goals as goal
 use Rattle.cx_replica.proofs.machine.Machine.act.Goals.{After-push}
 
@@ -9,8 +9,7 @@ abbrev answer : After-push → Answered
 answer c = record { client = c.args.command.now.client; seq = c.args.command.now.seq; at = c.args.at; reply = c.in_ok-reply.reply }
 
 fits : (c : After-push) → answered.fits (answer c) ≡ true
-fits c =
-    acting_fits c.args.at (record { map = c.self.inside.store; notes = c.self.inside.table }) c.args.command.now c.in_ok-reply.reply c.requires.at c.requires.command c.in_ok-reply.ensures.reply c.text_fits.ensures
+fits c = answer_fits c.args.at c.args.command.now c.in_ok-reply.reply c.requires.at c.requires.command c.reply_fits.ensures
 
 pub invariant_of-self-2 : goal.invariant_of-self-2
 invariant_of-self-2 c =
