@@ -9,7 +9,7 @@ use Rattle.cx_base.specs.declared.command.Command.{Command}
 use Rattle.cx_base.specs.declared.command.Value.{Value}
 use Rattle.cx_base.specs.declared.command.Value.TheVariants.{Batch}
 use Rattle.cx_wire.specs.Format.{Format, u8, u64, each_fits}
-use Rattle.cx_msg.specs.Fields.{slot, command, commands, value}
+use Rattle.cx_msg.specs.Fields.{slot, mark, command, commands, value}
 use Rattle.cx_msg.specs.Messages.{answered, answers}
 use Rattle.cx_msg.specs.Records.{values}
 
@@ -46,3 +46,8 @@ values_in list h = sym (each_fits-same value [] list) ∙ ((and_parts _ _ ((and_
 pub slot_fits : (n : ℕ) → n < 2 ^ 40 → slot.fits n ≡ true
 unfolding slot u64
 slot_fits n below = grind (arith, nat_tests)
+
+-- each number up to the end of slots is a number of slots
+pub mark_fits : (n : ℕ) → n ≤ 2 ^ 40 → mark.fits n ≡ true
+unfolding mark u64
+mark_fits n most = grind (arith, nat_tests)

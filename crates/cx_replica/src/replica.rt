@@ -150,6 +150,7 @@ impl Role for Replica {
         Ok(Why::Stranger)
     }
 
+    #[tactic(auto, using(crate::proofs::Values::mark_fits))]
     fn tick(&mut self, out: &mut Outbox) -> Result<Why, NoMemory> {
         out.room(usize::from(self.cluster.leaders) + 1)?;
         let held = self.log.held();

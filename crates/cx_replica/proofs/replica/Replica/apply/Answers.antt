@@ -1,0 +1,29 @@
+use Rattle.std.proofs.Common.{◌≡◌, true, ap, sym, ◌∙◌, arith, subst, length, List}
+use Rattle.cx_base.specs.declared.command.Value.{Value}
+use Rattle.cx_replica.specs.Sound.{are_own}
+use Rattle.cx_replica.proofs.Rows.{own_fits, ready_own, sound_more, still_own}
+use Rattle.cx_replica.proofs.Values.{values_fit}
+use Rattle.cx_replica.proofs.replica.Replica.apply.Goals as goal
+use Rattle.cx_replica.proofs.replica.Replica.apply.Goals.{In_ok-values}
+
+own : (g : goal.Over) (c : In_ok-values g) → are_own c.self.inside.cluster c.in_ok-values.values ≡ true
+own g c =
+    subst (λ (vs : List Value). are_own c.self.inside.cluster vs ≡ true) (sym c.in_ok-values.ensures.values)
+    (ready_own c.self.inside.cluster (length c.self.inside.log.list) c.self.inside.log.early c.args.value.now (rw (← c.self.view_is) at c.requires.value) c.self.invariant.waiting)
+
+pub executed-requires-clause-slots : goal.executed-requires-clause-slots
+executed-requires-clause-slots g c = rw c.as_slice.ensures.items c.in_ok-values.ensures.short
+
+pub executed-requires-clause-values : goal.executed-requires-clause-values
+executed-requires-clause-values g c = rw c.as_slice.ensures.items (own_fits c.self.inside.cluster c.in_ok-values.values (own g (goal.at.executed-requires-clause-values g c).In_ok-values))
+
+pub append-requires : goal.append-requires
+append-requires g c = ?
+
+pub put-requires-clause-short : goal.put-requires-clause-short
+put-requires-clause-short g c = c.in_ok-values.ensures.short
+
+pub invariant_of-self-3 : goal.invariant_of-self-3
+invariant_of-self-3 g c =
+    let early = still_own c.self.inside.cluster (length c.put.new.self.list) c.self.inside.log.early c.self.invariant.waiting in
+    sound_more c.self.inside.cluster c.self.inside.me c.self.inside.log c.put.new.self c.self.inside.machine c.in_ok-machine.machine c.in_ok-values.values c.self.invariant ? (own g (goal.at.invariant_of-self-3 g c).In_ok-values) ? ?
