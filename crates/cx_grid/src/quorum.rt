@@ -15,7 +15,7 @@ pub fn meet(grid: &Grid, row: u8, col: u8) -> u16
     ensures in_row { IsTrue (is_in result (row_of grid.now row)) }
     ensures in_column { IsTrue (is_in result (column_of grid.now col)) }
 {
-    grid.members()[usize::from(row) * usize::from(grid.cols()) + usize::from(col)]
+    member_at(grid, row, col)
 }
 
 /// Whether an id is a member of the grid. It takes no memory.
@@ -28,11 +28,10 @@ pub fn is_member(grid: &Grid, id: u16) -> bool
 /// Whether an id is a member of a column of the grid; the first column is 0. It takes no memory.
 #[tactic(auto, using(crate::proofs::Crossing::numbers_more))]
 pub fn in_column(grid: &Grid, col: u8, id: u16) -> bool
-    requires { col < grid.now.cols }
     ensures { result ≡ is_in id (column_of grid.now col) }
 {
     for row in 0..grid.rows() {
-        if meet(grid, row, col) == id {
+        if member_at(grid, row, col) == id {
             return true;
         }
     }
@@ -72,11 +71,10 @@ pub fn meets()
 
 #[tactic(auto, using(crate::proofs::Crossing::numbers_more))]
 fn is_row_whole(grid: &Grid, marks: &Marks, row: u8) -> bool
-    requires { row < grid.now.rows }
     ensures { result ≡ is_whole (row_of grid.now row) marks.now }
 {
     for col in 0..grid.cols() {
-        if !marks.contains(meet(grid, row, col)) {
+        if !marks.contains(member_at(grid, row, col)) {
             return false;
         }
     }
@@ -85,15 +83,22 @@ fn is_row_whole(grid: &Grid, marks: &Marks, row: u8) -> bool
 
 #[tactic(auto, using(crate::proofs::Crossing::numbers_more))]
 fn is_column_whole(grid: &Grid, marks: &Marks, col: u8) -> bool
-    requires { col < grid.now.cols }
     ensures { result ≡ is_whole (column_of grid.now col) marks.now }
 {
     for row in 0..grid.rows() {
-        if !marks.contains(meet(grid, row, col)) {
+        if !marks.contains(member_at(grid, row, col)) {
             return false;
         }
     }
     true
+}
+
+/// The member at a row and a column; past the last one it is 0, as in the definition.
+fn member_at(grid: &Grid, row: u8, col: u8) -> u16
+    ensures { result ≡ member_at grid.now row col }
+{
+    let place = usize::from(row) * usize::from(grid.cols()) + usize::from(col);
+    grid.members().get(place).copied().unwrap_or(0)
 }
 
 fn is_among(ids: &[u16], id: u16) -> bool
