@@ -2,7 +2,7 @@
 use Rattle.std.proofs.Common.{◌≡◌, ℕ, zero, suc, ◌+◌, ◌-◌, ◌<◌, ◌≤◌, ◌^◌, ◌==◌, Bool, true, false, ◌&&◌, List, [], ◌∷◌, ◌++◌, length, Option, None, Some, refl, ap, sym, ◌∙◌, subst, inl, inr, arith, IsTrue}
 use Rattle.std.specs.Prelude.{nat_lt, nat_le, min, if◌then◌else◌}
 use Rattle.std.specs.List.{list_all}
-use Rattle.std.proofs.lemmas.Bool.{and_from, and_parts, cases_Bool}
+use Rattle.std.proofs.lemmas.Bool.{and_from, and_parts, cases_Bool, eqb-true}
 use Rattle.std.proofs.lemmas.Bool.Decides.{nat_tests}
 use Rattle.std.proofs.lemmas.List.{length-append}
 use Rattle.std.proofs.lemmas.List.Folds.{list_all-append}
@@ -22,6 +22,8 @@ use Rattle.cx_model.specs.Rules.{IsFit}
 use Rattle.cx_replica.specs.Sound.{is_own, are_own, are_own_early, IsSound}
 use Rattle.cx_replica.proofs.Values.{values_in}
 use Rattle.cx_rlog.specs.State.{LogState}
+use Rattle.cx_rlog.specs.Taken.{taken_at}
+use Rattle.cx_rlog.specs.declared.taken.Taken.TheVariants as taken
 
 -- values that follow others are executed behind them
 machine_from-append : (n : ℕ) (m : Machine) (vs ws : List Value) → machine_from n m (vs ++ ws) ≡ machine_from (n + length vs) (machine_from n m vs) ws
@@ -133,3 +135,22 @@ sound_more c me log new m n vs sound list own early ran = record {
 
 pub none_own : (c : Cluster) (log : LogState) (list : List Value) (spare : ℕ) → log ≡ record { list = list; early = []; spare = spare } → are_own_early c log.early ≡ true
 none_own c log list spare is = subst (λ (l : LogState). are_own_early c l.early ≡ true) (sym is) refl
+
+next_is : (held s : ℕ) → taken.Next ≡ taken_at held s → s ≡ held
+next_is held s e = elim (cases_Bool (nat_lt s held)) as (λ _. s ≡ held) [
+  | inl t ↦ let past : taken.Next ≡ taken.Past = rw t at e in cc
+  | inr f ↦ elim (cases_Bool (nat_le (held + 32) s)) as (λ _. s ≡ held) [
+    | inl t ↦ let full : taken.Next ≡ taken.Full = rw (f, t) at e in cc
+    | inr g ↦ elim (cases_Bool (s == held)) as (λ _. s ≡ held) [
+      | inl t ↦ eqb-true s held t
+      | inr h ↦ let early : taken.Next ≡ taken.Early = rw (f, g, h) at e in cc
+    ]
+  ]
+]
+
+-- the next slot is below the end of slots where it is taken
+pub next_below : (old new : LogState) (early : List Placed) (s : ℕ) → taken.Next ≡ taken_at (length old.list) s → new ≡ record old { early = early } → s < 2 ^ 40 → length new.list < 2 ^ 40
+next_below old new early s next is below =
+    let here : s ≡ length old.list = next_is (length old.list) s next in
+    let same : length new.list ≡ length old.list = ap (λ (l : LogState). length l.list) is in
+    omega arith
