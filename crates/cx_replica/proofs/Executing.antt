@@ -1,6 +1,6 @@
 -- What a command is answered, and that its answer fits.
-use Rattle.std.proofs.Common.{◌≡◌, ℕ, ◌+◌, ◌<◌, ◌≤◌, ◌^◌, ◌==◌, Bool, true, false, ◌&&◌, List, [], ◌∷◌, ◌++◌, length, Option, None, Some, Result, Ok, Err, OnOk, OnErr, inl, inr, refl, ap, sym, ◌∙◌, subst, arith, IsTrue}
-use Rattle.std.specs.Prelude.{nat_lt, nat_le, if◌then◌else◌, option_to_list}
+use Rattle.std.proofs.Common.{◌≡◌, ℕ, ◌+◌, ◌<◌, ◌≤◌, ◌^◌, ◌==◌, Bool, true, false, ◌&&◌, List, [], ◌∷◌, ◌++◌, length, Option, None, Some, Result, Ok, Err, OnOk, OnErr, inl, inr, refl, arith}
+use Rattle.std.specs.Prelude.{nat_lt, if◌then◌else◌}
 use Rattle.std.specs.List.{list_all}
 use Rattle.std.proofs.lemmas.Bool.{and_from, and_parts, cases_Bool, eqb-true}
 use Rattle.std.proofs.lemmas.Bool.Decides.{nat_tests}
@@ -12,16 +12,15 @@ use Rattle.cx_base.specs.declared.command.Op.{Op}
 use Rattle.cx_base.specs.declared.command.Op.TheVariants.{Put, Del, App}
 use Rattle.cx_base.specs.declared.command.Pair.{Pair}
 use Rattle.cx_base.specs.declared.command.Reply.{Reply}
-use Rattle.cx_base.specs.declared.command.Reply.TheVariants.{Okay, Was, Absent, Len, Full}
+use Rattle.cx_base.specs.declared.command.Reply.TheVariants.{Len, Full}
 use Rattle.cx_base.specs.Fold.{reply_of, reply_removed, reply_appended, text_at}
 use Rattle.cx_base.specs.Noted.{noted_for, with_answer}
 use Rattle.cx_wire.specs.Format.{u8, u16, u64}
 use Rattle.cx_msg.specs.Fields.{at, slot, seq, name, op, command, reply}
 use Rattle.cx_msg.specs.Messages.{answered}
 use Rattle.cx_msg.specs.Ranges.{is_text_len}
-use Rattle.cx_model.specs.Replica.{Machine, Executed, acting, execute, execute_behind, execute_all}
+use Rattle.cx_model.specs.Replica.{Machine, execute, execute_behind, execute_all}
 use Rattle.cx_table.specs.Judged.{judged, judge_of}
-use Rattle.cx_table.specs.declared.judge.Judge.{Judge}
 use Rattle.cx_table.specs.declared.judge.Judge.TheVariants as judge
 
 -- a text that fits has 1 to limit bytes
@@ -95,9 +94,9 @@ last_noted client seq n r notes e = go (noted_for client notes) refl e
       | inl t ↦ let new : judge.New ≡ judge.Last n r = rw t at e in cc
       | inr f ↦ elim (cases_Bool (a.seq == seq)) as (λ _. Some a ≡ Some (record { client = client; seq = seq; at = n; reply = r })) [
         | inl t ↦
-          let last : judge.Last a.at a.reply ≡ judge.Last n r = rw (f, t) at e in
-          let whole = record_is a client seq (noted_client client notes a is) (eqb-true a.seq seq t) in
-          cc
+            let last : judge.Last a.at a.reply ≡ judge.Last n r = rw (f, t) at e in
+            let whole = record_is a client seq (noted_client client notes a is) (eqb-true a.seq seq t) in
+            cc
         | inr g ↦ let past : judge.Past ≡ judge.Last n r = rw (f, g) at e in cc
       ]
     ]

@@ -1,22 +1,20 @@
 -- What is so of the values that are ready, and of a replica behind them.
-use Rattle.std.proofs.Common.{◌≡◌, ℕ, zero, suc, ◌+◌, ◌-◌, ◌<◌, ◌≤◌, ◌^◌, ◌==◌, Bool, true, false, ◌&&◌, List, [], ◌∷◌, ◌++◌, length, Option, None, Some, refl, ap, sym, ◌∙◌, subst, inl, inr, arith, IsTrue}
-use Rattle.std.specs.Prelude.{nat_lt, nat_le, min, if◌then◌else◌}
+use Rattle.std.proofs.Common.{◌≡◌, ℕ, zero, suc, ◌+◌, ◌-◌, ◌<◌, ◌≤◌, ◌^◌, ◌==◌, true, List, [], ◌∷◌, ◌++◌, length, Option, None, Some, refl, ap, sym, ◌∙◌, subst, inl, inr, arith}
+use Rattle.std.specs.Prelude.{nat_lt, nat_le, min}
 use Rattle.std.specs.List.{list_all}
 use Rattle.std.proofs.lemmas.Bool.{and_from, and_parts, cases_Bool, eqb-true}
 use Rattle.std.proofs.lemmas.Bool.Decides.{nat_tests}
-use Rattle.std.proofs.lemmas.List.{length-append}
 use Rattle.std.proofs.lemmas.List.Folds.{list_all-append}
 use Rattle.cx_base.specs.declared.cluster.Cluster.{Cluster}
 use Rattle.cx_base.specs.declared.command.Placed.{Placed}
 use Rattle.cx_base.specs.declared.command.Value.{Value}
 use Rattle.cx_base.specs.declared.role.RoleId.{RoleId}
 use Rattle.cx_base.specs.Log.{value_for, before_following, following, ready_values, still_early}
-use Rattle.cx_wire.specs.Format.{u64}
-use Rattle.cx_msg.specs.Fields.{slot, value}
+use Rattle.cx_msg.specs.Fields.{value}
 use Rattle.cx_msg.specs.Records.{kept_record, fits as record_fits}
 use Rattle.cx_msg.specs.declared.kept.Record.TheVariants as kept
 use Rattle.cx_model.specs.Names.{names_value}
-use Rattle.cx_model.specs.Outcome.{Outcome, either_way, by_test}
+use Rattle.cx_model.specs.Outcome.{Outcome, by_test}
 use Rattle.cx_model.specs.Replica.{Machine, ReplicaDurable, ReplicaVolatile, execute_value, machine_from, machine_of, chosen_row, replica_rules, replica_fits}
 use Rattle.cx_model.specs.Rules.{IsFit}
 use Rattle.cx_replica.specs.Sound.{is_own, are_own, are_own_early, IsSound}
@@ -110,9 +108,9 @@ chosen_fits c me d v s w below one own =
     (λ past. by_test Fits (nat_le (length d.log + 32) s) _ _ (λ _. tt)
     (λ far. by_test Fits (nat_lt (length d.log) s) _ _ (λ _. tt)
     (λ early.
-        let under : length d.log < 2 ^ 40 = grind (arith, nat_tests) in
-        let short = ready_short (length d.log) v.early w under in
-        and_from _ _ (own_named c (ready_values (length d.log) v.early w) (ready_own c (length d.log) v.early w one own)) (grind (arith, nat_tests)))))
+    let under : length d.log < 2 ^ 40 = grind (arith, nat_tests) in
+    let short = ready_short (length d.log) v.early w under in
+    and_from _ _ (own_named c (ready_values (length d.log) v.early w) (ready_own c (length d.log) v.early w one own)) (grind (arith, nat_tests)))))
 
 pub log_fits : (vs : List Value) → record_fits (kept.Log vs) ≡ true → list_all (λ (v : Value). value.fits v) vs ≡ true
 unfolding kept_record

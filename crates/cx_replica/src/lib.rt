@@ -11,3 +11,6 @@ mod replica;
 mod sending;
 
 pub use replica::Replica;
+
+#[cfg(test)]
+mod tests;

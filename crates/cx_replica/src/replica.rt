@@ -1,6 +1,6 @@
 //! A replica's state, and how it is opened.
 
-ghost use Rattle.std.specs.Prelude.{◌≡◌, ◌<◌, [], true, IfOk, OnOk, IsTrue};
+ghost use Rattle.std.specs.Prelude.{◌≡◌, ◌<◌, [], true, IfOk, IsTrue};
 ghost use Rattle.std.specs.List.{list_all};
 ghost use Rattle.cx_base.specs.declared.command.Value.{Value};
 ghost use Rattle.cx_base.specs.declared.role.Kind.TheVariants as kind;
@@ -11,7 +11,7 @@ ghost use Rattle.cx_msg.specs.Records.{fits as record_fits};
 
 use crate::machine::Machine;
 use crate::sending::{ask_next, tell_held};
-use cx_base::{Cluster, Duplicate, NoMemory, Order, RoleId, Value, Why};
+use cx_base::{Cluster, NoMemory, Order, RoleId, Value, Why};
 use cx_keeper::Keeper;
 use cx_msg::{Datagram, Msg, Record};
 use cx_rlog::Log;
@@ -73,21 +73,35 @@ impl Replica {
         }
     }
 
-    /// Remembers a record that it could have appended, before it has taken anything.
-    fn remember(&mut self, what: &Record) -> Result<(), NoMemory>
+    /// The replica once it remembers a record that it could have appended, before it has taken anything.
+    fn remember(self, what: &Record) -> Result<Self, NoMemory>
         requires ranges { IsTrue (record_fits what.now) }
-        requires own { replica_fits self.old.cluster self.old.me self.old.durable what.now ≡ true }
-        requires none_early { self.old.volatile.early ≡ [] }
-        ensures { OnOk result (self.new ≡ record self.old { durable = replica_after self.old.durable what.now }) }
+        requires own { replica_fits self.cluster self.me self.durable what.now ≡ true }
+        requires none_early { self.volatile.early ≡ [] }
+        ensures { IfOk result (λ replica. replica ≡ record self { durable = replica_after self.durable what.now }) }
     {
-        if let Record::Log { values } = what {
-            let values = values.as_slice();
-            let mut machine = self.machine.copy(self.alloc)?;
-            machine.replay(self.log.held(), values)?;
-            self.log.restore(self.alloc, values)?;
-            self.machine = machine;
-        }
-        Ok(())
+        let Record::Log { values } = what else {
+            return Ok(self);
+        };
+        let Replica {
+            alloc,
+            cluster,
+            me,
+            live,
+            mut log,
+            mut machine,
+        } = self;
+        let values = values.as_slice();
+        machine.replay(log.held(), values)?;
+        log.restore(alloc, values)?;
+        Ok(Replica {
+            alloc,
+            cluster,
+            me,
+            live,
+            log,
+            machine,
+        })
     }
 }
 
@@ -121,7 +135,7 @@ impl Role for Replica {
             if !replica.fits(record) {
                 return Err(WakeFault::Record { index });
             }
-            replica.remember(record)?;
+            replica = replica.remember(record)?;
         }
         Ok(replica)
     }

@@ -1,4 +1,4 @@
-use Rattle.std.proofs.Common.{sym, ◌≡◌, ◌∷◌, [], ◌++◌, ap, ◌∙◌, List}
+use Rattle.std.proofs.Common.{sym, ◌++◌, ap, ◌∙◌, List}
 use Rattle.cx_base.specs.declared.command.Answered.{Answered}
 use Rattle.cx_replica.proofs.Executing.{last_answers, last_fits, one_more_fits}
 use Rattle.cx_replica.proofs.machine.Machine.execute.Goals as goal

@@ -1,4 +1,4 @@
-use Rattle.std.proofs.Common.{◌≡◌, true, ap, sym, ◌∙◌, arith, subst, length, List, ◌++◌, refl}
+use Rattle.std.proofs.Common.{◌≡◌, true, sym, subst, length, List, ◌++◌, refl}
 use Rattle.cx_base.specs.declared.command.Value.{Value}
 use Rattle.cx_replica.specs.Sound.{are_own, are_own_early}
 use Rattle.cx_model.specs.Replica.{machine_from}
@@ -33,7 +33,7 @@ invariant_of-self-3 g c =
     let all = own g (goal.at.invariant_of-self-3 g c).In_ok-values in
     let list : c.put.new.self.list ≡ log.list ++ c.in_ok-values.values = rw (c.put.ensures.list, c.ready.ensures.list) refl in
     let early : are_own_early c.self.inside.cluster c.put.new.self.early ≡ true =
-      rw (c.put.ensures.early, c.ready.ensures.early) (still_own c.self.inside.cluster (length c.put.new.self.list) log.early c.self.invariant.waiting) in
+    rw (c.put.ensures.early, c.ready.ensures.early) (still_own c.self.inside.cluster (length c.put.new.self.list) log.early c.self.invariant.waiting) in
     let ran : c.in_ok-machine.machine ≡ machine_from (length log.list) c.self.inside.machine c.in_ok-values.values =
-      rw (c.in_ok-machine.ensures.machine, c.ready.ensures.list, c.as_slice.ensures.items, c.self.invariant.machine) refl in
+    rw (c.in_ok-machine.ensures.machine, c.ready.ensures.list, c.as_slice.ensures.items, c.self.invariant.machine) refl in
     sound_more c.self.inside.cluster c.self.inside.me log c.put.new.self c.self.inside.machine c.in_ok-machine.machine c.in_ok-values.values c.self.invariant list all early ran
