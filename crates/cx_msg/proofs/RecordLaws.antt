@@ -17,15 +17,12 @@ unfolding values
 values-exact = counted-exact (only (λ n. nat_le 1 n && nat_le n 32) u8) (λ _. value) (only-exact (λ n. nat_le 1 n && nat_le n 32) u8 u8-exact) (λ _. value-exact)
 
 vote-exact : IsExact vote
-unfolding vote
 vote-exact = ▷-exact round (slot ▷ (mark ▷ value)) round-exact (▷-exact slot (mark ▷ value) slot-exact (▷-exact mark value mark-exact value-exact))
 
 round_mark-exact : IsExact round_mark
-unfolding round_mark
 round_mark-exact = ▷-exact round mark round-exact mark-exact
 
 round_grid-exact : IsExact round_grid
-unfolding round_grid
 round_grid-exact = ▷-exact round grid round-exact grid-exact
 
 records-sound : AllSound record_shape record_cases

@@ -13,13 +13,13 @@ use Rattle.cx_msg.specs.declared.fault.WireFault.TheVariants as faults
 unfoldable pub values : Format (List Value)
 values = counted (only (λ n. nat_le 1 n && nat_le n 32) u8) (λ _. value)
 
-unfoldable pub vote : Format (Round × (ℕ × (ℕ × Value)))
+abbrev pub vote : Format (Round × (ℕ × (ℕ × Value)))
 vote = round ▷ slot ▷ mark ▷ value
 
-unfoldable pub round_mark : Format (Round × ℕ)
+abbrev pub round_mark : Format (Round × ℕ)
 round_mark = round ▷ mark
 
-unfoldable pub round_grid : Format (Round × GridShape)
+abbrev pub round_grid : Format (Round × GridShape)
 round_grid = round ▷ grid
 
 -- a record's tag and its fields
@@ -46,8 +46,9 @@ record_cases =
 unfoldable pub kept_record : Format Record
 kept_record = tagged record_shape record_cases
 
+-- whether each field of a record is in its range
 abbrev pub fits : Record → Bool
-fits r = kept_record.fits r
+fits r = (record_shape r).fits
 
 -- the bytes of a record
 abbrev pub spelling : Record → List ℕ

@@ -1,4 +1,5 @@
-//! The datagrams that roles send, each with the ranges of its parts, which its sender owes. None takes memory.
+//! The datagrams that roles send, but for those of reads, each with the ranges of its parts, which its sender owes. None
+//! takes memory.
 
 ghost use Rattle.std.specs.Prelude.{◌≡◌, ◌≤◌, IsTrue};
 ghost use Rattle.cx_base.specs.Role.{role};
@@ -9,9 +10,9 @@ ghost use Rattle.cx_msg.specs.Messages as message;
 ghost use Rattle.cx_msg.specs.Messages.{in_window};
 
 use crate::datagram::Datagram;
-use crate::message::{Answers, Entries, Msg, Token, Votes};
-use crate::ranges::{grid_fits, name_fits, op_fits};
-use cx_base::{Command, Commands, Grid, Key, Kind, Reply, RoleId, Round, Text, Value};
+use crate::message::{Answers, Entries, Msg, Votes};
+use crate::ranges::{grid_fits, op_fits};
+use cx_base::{Command, Commands, Grid, Kind, Reply, RoleId, Round, Value};
 
 /// A client's command, handed to a batcher.
 #[tactic(auto, unfolding(crate::specs::Fields::command, cx_wire::specs::Format::u16))]
@@ -282,14 +283,71 @@ pub fn answer(unbatcher: u16, client: u16, seq: u64, at: u64, reply: Reply) -> D
     Datagram::new(from, to, Msg::Answer { seq, at, reply })
 }
 
-/// A client's read of a key, for a reader; a replica is to answer it.
-#[tactic(auto, unfolding(crate::specs::Messages::read_req, cx_wire::specs::Format::u16))]
-pub fn read_req(client: u16, reader: u16, seq: u64, replica: u16, key: Key) -> Datagram
-    requires seq { IsTrue (field.seq.fits seq) }
-    ensures { result ≡ letter (role Kind.Client client) (role Kind.Reader reader) (Msg.ReadReq seq replica key) }
+/// A replica's word to a leader that it holds so many slots.
+#[tactic(auto, unfolding(cx_wire::specs::Format::u16))]
+pub fn held(replica: u16, leader: u16, mark: u64) -> Datagram
+    requires mark { IsTrue (field.mark.fits mark) }
+    ensures { result ≡ letter (role Kind.Replica replica) (role Kind.Leader leader) (Msg.Held mark) }
 {
-    name_fits(&key);
-    let from = RoleId::new(Kind::Client, client);
-    let to = RoleId::new(Kind::Reader, reader);
-    Datagram::new(from, to, Msg::ReadReq { seq, replica, key })
+    let from = RoleId::new(Kind::Replica, replica);
+    let to = RoleId::new(Kind::Leader, leader);
+    Datagram::new(from, to, Msg::Held { mark })
+}
+
+/// A replica's question to another for the value of the next slot that it wants.
+#[tactic(auto, unfolding(cx_wire::specs::Format::u16))]
+pub fn fetch(replica: u16, other: u16, mark: u64) -> Datagram
+    requires mark { IsTrue (field.mark.fits mark) }
+    ensures { result ≡ letter (role Kind.Replica replica) (role Kind.Replica other) (Msg.Fetch mark) }
+{
+    let from = RoleId::new(Kind::Replica, replica);
+    let to = RoleId::new(Kind::Replica, other);
+    Datagram::new(from, to, Msg::Fetch { mark })
+}
+
+/// A leader's word to an acceptor that enough replicas hold so many slots.
+#[tactic(auto, unfolding(crate::specs::Messages::round_mark, cx_wire::specs::Format::u16))]
+pub fn inform(leader: u16, acceptor: u16, round: Round, mark: u64) -> Datagram
+    requires round { IsTrue (field.round.fits round) }
+    requires mark { IsTrue (field.mark.fits mark) }
+    ensures { result ≡ letter (role Kind.Leader leader) (role Kind.Acceptor acceptor) (Msg.Inform round mark) }
+{
+    let from = RoleId::new(Kind::Leader, leader);
+    let to = RoleId::new(Kind::Acceptor, acceptor);
+    Datagram::new(from, to, Msg::Inform { round, mark })
+}
+
+/// An acceptor's word that it knows how many slots enough replicas hold.
+#[tactic(auto, unfolding(crate::specs::Messages::round_mark, cx_wire::specs::Format::u16))]
+pub fn informed(acceptor: u16, leader: u16, round: Round, mark: u64) -> Datagram
+    requires round { IsTrue (field.round.fits round) }
+    requires mark { IsTrue (field.mark.fits mark) }
+    ensures { result ≡ letter (role Kind.Acceptor acceptor) (role Kind.Leader leader) (Msg.Informed round mark) }
+{
+    let from = RoleId::new(Kind::Acceptor, acceptor);
+    let to = RoleId::new(Kind::Leader, leader);
+    Datagram::new(from, to, Msg::Informed { round, mark })
+}
+
+/// A leader's question whether a matchmaker forgets the rounds below its own.
+#[tactic(auto, unfolding(crate::specs::Messages::round_grid, cx_wire::specs::Format::u16))]
+pub fn garbage_a(leader: u16, matchmaker: u16, round: Round, grid: Grid) -> Datagram
+    requires round { IsTrue (field.round.fits round) }
+    ensures { result ≡ letter (role Kind.Leader leader) (role Kind.Matchmaker matchmaker) (Msg.GarbageA round grid) }
+{
+    grid_fits(&grid);
+    let from = RoleId::new(Kind::Leader, leader);
+    let to = RoleId::new(Kind::Matchmaker, matchmaker);
+    Datagram::new(from, to, Msg::GarbageA { round, grid })
+}
+
+/// A matchmaker's word that it forgot the rounds below this one.
+#[tactic(auto, unfolding(cx_wire::specs::Format::u16))]
+pub fn garbage_b(matchmaker: u16, leader: u16, round: Round) -> Datagram
+    requires round { IsTrue (field.round.fits round) }
+    ensures { result ≡ letter (role Kind.Matchmaker matchmaker) (role Kind.Leader leader) (Msg.GarbageB round) }
+{
+    let from = RoleId::new(Kind::Matchmaker, matchmaker);
+    let to = RoleId::new(Kind::Leader, leader);
+    Datagram::new(from, to, Msg::GarbageB { round })
 }

@@ -22,6 +22,7 @@ mod message;
 mod put;
 mod put_bodies;
 mod ranges;
+mod read_letters;
 mod reader;
 mod records;
 mod roles;
@@ -33,9 +34,16 @@ pub use fault::WireFault;
 pub use input::{Act, Input, KeptRecord};
 pub use kept::{LogValues, Record};
 pub use letters::{
-    answer, batch, chosen, chosen_in, fetched, leads, match_a, match_b, match_nack, nack, phase1a,
-    phase1b, phase2a, phase2b, propose, read_req, results, submit,
+    answer, batch, chosen, chosen_in, fetch, fetched, garbage_a, garbage_b, held, inform, informed,
+    leads, match_a, match_b, match_nack, nack, phase1a, phase1b, phase2a, phase2b, propose,
+    results, submit,
 };
 pub use message::{Answers, Entries, Entry, Msg, Token, Vote, Votes};
-pub use ranges::{grid_fits, name_fits, op_fits};
+pub use ranges::{found_fits, grid_fits, name_fits, op_fits, reply_fits};
+pub use read_letters::{
+    match_read, match_read_ack, pre_read, pre_read_ack, read, read_answer, read_req,
+};
 pub use records::{record_from, record_into};
+
+#[cfg(test)]
+mod tests;

@@ -4,8 +4,10 @@ ghost use Rattle.std.specs.Prelude.{◌≡◌, ◌<◌, ◌≤◌, ℕ, slice_in
 ghost use Rattle.cx_base.specs.Grid.{IsGrid};
 ghost use Rattle.cx_base.specs.Name.{IsName};
 ghost use Rattle.cx_msg.specs.Fields as field;
+ghost use Rattle.cx_msg.specs.Messages as message;
+ghost use Rattle.cx_msg.specs.Ranges.{is_text_len};
 
-use cx_base::{Grid, Name, Op};
+use cx_base::{Grid, Name, Op, Reply, Text};
 
 // Ids take two bytes.
 fn ids_fit(ids: &[u16])
@@ -38,5 +40,28 @@ pub fn op_fits(op: &Op)
             name_fits(text);
         }
         Op::Del(key) => name_fits(key),
+    }
+}
+
+/// What a read found has a spelling.
+#[tactic(auto, unfolding(crate::specs::Messages::found))]
+pub fn found_fits(found: &Option<Text>)
+    ensures { IsTrue (message.found.fits found.now) }
+{
+    match found {
+        Some(text) => name_fits(text),
+        None => {}
+    }
+}
+
+/// A reply has a spelling, where a length in it is that of a text, 1 to 64.
+#[tactic(auto, unfolding(crate::specs::Fields::reply, crate::specs::Fields::reply_len, cx_wire::specs::Format::u8))]
+pub fn reply_fits(reply: &Reply)
+    requires { IsTrue (is_text_len reply.now) }
+    ensures { IsTrue (field.reply.fits reply.now) }
+{
+    match reply {
+        Reply::Was(text) => name_fits(text),
+        Reply::Okay | Reply::Absent | Reply::Len(_) | Reply::Full => {}
     }
 }

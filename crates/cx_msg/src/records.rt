@@ -31,7 +31,7 @@ fn values_from(alloc: Global, reader: &mut Reader<'_>) -> Result<LogValues, Read
     Ok(Few::from_vec(list))
 }
 
-#[tactic(auto, unfolding(crate::specs::Records::record_cases, crate::specs::Records::vote, crate::specs::Records::round_mark, crate::specs::Records::round_grid))]
+#[tactic(auto, unfolding(crate::specs::Records::record_cases))]
 fn fields_from(tag: u8, alloc: Global, reader: &mut Reader<'_>) -> Result<Record, ReadFault>
     ensures { Gives (λ r. r) result (wire.by_tag records.record_cases tag (length reader.old) reader.old) reader.new }
 {
@@ -134,7 +134,6 @@ fn put_values(out: &mut Vec<u8>, values: &LogValues) -> Result<(), NoMemory>
     put_items(&ValueItems, list, out)
 }
 
-#[tactic(auto, unfolding(crate::specs::Records::vote))]
 fn put_vote(
     out: &mut Vec<u8>,
     round: &Round,
@@ -150,7 +149,7 @@ fn put_vote(
     put_value(out, value)
 }
 
-#[tactic(auto, unfolding(crate::specs::Records::kept_record, crate::specs::Records::round_mark, crate::specs::Records::round_grid))]
+#[tactic(auto, unfolding(crate::specs::Records::kept_record))]
 fn put_record(out: &mut Vec<u8>, kept: &Record) -> Result<(), NoMemory>
     ensures { OnOk result (Appends records.kept_record kept.now 27970 out.old.items out.new.items) }
 {

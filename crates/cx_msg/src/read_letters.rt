@@ -1,0 +1,128 @@
+//! The datagrams of reads, each with the ranges of its parts, which its sender owes. None takes memory.
+
+ghost use Rattle.std.specs.Prelude.{◌≡◌, IsTrue};
+ghost use Rattle.cx_base.specs.Role.{role};
+ghost use Rattle.cx_base.specs.declared.role.Kind.{Kind};
+ghost use Rattle.cx_msg.specs.Fields as field;
+ghost use Rattle.cx_msg.specs.Letter.{letter};
+ghost use Rattle.cx_msg.specs.Messages as message;
+
+use crate::datagram::Datagram;
+use crate::message::{Entries, Msg, Token};
+use crate::ranges::{found_fits, name_fits};
+use cx_base::{Key, Kind, RoleId, Round, Text};
+
+/// A client's read of a key, for a reader; a replica is to answer it.
+#[tactic(auto, unfolding(crate::specs::Messages::read_req, cx_wire::specs::Format::u16))]
+pub fn read_req(client: u16, reader: u16, seq: u64, replica: u16, key: Key) -> Datagram
+    requires seq { IsTrue (field.seq.fits seq) }
+    ensures { result ≡ letter (role Kind.Client client) (role Kind.Reader reader) (Msg.ReadReq seq replica key) }
+{
+    name_fits(&key);
+    let from = RoleId::new(Kind::Client, client);
+    let to = RoleId::new(Kind::Reader, reader);
+    Datagram::new(from, to, Msg::ReadReq { seq, replica, key })
+}
+
+/// A reader's question for a matchmaker's entries.
+#[tactic(auto, unfolding(cx_wire::specs::Format::u16))]
+pub fn match_read(reader: u16, matchmaker: u16, token: Token) -> Datagram
+    requires token { IsTrue (message.token.fits token) }
+    ensures { result ≡ letter (role Kind.Reader reader) (role Kind.Matchmaker matchmaker) (Msg.MatchRead token) }
+{
+    let from = RoleId::new(Kind::Reader, reader);
+    let to = RoleId::new(Kind::Matchmaker, matchmaker);
+    Datagram::new(from, to, Msg::MatchRead { token })
+}
+
+/// A matchmaker's entries, for a reader.
+#[tactic(auto, unfolding(crate::specs::Messages::match_read_ack, cx_wire::specs::Format::u16))]
+pub fn match_read_ack(
+    matchmaker: u16,
+    reader: u16,
+    token: Token,
+    watermark: Round,
+    entries: Entries,
+) -> Datagram
+    requires token { IsTrue (message.token.fits token) }
+    requires watermark { IsTrue (field.round0.fits watermark) }
+    requires entries { IsTrue (message.entries.fits entries) }
+    ensures { result ≡ letter (role Kind.Matchmaker matchmaker) (role Kind.Reader reader) (Msg.MatchReadAck token watermark entries) }
+{
+    let from = RoleId::new(Kind::Matchmaker, matchmaker);
+    let to = RoleId::new(Kind::Reader, reader);
+    Datagram::new(
+        from,
+        to,
+        Msg::MatchReadAck {
+            token,
+            watermark,
+            entries,
+        },
+    )
+}
+
+/// A reader's question how far an acceptor voted.
+#[tactic(auto, unfolding(crate::specs::Messages::pre_read, cx_wire::specs::Format::u16))]
+pub fn pre_read(reader: u16, acceptor: u16, token: Token, watermark: Round) -> Datagram
+    requires token { IsTrue (message.token.fits token) }
+    requires watermark { IsTrue (field.round0.fits watermark) }
+    ensures { result ≡ letter (role Kind.Reader reader) (role Kind.Acceptor acceptor) (Msg.PreRead token watermark) }
+{
+    let from = RoleId::new(Kind::Reader, reader);
+    let to = RoleId::new(Kind::Acceptor, acceptor);
+    Datagram::new(from, to, Msg::PreRead { token, watermark })
+}
+
+/// An acceptor's word to a reader that it voted in no slot from the mark on.
+#[tactic(auto, unfolding(crate::specs::Messages::pre_read_ack, cx_wire::specs::Format::u16))]
+pub fn pre_read_ack(
+    acceptor: u16,
+    reader: u16,
+    token: Token,
+    watermark: Round,
+    mark: u64,
+) -> Datagram
+    requires token { IsTrue (message.token.fits token) }
+    requires watermark { IsTrue (field.round0.fits watermark) }
+    requires mark { IsTrue (field.mark.fits mark) }
+    ensures { result ≡ letter (role Kind.Acceptor acceptor) (role Kind.Reader reader) (Msg.PreReadAck token watermark mark) }
+{
+    let from = RoleId::new(Kind::Acceptor, acceptor);
+    let to = RoleId::new(Kind::Reader, reader);
+    Datagram::new(
+        from,
+        to,
+        Msg::PreReadAck {
+            token,
+            watermark,
+            mark,
+        },
+    )
+}
+
+/// A reader's question for a key, for a replica that holds so many slots.
+#[tactic(auto, unfolding(crate::specs::Messages::read_key, cx_wire::specs::Format::u16))]
+pub fn read(reader: u16, replica: u16, token: Token, mark: u64, key: Key) -> Datagram
+    requires token { IsTrue (message.token.fits token) }
+    requires mark { IsTrue (field.mark.fits mark) }
+    ensures { result ≡ letter (role Kind.Reader reader) (role Kind.Replica replica) (Msg.Read token mark key) }
+{
+    name_fits(&key);
+    let from = RoleId::new(Kind::Reader, reader);
+    let to = RoleId::new(Kind::Replica, replica);
+    Datagram::new(from, to, Msg::Read { token, mark, key })
+}
+
+/// A replica's answer to a client's read, where it holds so many slots.
+#[tactic(auto, unfolding(crate::specs::Messages::read_answer, cx_wire::specs::Format::u16))]
+pub fn read_answer(replica: u16, client: u16, seq: u64, mark: u64, found: Option<Text>) -> Datagram
+    requires seq { IsTrue (field.seq.fits seq) }
+    requires mark { IsTrue (field.mark.fits mark) }
+    ensures { result ≡ letter (role Kind.Replica replica) (role Kind.Client client) (Msg.ReadAnswer seq mark found) }
+{
+    found_fits(&found);
+    let from = RoleId::new(Kind::Replica, replica);
+    let to = RoleId::new(Kind::Client, client);
+    Datagram::new(from, to, Msg::ReadAnswer { seq, mark, found })
+}

@@ -1,0 +1,5 @@
+pub mod Executing
+pub mod Progress
+pub mod Values
+pub mod Letters
+pub mod Rows

@@ -1,0 +1,39 @@
+use Rattle.std.proofs.Common.{◌≡◌, true, sym, subst, length, List, ◌++◌, refl}
+use Rattle.cx_base.specs.declared.command.Value.{Value}
+use Rattle.cx_replica.specs.Sound.{are_own, are_own_early}
+use Rattle.cx_model.specs.Replica.{machine_from}
+use Rattle.cx_replica.proofs.Rows.{own_fits, ready_own, sound_more, still_own}
+use Rattle.cx_replica.proofs.Values.{values_fit}
+use Rattle.cx_replica.proofs.replica.Replica.apply.Given.{Over}
+use Rattle.cx_replica.proofs.replica.Replica.apply.Goals as goal
+use Rattle.cx_replica.proofs.replica.Replica.apply.Goals.{In_ok-values}
+
+own : (g : Over) (c : In_ok-values g) → are_own c.self.inside.cluster c.in_ok-values.values ≡ true
+own g c =
+    subst (λ (vs : List Value). are_own c.self.inside.cluster vs ≡ true) (sym c.in_ok-values.ensures.values)
+    (ready_own c.self.inside.cluster (length c.self.inside.log.list) c.self.inside.log.early c.args.value.now (rw (← c.self.view_is) at c.requires.value) c.self.invariant.waiting)
+
+pub executed-requires-clause-slots : goal.executed-requires-clause-slots
+executed-requires-clause-slots g c = rw c.as_slice.ensures.items c.in_ok-values.ensures.short
+
+pub executed-requires-clause-values : goal.executed-requires-clause-values
+executed-requires-clause-values g c = rw c.as_slice.ensures.items (own_fits c.self.inside.cluster c.in_ok-values.values (own g (goal.at.executed-requires-clause-values g c).In_ok-values))
+
+pub append-requires : goal.append-requires
+append-requires g c =
+    let all = own g (goal.at.append-requires g c).In_ok-values in
+    rw c.in_ok-copy.ensures (values_fit c.in_ok-values.values c.as_slice.ensures.some c.as_slice.ensures.room (own_fits c.self.inside.cluster c.in_ok-values.values all))
+
+pub put-requires-clause-short : goal.put-requires-clause-short
+put-requires-clause-short g c = c.in_ok-values.ensures.short
+
+pub invariant_of-self-3 : goal.invariant_of-self-3
+invariant_of-self-3 g c =
+    let log = c.self.inside.log in
+    let all = own g (goal.at.invariant_of-self-3 g c).In_ok-values in
+    let list : c.put.new.self.list ≡ log.list ++ c.in_ok-values.values = rw (c.put.ensures.list, c.ready.ensures.list) refl in
+    let early : are_own_early c.self.inside.cluster c.put.new.self.early ≡ true =
+    rw (c.put.ensures.early, c.ready.ensures.early) (still_own c.self.inside.cluster (length c.put.new.self.list) log.early c.self.invariant.waiting) in
+    let ran : c.in_ok-machine.machine ≡ machine_from (length log.list) c.self.inside.machine c.in_ok-values.values =
+    rw (c.in_ok-machine.ensures.machine, c.ready.ensures.list, c.as_slice.ensures.items, c.self.invariant.machine) refl in
+    sound_more c.self.inside.cluster c.self.inside.me log c.put.new.self c.self.inside.machine c.in_ok-machine.machine c.in_ok-values.values c.self.invariant list all early ran

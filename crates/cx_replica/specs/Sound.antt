@@ -1,0 +1,30 @@
+-- What is so of every replica.
+use Rattle.std.specs.Prelude.{◌≡◌, ◌<◌, Bool, ◌&&◌, List, IsTrue}
+use Rattle.std.specs.List.{list_all}
+use Rattle.cx_base.specs.declared.cluster.Cluster.{Cluster}
+use Rattle.cx_base.specs.declared.command.Placed.{Placed}
+use Rattle.cx_base.specs.declared.command.Value.{Value}
+use Rattle.cx_base.specs.declared.role.Kind.TheVariants.{Replica}
+use Rattle.cx_base.specs.declared.role.RoleId.{RoleId}
+use Rattle.cx_msg.specs.Fields.{value}
+use Rattle.cx_model.specs.Names.{names_value}
+use Rattle.cx_model.specs.Replica.{Machine, machine_of}
+use Rattle.cx_rlog.specs.State.{LogState}
+
+-- whether a value's fields are in their ranges, and its clients in the cluster
+abbrev pub is_own : Cluster → Value → Bool
+is_own c v = value.fits v && names_value c v
+
+abbrev pub are_own : Cluster → List Value → Bool
+are_own c vs = list_all (λ (v : Value). is_own c v) vs
+
+abbrev pub are_own_early : Cluster → List Placed → Bool
+are_own_early c early = list_all (λ (p : Placed). is_own c p.value) early
+
+-- a replica of the cluster whose machine is what its log leaves; the values that it holds and those that wait are the cluster's
+pub record IsSound (c : Cluster) (me : RoleId) (log : LogState) (m : Machine) : Type 0 where
+  pub kind : me.kind ≡ Replica
+  pub place : me.index < c.replicas
+  pub machine : m ≡ machine_of log.list
+  pub held : IsTrue (are_own c log.list)
+  pub waiting : IsTrue (are_own_early c log.early)

@@ -1,0 +1,65 @@
+//! What a replica sends.
+
+ghost use Rattle.std.specs.Prelude.{◌≡◌, ◌+◌, ◌<◌, ◌≤◌, ◌++◌, length, map, IsTrue};
+ghost use Rattle.std.specs.List.{list_all};
+ghost use Rattle.cx_base.specs.Lists.{below};
+ghost use Rattle.cx_base.specs.declared.command.Answered.{Answered};
+ghost use Rattle.cx_base.specs.declared.role.Kind.TheVariants as kind;
+ghost use Rattle.cx_msg.specs.Fields as field;
+ghost use Rattle.cx_msg.specs.Messages as message;
+ghost use Rattle.cx_model.specs.Replica.{fetch_to, held_to, results_at};
+
+use cx_base::{Answered, Cluster, Few, RoleId};
+use cx_msg::{fetch, held, results};
+use cx_role::Outbox;
+
+/// Sends the answers of a slot, if there are any and this replica is the one to do so. It takes no memory.
+#[tactic(auto, using(crate::proofs::Values::answers_fit))]
+pub fn send_results(
+    cluster: &Cluster,
+    me: RoleId,
+    slot: u64,
+    answers: Vec<Answered>,
+    out: &mut Outbox,
+)
+    requires kind { me.kind ≡ kind.Replica }
+    requires slot { IsTrue (field.slot.fits slot) }
+    requires fit { IsTrue (list_all (λ (a : Answered). message.answered.fits a) answers.items) }
+    requires few { length answers.items ≤ 8 }
+    requires spare { 0 < out.old.spare }
+    ensures list { out.new.list ≡ out.old.list ++ results_at cluster.now me slot answers.items }
+    ensures spare { out.old.spare ≤ out.new.spare + 1 }
+{
+    if slot % u64::from(cluster.replicas) != u64::from(me.index) || answers.is_empty() {
+        return;
+    }
+    let unbatcher = (slot % u64::from(cluster.unbatchers)) as u16;
+    out.push(results(me.index, unbatcher, slot, Few::from_vec(answers)));
+}
+
+/// Tells every leader how many slots are held. It takes no memory.
+pub fn tell_held(cluster: &Cluster, me: RoleId, mark: u64, out: &mut Outbox)
+    requires kind { me.kind ≡ kind.Replica }
+    requires mark { IsTrue (field.mark.fits mark) }
+    requires spare { cluster.now.leaders ≤ out.old.spare }
+    ensures list { out.new.list ≡ out.old.list ++ map (held_to me mark) (below cluster.now.leaders) }
+    ensures spare { out.old.spare ≤ out.new.spare + cluster.now.leaders }
+{
+    for leader in 0..cluster.leaders {
+        out.push(held(me.index, leader, mark));
+    }
+}
+
+/// Asks the next replica, if there is another, for the value of the first slot that isn't held. It takes no memory.
+pub fn ask_next(cluster: &Cluster, me: RoleId, mark: u64, out: &mut Outbox)
+    requires kind { me.kind ≡ kind.Replica }
+    requires mark { IsTrue (field.mark.fits mark) }
+    requires place { me.index < cluster.now.replicas }
+    requires spare { 0 < out.old.spare }
+    ensures { out.new.list ≡ out.old.list ++ fetch_to cluster.now me mark }
+{
+    if cluster.replicas > 1 {
+        let next = (me.index + 1) % cluster.replicas;
+        out.push(fetch(me.index, next, mark));
+    }
+}

@@ -1,0 +1,161 @@
+//! A replica's rows, with the datagrams that it takes as bytes.
+
+use crate::Replica;
+use cx_base::{Cluster, Cut, Kind, Order, Reply, RoleId, Why};
+use cx_keeper::{Keeper, MemKeeper};
+use cx_msg::{Msg, decode};
+use cx_role::{Outbox, Role, WakeFault};
+use std::alloc::Global;
+use std::test::Fail;
+
+const CLUSTER: Cluster = Cluster {
+    f: 1,
+    leaders: 2,
+    proxies: 1,
+    acceptors: 4,
+    replicas: 2,
+    batchers: 1,
+    unbatchers: 3,
+    readers: 1,
+    clients: 2,
+    batch: 1,
+    base_port: None,
+};
+
+const WITHOUT_CLIENT_1: Cluster = Cluster {
+    f: 1,
+    leaders: 2,
+    proxies: 1,
+    acceptors: 4,
+    replicas: 2,
+    batchers: 1,
+    unbatchers: 3,
+    readers: 1,
+    clients: 1,
+    batch: 1,
+    base_port: None,
+};
+
+// Nothing to do is chosen for the slot; told to this replica.
+fn noop(replica: u8, slot: u8) -> [u8; 21] {
+    [
+        67, 88, 1, 13, 4, 0, 0, 7, 0, replica, 0, 9, 0, 0, 0, 0, 0, 0, 0, slot, 0,
+    ]
+}
+
+// Client 1's command of this number, app k x, is chosen for the slot.
+fn command(slot: u8, seq: u8) -> [u8; 37] {
+    [
+        67, 88, 1, 13, 4, 0, 0, 7, 0, 1, 0, 25, 0, 0, 0, 0, 0, 0, 0, slot, 1, 1, 0, 1, 0, 0, 0, 0,
+        0, 0, 0, seq, 3, 1, 107, 1, 120,
+    ]
+}
+
+// What the replica is given.
+enum Step {
+    Noop(u8, u8),
+    Command(u8, u8),
+}
+
+#[derive(Drop)]
+struct Bench {
+    alloc: Global,
+    replica: Replica,
+    keeper: MemKeeper,
+    out: Outbox,
+}
+
+impl Bench {
+    fn take(&mut self, bytes: &[u8]) -> Option<Why> {
+        let datagram = decode(self.alloc, bytes).ok()?;
+        self.out.clear();
+        if !self.replica.live() {
+            return None;
+        }
+        self.replica
+            .take(&mut self.keeper, &datagram, &mut self.out)
+            .ok()
+    }
+
+    fn step(&mut self, step: &Step) -> Option<Why> {
+        match step {
+            Step::Noop(replica, slot) => self.take(&noop(*replica, *slot)),
+            Step::Command(slot, seq) => self.take(&command(*slot, *seq)),
+        }
+    }
+
+    // What the first Results sent says of its unbatcher, slot, and first answer: number, slot and one, length.
+    fn told(&self) -> Option<(u16, u64, u64, u64, u8)> {
+        let datagram = self.out.as_slice().first()?;
+        let Msg::Results { slot, answers } = datagram.msg() else {
+            return None;
+        };
+        let answer = answers.as_slice().first()?;
+        match answer.reply {
+            Reply::Len(length) => Some((datagram.to().index, *slot, answer.seq, answer.at, length)),
+            _ => None,
+        }
+    }
+}
+
+type Told = Option<(u16, u64, u64, u64, u8)>;
+
+// Each step with its answer, and what is told.
+const STEPS: [(Step, Why, Told); 14] = [
+    (Step::Noop(0, 0), Why::Stranger, None),
+    (Step::Command(1, 9), Why::Early, None),
+    (Step::Noop(1, 1), Why::Early, None),
+    (Step::Noop(1, 32), Why::Window, None),
+    (Step::Noop(1, 31), Why::Early, None),
+    // Slot 0 brings slot 1 with it, which is this replica's to answer.
+    (Step::Noop(1, 0), Why::Applied, Some((1, 1, 9, 2, 1))),
+    (Step::Noop(1, 1), Why::Past, None),
+    // The other replica answers slot 2; the number's answer stays that of slot 1.
+    (Step::Command(2, 9), Why::Applied, None),
+    (Step::Command(3, 9), Why::Applied, Some((0, 3, 9, 2, 1))),
+    (Step::Noop(1, 4), Why::Applied, None),
+    // A smaller number has no answer, a greater one acts.
+    (Step::Command(5, 8), Why::Applied, None),
+    (Step::Noop(1, 6), Why::Applied, None),
+    (Step::Command(7, 10), Why::Applied, Some((1, 7, 10, 8, 2))),
+    (Step::Noop(1, 40), Why::Window, None),
+];
+
+#[test]
+fn applies(rt: HostRuntime) -> Result<(), Fail> {
+    let alloc = rt.alloc();
+    let me = RoleId::new(Kind::Replica, 1);
+    let mut bench = Bench {
+        alloc,
+        replica: Replica::open(alloc, &CLUSTER, me, &[])?,
+        keeper: MemKeeper::new(alloc),
+        out: Outbox::new(alloc),
+    };
+    for (step, why, told) in &STEPS {
+        assert_eq!(rt; bench.step(step), Some(*why));
+        assert_eq!(rt; bench.told(), *told);
+    }
+    bench.out.clear();
+    assert!(rt; bench.replica.live());
+    let order = bench
+        .replica
+        .order(&mut bench.keeper, &Order::Collect, &mut bench.out)?;
+    assert_eq!(rt; order, Why::Stranger);
+    assert_eq!(rt; bench.replica.tick(&mut bench.out)?, Why::Resent);
+    assert_eq!(rt; bench.out.len(), 3);
+    let last = bench.out.as_slice()[2].to();
+    assert!(rt; last.is(RoleId::new(Kind::Replica, 0)));
+    bench.keeper.cut(Cut::Torn);
+    assert_eq!(rt; bench.step(&Step::Command(8, 11)), None);
+    assert_eq!(rt; bench.out.len(), 0);
+    let records = bench.keeper.recover()?;
+    assert_eq!(rt; records.len(), 7);
+    bench.replica = Replica::open(alloc, &CLUSTER, me, &records)?;
+    bench.keeper.cut(Cut::Whole);
+    assert_eq!(rt; bench.step(&Step::Noop(1, 8)), Some(Why::Applied));
+    assert_eq!(rt; bench.step(&Step::Command(9, 10)), Some(Why::Applied));
+    assert_eq!(rt; bench.told(), Some((0, 9, 10, 8, 2)));
+    let refused = Replica::open(alloc, &WITHOUT_CLIENT_1, me, &records);
+    assert!(rt; matches!(refused, Err(WakeFault::Record { index: 0 })));
+    Ok(())
+}
