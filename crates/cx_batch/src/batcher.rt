@@ -1,6 +1,6 @@
 //! The batcher.
 
-ghost use Rattle.std.specs.Prelude.{◌≡◌, ◌≤◌, [], length, vec_len, IfOk, OnErr, IsTrue};
+ghost use Rattle.std.specs.Prelude.{◌≡◌, ◌≤◌, ◌++◌, ◌∷◌, [], length, vec_len, IfOk, OnOk, OnErr, IsTrue};
 ghost use Rattle.std.specs.List.{list_all};
 ghost use Rattle.cx_base.specs.declared.command.Command.{Command};
 ghost use Rattle.cx_base.specs.declared.role.Kind.TheVariants as kind;
@@ -9,7 +9,7 @@ ghost use Rattle.cx_model.specs.Rules.{Running};
 ghost use Rattle.cx_model.specs.Batcher.{BatcherVolatile, batcher_rules, batch_to, submit_row, leads_row, batcher_tick};
 ghost use Rattle.cx_role.specs.Role.{Replies};
 
-use cx_base::{Cluster, Command, Few, Kind, NoMemory, Order, RoleId, Round, Why};
+use cx_base::{Cluster, Command, Duplicate, Few, Kind, NoMemory, Order, RoleId, Round, Why};
 use cx_keeper::Keeper;
 use cx_msg::{Datagram, Msg, Record};
 use cx_role::{Outbox, Role, StepFault, WakeFault, is_for};
@@ -42,7 +42,6 @@ impl Model for Batcher {
 impl Batcher {
     // A client hands in a command.
     fn submit(&mut self, command: &Command, out: &mut Outbox) -> Result<Why, NoMemory>
-        requires kind { self.old.me.kind ≡ kind.Batcher }
         requires fits { IsTrue (field.command.fits command.now) }
         requires empty { out.old.list ≡ [] }
         ensures ok { IfOk result (λ why. Replies batcher_rules self.old (submit_row self.old.cluster self.old.me self.old.volatile command.now) why self.new out.new.list) }
@@ -50,8 +49,7 @@ impl Batcher {
         ensures sends { OnErr result (out.new.list ≡ []) }
     {
         out.room(1)?;
-        self.waiting.reserve(1)?;
-        self.waiting.push_reserved(*command);
+        push_copy(self.alloc, &mut self.waiting, command)?;
         if self.waiting.len() < usize::from(self.cluster.batch) {
             return Ok(Why::Held);
         }
@@ -101,6 +99,7 @@ impl Role for Batcher {
         })
     }
 
+    #[tactic(auto, using(crate::proofs::Rows::other_takes))]
     fn take<K: Keeper>(
         &mut self,
         _keeper: &mut K,
@@ -152,4 +151,13 @@ fn batch_to(me: RoleId, round: Round, waiting: Vec<Command>) -> Datagram
 {
     let commands = Few::from_vec(waiting);
     Datagram::new(me, RoleId::new(Kind::Leader, round.id), Msg::Batch { commands })
+}
+
+// One more at the end, or the list as it was.
+fn push_copy<T: Duplicate>(alloc: Global, list: &mut Vec<T>, value: &T) -> Result<(), NoMemory>
+    ensures ok { OnOk result (list.new.items ≡ list.old.items ++ value.now ∷ []) }
+    ensures err { OnErr result (list.new.items ≡ list.old.items) }
+{
+    list.push(value.copy(alloc)?)?;
+    Ok(())
 }

@@ -24,11 +24,15 @@ pub struct Unbatcher {
 }
 
 impl Model for Unbatcher {
+    ghost use Rattle.std.specs.Prelude.{◌≡◌};
+    ghost use Rattle.cx_base.specs.declared.role.Kind.TheVariants as kind;
     ghost use Rattle.cx_model.specs.Rules.{Running};
 
     ghost Value = { Running (Unit {0}) (Unit {0}) };
 
     ghost view = { λ u. record { cluster = u.cluster; me = u.me; live = u.live; durable = tt; volatile = tt } };
+
+    ghost invariant = { λ u. u.me.kind ≡ kind.Unbatcher };
 }
 
 impl Role for Unbatcher {
@@ -57,6 +61,7 @@ impl Role for Unbatcher {
         })
     }
 
+    #[tactic(auto, using(crate::proofs::Letters::answers_fit), unfolding(cx_msg::specs::Messages::results))]
     fn take<K: Keeper>(
         &mut self,
         _keeper: &mut K,
