@@ -9,7 +9,7 @@ ghost use Rattle.cx_model.specs.Rules.{Running};
 ghost use Rattle.cx_model.specs.Batcher.{BatcherVolatile, batcher_rules, batch_to, submit_row, leads_row, batcher_tick};
 ghost use Rattle.cx_role.specs.Role.{Replies};
 
-use cx_base::{Cluster, Command, Duplicate, Few, Kind, NoMemory, Order, RoleId, Round, Why};
+use cx_base::{Cluster, Command, Duplicate, Few, NoMemory, Order, RoleId, Round, Why};
 use cx_keeper::Keeper;
 use cx_msg::{Datagram, Msg, Record};
 use cx_role::{Outbox, Role, StepFault, WakeFault, is_for};
@@ -141,7 +141,7 @@ impl Role for Batcher {
 }
 
 // The gathered commands, to the leader of the round.
-#[tactic(auto, using(crate::proofs::Letters::commands_fit), unfolding(cx_wire::specs::Format::u16))]
+#[tactic(auto, using(crate::proofs::Letters::commands_fit))]
 fn batch_to(me: RoleId, round: Round, waiting: Vec<Command>) -> Datagram
     requires kind { me.kind ≡ kind.Batcher }
     requires some { 1 ≤ vec_len waiting }
@@ -149,8 +149,7 @@ fn batch_to(me: RoleId, round: Round, waiting: Vec<Command>) -> Datagram
     requires fit { IsTrue (list_all (λ (k : Command). field.command.fits k) waiting.items) }
     ensures { result ≡ batch_to me round waiting.items }
 {
-    let commands = Few::from_vec(waiting);
-    Datagram::new(me, RoleId::new(Kind::Leader, round.id), Msg::Batch { commands })
+    cx_msg::batch(me.index, round.id, Few::from_vec(waiting))
 }
 
 // One more at the end, or the list as it was.

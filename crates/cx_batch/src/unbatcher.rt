@@ -8,9 +8,9 @@ ghost use Rattle.cx_msg.specs.Messages as message;
 ghost use Rattle.cx_model.specs.Rules.{Running};
 ghost use Rattle.cx_model.specs.Unbatcher.{unbatcher_rules, answer_to};
 
-use cx_base::{Answered, Cluster, Kind, NoMemory, Order, RoleId, Why};
+use cx_base::{Answered, Cluster, NoMemory, Order, RoleId, Why};
 use cx_keeper::Keeper;
-use cx_msg::{Answers, Datagram, Msg, Record};
+use cx_msg::{Datagram, Msg, Record};
 use cx_role::{Outbox, Role, StepFault, WakeFault, is_for};
 use std::alloc::Global;
 use std::marker::Model;
@@ -112,16 +112,11 @@ fn answer_all(me: RoleId, answers: &[Answered], out: &mut Outbox)
 }
 
 // A client's answer.
-#[tactic(auto, unfolding(cx_msg::specs::Messages::answered, cx_msg::specs::Messages::answer, cx_wire::specs::Format::u16))]
+#[tactic(auto, unfolding(cx_msg::specs::Messages::answered))]
 fn answer_to(me: RoleId, answer: &Answered) -> Datagram
     requires kind { me.kind ≡ kind.Unbatcher }
     requires fits { IsTrue (message.answered.fits answer.now) }
     ensures { result ≡ answer_to me answer.now }
 {
-    let msg = Msg::Answer {
-        seq: answer.seq,
-        at: answer.at,
-        reply: answer.reply,
-    };
-    Datagram::new(me, RoleId::new(Kind::Client, answer.client), msg)
+    cx_msg::answer(me.index, answer.client, answer.seq, answer.at, answer.reply)
 }
