@@ -1,10 +1,9 @@
 -- The place of a slot's pending value is the first place with that slot.
-use Rattle.std.proofs.Common.{◌≡◌, ℕ, suc, ◌+◌, ◌<◌, ◌≤◌, Bool, true, false, not, cond, ◌==◌, List, [], ◌∷◌, length, Option, None, Some, refl, ap, subst, arith}
+use Rattle.std.proofs.Common.{◌≡◌, ℕ, suc, ◌+◌, ◌<◌, ◌≤◌, Bool, true, false, cond, ◌==◌, List, [], ◌∷◌, length, None, Some, refl, ap, subst, arith}
 use Rattle.std.specs.Prelude.{nat_lt}
 use Rattle.std.specs.List.{position, position_or_len}
 use Rattle.std.proofs.lemmas.Bool.Decides.{nat_tests}
 use Rattle.cx_model.specs.declared.states.Pending.{Pending}
-use Rattle.cx_model.specs.Proxy.{pending_at, with_pending}
 use Rattle.cx_proxy.specs.Places.{IsPlace, NoPlace}
 
 -- whether a value is pending at a slot

@@ -1,16 +1,17 @@
 -- What a proxy leader holds, step by step.
-use Rattle.std.proofs.Common.{◌≡◌, ℕ, ◌+◌, ◌<◌, ◌≤◌, ◌^◌, ◌==◌, Bool, true, false, max, List, [], ◌∷◌, All, refl, subst, arith}
-use Rattle.std.specs.Prelude.{nat_le, nat_lt}
+use Rattle.std.proofs.Common.{◌≡◌, ℕ, ◌+◌, ◌<◌, ◌≤◌, ◌^◌, ◌==◌, Bool, true, false, max, List, [], ◌∷◌, All, Some, length, get_or, refl, subst, arith}
+use Rattle.std.specs.Prelude.{nat_le, nat_lt, slice_get, slice_set}
 use Rattle.std.proofs.lemmas.Bool.{and_parts}
 use Rattle.std.proofs.lemmas.Bool.Decides.{nat_tests}
-use Rattle.std.proofs.lemmas.List.Elements.{All-nil, All-cons, All-head, All-tail, All-filter}
+use Rattle.std.proofs.lemmas.List.Elements.{All-nil, All-cons, All-head, All-tail, All-filter, All-set}
+use Rattle.std.proofs.lemmas.Option.{get_or_from_slice_get}
 use Rattle.cx_base.specs.declared.role.RoleId.{RoleId}
 use Rattle.cx_msg.specs.Fields.{mark}
 use Rattle.cx_msg.specs.Messages.{in_window}
 use Rattle.cx_model.specs.declared.states.Pending.{Pending}
 use Rattle.cx_model.specs.Proxy.{with_pending}
 use Rattle.cx_proxy.specs.Holds.{IsPending, InWindow, Holds}
-use Rattle.cx_proxy.proofs.Rows.{from_on, with_pending-from, not_past}
+use Rattle.cx_proxy.proofs.Rows.{from_on, with_pending-from}
 
 mark_limit : (n : ℕ) → mark.fits n ≡ true → n ≤ 2 ^ 40
 unfolding mark
@@ -66,3 +67,18 @@ holds_with me ps p more h is cw low =
       parts = all_with IsPending p (from_on more ps) is h.parts;
       window = all_with (InWindow more) p (from_on more ps) window h.window;
     })
+
+-- votes that are noted leave the rest of a value
+pub holds_noted : (me : RoleId) (known : ℕ) (ps : List Pending) (place : ℕ) (p : Pending) (marks : List ℕ) (done : Bool) → Holds me known ps → place < length ps → slice_get ps place ≡ Some p
+    → Holds me known (slice_set ps place (record p { marks = marks; done = done }))
+holds_noted me known ps place p marks done h within here =
+    let same : get_or ps place p ≡ p = get_or_from_slice_get ps place p p here in
+    let is : IsPending p = subst IsPending same (h.parts place p within) in
+    let lies : InWindow known p = subst (InWindow known) same (h.window place p within) in
+    let one : Pending = record p { marks = marks; done = done } in
+    record {
+      kind = h.kind;
+      limit = h.limit;
+      parts = All-set IsPending ps place one (record { round = is.round; slot = is.slot; cw = is.cw; window = is.window; value = is.value }) h.parts;
+      window = All-set (InWindow known) ps place one (record { low = lies.low; high = lies.high }) h.window;
+    }

@@ -2,3 +2,4 @@ pub mod Finding
 pub mod Holding
 pub mod Receivers
 pub mod Rows
+pub mod Replying

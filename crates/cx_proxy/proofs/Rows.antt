@@ -1,5 +1,5 @@
 -- The rows of a proxy leader, as its code takes them.
-use Rattle.std.proofs.Common.{◌≡◌, ℕ, ◌+◌, ◌<◌, ◌≤◌, ◌==◌, Bool, true, false, max, filter, if◌then◌else◌, List, [], ◌∷◌, ◌++◌, ◌&&◌, not, length, map, slice_get, slice_set, Option, None, Some, refl, ap, ◌∙◌, arith}
+use Rattle.std.proofs.Common.{◌≡◌, ℕ, ◌≤◌, ◌==◌, Bool, true, false, max, filter, if◌then◌else◌, List, [], ◌∷◌, ◌&&◌, not, length, map, slice_get, slice_set, Option, None, Some, refl, ap, ◌∙◌, arith}
 use Rattle.std.specs.Prelude.{nat_le, nat_lt}
 use Rattle.std.proofs.lemmas.Bool.Decides.{nat_tests}
 use Rattle.cx_base.specs.declared.cluster.Cluster.{Cluster}
@@ -110,7 +110,7 @@ asks_more c me v p false e h = rw e (over (pending_at p.slot v.pending) h)
 -- a value that is not declined is put among those from the watermark on, and asked for
 pub asks : (c : Cluster) (me : RoleId) (v : ProxyVolatile) (cw : ℕ) (p : Pending) → declined (max v.known cw) p v.pending ≡ None
     → propose_row c me (raised_to cw v) p
-        ≡ replied why.Asking (record { known = max v.known cw; pending = from_on (max v.known cw) (with_pending p v.pending) }) (map (phase2a_to me p) (column_for c p))
+    ≡ replied why.Asking (record { known = max v.known cw; pending = from_on (max v.known cw) (with_pending p v.pending) }) (map (phase2a_to me p) (column_for c p))
 asks c me v cw p h =
     let known = max v.known cw in
     let low : nat_le known p.slot ≡ true = low_test known p.slot (not_past known p v.pending h) in
@@ -125,6 +125,7 @@ stops c me v acceptor i p w h = tests (not (same_round p.round i && is_in accept
   where
     counted : Outcome ProxyVolatile
     counted = vote_counted c me v (record p { marks = with_mark acceptor p.marks })
+
     tests : (other done marked : Bool) → (if other then Some why.Unasked else if done then Some why.Done else if marked then Some why.Same else None) ≡ Some w
         → (if other then answered why.Unasked v else if done then answered why.Done v else if marked then answered why.Same v else counted) ≡ answered w v
     tests true done marked h = let e : w ≡ why.Unasked = cc in rw e refl
@@ -139,6 +140,7 @@ goes_on c me v acceptor i p h = tests (not (same_round p.round i && is_in accept
   where
     counted : Outcome ProxyVolatile
     counted = vote_counted c me v (record p { marks = with_mark acceptor p.marks })
+
     tests : (other done marked : Bool) → (if other then Some why.Unasked else if done then Some why.Done else if marked then Some why.Same else None) ≡ None
         → (if other then answered why.Unasked v else if done then answered why.Done v else if marked then answered why.Same v else counted) ≡ counted
     tests true done marked h = cc
@@ -171,7 +173,7 @@ vote_counts c me v acceptor i s place p is here h part =
     let marks : List ℕ = with_mark acceptor p.marks in
     let one : Bool → Pending = λ b. record p { marks = marks; done = b } in
     let put : with_pending (one p.done) v.pending ≡ slice_set v.pending place (one false) =
-        is.put (one p.done) (is.slot p here) ∙ ap (λ (b : Bool). slice_set v.pending place (one b)) (undone acceptor i p h) in
+    is.put (one p.done) (is.slot p here) ∙ ap (λ (b : Bool). slice_set v.pending place (one b)) (undone acceptor i p h) in
     at_place c me v acceptor i s place p is here
     ∙ goes_on c me v acceptor i p h
     ∙ rw part (ap (λ (ps : List Pending). answered {V = ProxyVolatile} why.Counted (record v { pending = ps })) put)
@@ -179,7 +181,7 @@ vote_counts c me v acceptor i s place p is here h part =
 pub vote_chooses : (c : Cluster) (me : RoleId) (v : ProxyVolatile) (acceptor : ℕ) (i : Round) (s place : ℕ) (p : Pending) → IsPlace s v.pending place → slice_get v.pending place ≡ Some p
     → uncounted acceptor i p ≡ None → column_whole p.grid (with_mark acceptor p.marks) ≡ true
     → vote_for c me v acceptor i (pending_at s v.pending)
-        ≡ replied why.Chosen (record v { pending = slice_set v.pending place (record p { marks = with_mark acceptor p.marks; done = true }) }) (announcement c me p)
+    ≡ replied why.Chosen (record v { pending = slice_set v.pending place (record p { marks = with_mark acceptor p.marks; done = true }) }) (announcement c me p)
 vote_chooses c me v acceptor i s place p is here h whole =
     let one : Pending = record p { marks = with_mark acceptor p.marks; done = true } in
     at_place c me v acceptor i s place p is here

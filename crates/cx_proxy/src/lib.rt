@@ -5,7 +5,7 @@
 #![tactic(auto)]
 
 mod pendings;
-
+mod proxy;
 mod sends;
 
-
+pub use proxy::Proxy;

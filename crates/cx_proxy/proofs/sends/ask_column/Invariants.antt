@@ -1,4 +1,4 @@
-use Rattle.std.proofs.Common.{◌≡◌, ◌+◌, ◌-◌, ◌%◌, ◌<◌, ◌≤◌, ◌++◌, filter, map, length}
+use Rattle.std.proofs.Common.{◌≡◌, ◌-◌, ◌≤◌, ◌++◌, filter, map, length}
 use Rattle.cx_base.specs.Grid.{is_in}
 use Rattle.cx_base.specs.Lists.{numbers}
 use Rattle.cx_grid.specs.Quorum.{column_of}

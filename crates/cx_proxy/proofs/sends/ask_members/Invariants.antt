@@ -1,4 +1,4 @@
-use Rattle.std.proofs.Common.{◌≡◌, ◌+◌, ◌-◌, ◌<◌, ◌≤◌, ◌++◌, filter, map, length}
+use Rattle.std.proofs.Common.{◌≡◌, ◌-◌, ◌++◌, filter, map}
 use Rattle.cx_base.specs.Grid.{is_in}
 use Rattle.cx_base.specs.Lists.{numbers}
 use Rattle.cx_model.specs.Proxy.{phase2a_to, members_for}
