@@ -1,0 +1,18 @@
+-- What a batcher is not asked for.
+use Rattle.std.proofs.Common.{◌≡◌, refl}
+use Rattle.cx_base.specs.declared.cluster.Cluster.{Cluster}
+use Rattle.cx_base.specs.declared.command.Command.{Command}
+use Rattle.cx_base.specs.declared.role.RoleId.{RoleId}
+use Rattle.cx_base.specs.declared.round.Round.{Round}
+use Rattle.cx_base.specs.declared.why.Why.TheVariants.{Stranger}
+use Rattle.cx_msg.specs.declared.message.Msg.{Msg}
+use Rattle.cx_msg.specs.declared.message.Msg.TheVariants as msg
+use Rattle.cx_model.specs.Batcher.{BatcherVolatile, batcher_takes}
+use Rattle.cx_model.specs.Outcome.{answered}
+
+-- what is neither a command nor a round
+pub other_takes : (c : Cluster) (me : RoleId) (v : BatcherVolatile) (m : Msg) → ((k : Command) → m ≡ msg.Submit k → ⊥) → ((i : Round) → m ≡ msg.Leads i → ⊥)
+    → batcher_takes c me v m ≡ answered Stranger v
+other_takes c me v (msg.Submit k) submit leads = absurd (submit k refl)
+other_takes c me v (msg.Leads i) submit leads = absurd (leads i refl)
+other_takes c me v other submit leads = refl

@@ -1,0 +1,10 @@
+use Rattle.std.proofs.Common.{◌≡◌, ◌+◌, ◌-◌, ◌*◌, ◌≤◌, ◌++◌, length}
+use Rattle.cx_base.specs.Lists.{numbers}
+use Rattle.cx_model.specs.Proxy.{again_at}
+use Rattle.cx_proxy.proofs.sends.again_all.Given as goal
+
+abbrev pub invariant-loop-slot : goal.invariant-loop-slot
+invariant-loop-slot l = record {
+  list : l.out.list ++ again_at l.cluster l.me l.list (numbers l.slot (l.first + l.count - l.slot)) ≡ again_at l.cluster l.me l.list (numbers l.first l.count);
+  room : length l.out.list + 16 * l.first ≤ 16 * l.slot;
+}

@@ -1,0 +1,3 @@
+pub mod Declined
+pub mod Holds
+pub mod Places

@@ -1,0 +1,215 @@
+//! The proxy leader.
+
+ghost use Rattle.std.specs.Prelude.{◌≡◌, ◌<◌, ◌^◌, ◌≤◌, [], Some, max, IfOk, OnErr, IsTrue};
+ghost use Rattle.cx_base.specs.declared.role.Kind.TheVariants as kind;
+ghost use Rattle.cx_msg.specs.Fields as field;
+ghost use Rattle.cx_msg.specs.Messages.{in_window};
+ghost use Rattle.cx_msg.specs.declared.input.Input.TheVariants as input;
+ghost use Rattle.cx_model.specs.declared.states.Pending.{Pending};
+ghost use Rattle.cx_model.specs.Rules.{Running, outcome_of};
+ghost use Rattle.cx_model.specs.Proxy.{ProxyVolatile, proxy_rules, propose_row, raised_to, pending_of, vote_for, pending_at};
+ghost use Rattle.cx_role.specs.Role.{Replies};
+ghost use Rattle.cx_proxy.specs.Holds.{IsPending};
+
+use crate::pendings::{declined, drop_below, note, place_of, put, uncounted};
+use crate::sends::{again_all, announce, ask_column};
+use cx_base::{Cluster, Duplicate, NoMemory, Order, RoleId, Round, Why};
+use cx_grid::{Marks, column_whole};
+use cx_keeper::Keeper;
+use cx_model::Pending;
+use cx_msg::{Datagram, Msg, Record};
+use cx_role::{Outbox, Role, StepFault, WakeFault, is_for};
+use std::alloc::Global;
+use std::marker::Model;
+
+// How many slots the window has, from the watermark on.
+const WINDOW: u64 = 32;
+
+/// Asks a column of a grid for votes on each value that a leader hands over, and announces what a column voted for.
+#[derive(Drop)]
+pub struct Proxy {
+    alloc: Global,
+    cluster: Cluster,
+    me: RoleId,
+    live: bool,
+    known: u64,
+    pending: Vec<Pending>,
+}
+
+impl Model for Proxy {
+    ghost use Rattle.cx_model.specs.Rules.{Running, outcome_of};
+    ghost use Rattle.cx_model.specs.Proxy.{ProxyVolatile};
+    ghost use Rattle.cx_proxy.specs.Holds.{Holds};
+
+    ghost Value = { Running (Unit {0}) ProxyVolatile };
+
+    ghost view = { λ p. record { cluster = p.cluster; me = p.me; live = p.live; durable = tt; volatile = record { known = p.known; pending = p.pending.items } } };
+
+    ghost invariant = { λ p. Holds p.me p.known p.pending.items };
+}
+
+impl Proxy {
+    // One datagram.
+    fn taken(&mut self, datagram: &Datagram, out: &mut Outbox) -> Result<Why, NoMemory>
+        requires { out.old.list ≡ [] }
+        ensures ok { IfOk result (λ why. Replies proxy_rules self.old (outcome_of proxy_rules self.old (input.Take datagram.now)) why self.new out.new.list) }
+        ensures state { OnErr result (self.new ≡ self.old) }
+    {
+        if !is_for(&self.cluster, self.me, datagram) {
+            return Ok(Why::Stranger);
+        }
+        match datagram.msg() {
+            Msg::Propose {
+                round,
+                grid,
+                slot,
+                cw,
+                value,
+            } => {
+                let pending = Pending {
+                    slot: *slot,
+                    round: *round,
+                    grid: *grid,
+                    cw: *cw,
+                    value: value.copy(self.alloc)?,
+                    marks: Marks::new(),
+                    done: false,
+                };
+                self.propose(pending, out)
+            }
+            Msg::Phase2B { round, slot } => self.vote(datagram.from().index, *round, *slot, out),
+            _ => Ok(Why::Stranger),
+        }
+    }
+
+    // A leader hands over a value for a slot.
+    fn propose(&mut self, pending: Pending, out: &mut Outbox) -> Result<Why, NoMemory>
+        requires parts { IsPending pending }
+        requires empty { out.old.list ≡ [] }
+        ensures ok { IfOk result (λ why. Replies proxy_rules self.old (propose_row self.old.cluster self.old.me (raised_to pending.cw self.old.volatile) pending) why self.new out.new.list) }
+        ensures state { OnErr result (self.new ≡ self.old) }
+    {
+        let known = self.known.max(pending.cw);
+        if let Some(why) = declined(&self.pending, known, &pending) {
+            self.known = known;
+            drop_below(&mut self.pending, known);
+            return Ok(why);
+        }
+        self.pending.reserve(1)?;
+        ask_column(self.alloc, &self.cluster, self.me, &pending, out)?;
+        put(&mut self.pending, pending);
+        self.known = known;
+        drop_below(&mut self.pending, known);
+        Ok(Why::Asking)
+    }
+
+    // An acceptor tells that it keeps a vote.
+    fn vote(
+        &mut self,
+        acceptor: u16,
+        round: Round,
+        slot: u64,
+        out: &mut Outbox,
+    ) -> Result<Why, NoMemory>
+        requires acceptor { acceptor < 64 }
+        requires empty { out.old.list ≡ [] }
+        ensures ok { IfOk result (λ why. Replies proxy_rules self.old (vote_for self.old.cluster self.old.me self.old.volatile acceptor round (pending_at slot self.old.volatile.pending)) why self.new out.new.list) }
+        ensures state { OnErr result (self.new ≡ self.old) }
+    {
+        let Some(place) = place_of(&self.pending, slot) else {
+            return Ok(Why::Unasked);
+        };
+        let pending = &self.pending[place];
+        if let Some(why) = uncounted(pending, acceptor, round) {
+            return Ok(why);
+        }
+        let mut marks = pending.marks.copy(self.alloc)?;
+        marks.add(acceptor);
+        if !column_whole(&pending.grid, &marks) {
+            note(&mut self.pending, place, marks, false);
+            return Ok(Why::Counted);
+        }
+        announce(self.alloc, &self.cluster, self.me, pending, out)?;
+        note(&mut self.pending, place, marks, true);
+        Ok(Why::Chosen)
+    }
+}
+
+impl Role for Proxy {
+    ghost Durable = { Unit {0} };
+
+    ghost Volatile = { ProxyVolatile };
+
+    ghost rules = { proxy_rules };
+
+    ghost state = { λ s. s };
+
+    #[tactic(auto, using(crate::proofs::Rows::proxy_refuses))]
+    fn open(
+        alloc: Global,
+        cluster: &Cluster,
+        me: RoleId,
+        records: &[Record],
+    ) -> Result<Self, WakeFault> {
+        if let [_, ..] = records {
+            return Err(WakeFault::Record { index: 0 });
+        }
+        Ok(Proxy {
+            alloc,
+            cluster: *cluster,
+            me,
+            live: true,
+            known: 0,
+            pending: Vec::new(alloc),
+        })
+    }
+
+    fn take<K: Keeper>(
+        &mut self,
+        _keeper: &mut K,
+        datagram: &Datagram,
+        out: &mut Outbox,
+    ) -> Result<Why, StepFault> {
+        match self.taken(datagram, out) {
+            Ok(why) => Ok(why),
+            Err(NoMemory) => {
+                out.clear();
+                Err(StepFault::NoMemory)
+            }
+        }
+    }
+
+    fn order<K: Keeper>(
+        &mut self,
+        _keeper: &mut K,
+        _order: &Order,
+        _out: &mut Outbox,
+    ) -> Result<Why, StepFault> {
+        Ok(Why::Stranger)
+    }
+
+    fn tick(&mut self, out: &mut Outbox) -> Result<Why, NoMemory> {
+        if self.pending.is_empty() {
+            return Ok(Why::Idle);
+        }
+        match again_all(
+            self.alloc,
+            &self.cluster,
+            self.me,
+            &self.pending,
+            self.known,
+            WINDOW,
+            out,
+        ) {
+            Ok(()) => Ok(Why::Resent),
+            Err(NoMemory) => {
+                out.clear();
+                Err(NoMemory)
+            }
+        }
+    }
+
+    fn live(&self) -> bool {
+        self.live
+    }
+}
