@@ -1,0 +1,127 @@
+//! An acceptor's state.
+
+ghost use Rattle.std.specs.Prelude.{◌≡◌, ◌∷◌, [], true, OnOk, OnErr, IsTrue};
+ghost use Rattle.cx_model.specs.Acceptor.{acceptor_rules, acceptor_after, acceptor_fits};
+ghost use Rattle.cx_model.specs.Rules.{opened};
+ghost use Rattle.cx_msg.specs.Records.{fits as record_fits};
+
+use crate::votes::{has_vote, is_in_window, keep_from, place};
+use cx_base::{Cluster, Duplicate, NoMemory, RoleId, Round};
+use cx_msg::{Record, Vote};
+use cx_role::{names_round, names_value};
+use std::alloc::Global;
+use std::marker::Model;
+
+/// An acceptor: the round that it promised, the chosen watermark, its last vote at each slot from there on, and one more
+/// than the greatest slot that it ever voted at (VLDB 2021; the watermark is this project's own).
+#[derive(Drop)]
+pub struct Acceptor {
+    pub(crate) alloc: Global,
+    pub(crate) cluster: Cluster,
+    pub(crate) me: RoleId,
+    pub(crate) live: bool,
+    pub(crate) promise: Round,
+    pub(crate) cw: u64,
+    pub(crate) votes: Vec<Vote>,
+    pub(crate) top: u64,
+}
+
+impl Model for Acceptor {
+    ghost use Rattle.cx_model.specs.Acceptor.{AcceptorDurable};
+    ghost use Rattle.cx_model.specs.Rules.{Running};
+    ghost use Rattle.cx_acceptor.specs.Sound.{IsSound};
+
+    ghost Value = { Running AcceptorDurable (Unit {0}) };
+
+    ghost view = { λ a. record { cluster = a.cluster; me = a.me; live = a.live; durable = record { promise = a.promise; cw = a.cw; votes = a.votes.items; top = a.top }; volatile = tt } };
+
+    ghost invariant = { λ a. IsSound (record { promise = a.promise; cw = a.cw; votes = a.votes.items; top = a.top }) };
+}
+
+impl Acceptor {
+    /// An acceptor that has no records. It takes no memory.
+    pub(crate) fn new(alloc: Global, cluster: &Cluster, me: RoleId) -> Self
+        ensures { result ≡ opened acceptor_rules cluster.now me [] }
+    {
+        Acceptor {
+            alloc,
+            cluster: *cluster,
+            me,
+            live: true,
+            promise: Round::ZERO,
+            cw: 0,
+            votes: Vec::new(alloc),
+            top: 0,
+        }
+    }
+
+    /// Whether it could have appended this record. It takes no memory.
+    pub(crate) fn fits(&self, record: &Record) -> bool
+        ensures { result ≡ acceptor_fits self.now.cluster self.now.me self.now.durable record.now }
+    {
+        match record {
+            Record::Promise { round } => {
+                names_round(&self.cluster, *round) && self.promise.is_before(round)
+            }
+            Record::Vote {
+                round,
+                slot,
+                cw,
+                value,
+            } => {
+                names_round(&self.cluster, *round)
+                    && names_value(&self.cluster, value)
+                    && !round.is_before(&self.promise)
+                    && self.cw <= *slot
+                    && is_in_window(*cw, *slot)
+                    && !has_vote(&self.votes, *slot, *round)
+            }
+            Record::Water { round, mark } => {
+                names_round(&self.cluster, *round)
+                    && !round.is_before(&self.promise)
+                    && (self.promise.is_before(round) || self.cw < *mark)
+            }
+            _ => false,
+        }
+    }
+
+    /// Remembers a record that it could have appended.
+    pub(crate) fn remember(&mut self, record: &Record) -> Result<(), NoMemory>
+        requires ranges { IsTrue (record_fits record.now) }
+        requires own { acceptor_fits self.old.cluster self.old.me self.old.durable record.now ≡ true }
+        ensures ok { OnOk result (self.new ≡ record self.old { durable = acceptor_after self.old.durable record.now }) }
+        ensures err { OnErr result (self.new ≡ self.old) }
+    {
+        match record {
+            Record::Promise { round } => {
+                self.promise = *round;
+                Ok(())
+            }
+            Record::Vote {
+                round,
+                slot,
+                cw,
+                value,
+            } => {
+                let vote = Vote {
+                    round: *round,
+                    slot: *slot,
+                    value: value.copy(self.alloc)?,
+                };
+                self.votes.reserve(1)?;
+                self.promise = *round;
+                self.cw = self.cw.max(*cw);
+                self.top = self.top.max(*slot + 1);
+                place(&mut self.votes, self.cw, vote);
+                Ok(())
+            }
+            Record::Water { round, mark } => {
+                self.promise = *round;
+                self.cw = self.cw.max(*mark);
+                keep_from(&mut self.votes, self.cw);
+                Ok(())
+            }
+            _ => Ok(()),
+        }
+    }
+}
