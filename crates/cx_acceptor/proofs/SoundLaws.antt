@@ -7,8 +7,10 @@ use Rattle.std.proofs.lemmas.Bool.Decides.{nat_tests}
 use Rattle.std.proofs.lemmas.List.Folds.{list_all-append}
 use Rattle.cx_base.specs.declared.cluster.Cluster.{Cluster}
 use Rattle.cx_base.specs.declared.command.Value.{Value}
+use Rattle.cx_base.specs.declared.role.Kind.TheVariants.{Acceptor}
 use Rattle.cx_base.specs.declared.role.RoleId.{RoleId}
 use Rattle.cx_base.specs.declared.round.Round.{Round}
+use Rattle.cx_base.specs.Role.{role}
 use Rattle.cx_base.specs.Round.{is_before, no_round}
 use Rattle.cx_wire.specs.Format.{u16, u32, u64}
 use Rattle.cx_msg.specs.declared.kept.Record.{Record}
@@ -125,11 +127,11 @@ first_part a b h = (and_parts a b h).0
 other_slot : (low s : ℕ) (v : Vote) → (nat_le low v.slot && not (v.slot == s)) ≡ true → (v.slot == s) ≡ false
 other_slot low s v h = not_true (v.slot == s) ((and_parts (nat_le low v.slot) (not (v.slot == s)) h).1)
 
-pub sound_promise : (d : AcceptorDurable) (i : Round) → IsSound d → round.fits i ≡ true → IsSound (record d { promise = i })
-sound_promise d i sound real = record { promise = real_or_none i real; cw = sound.cw; top = sound.top; votes = sound.votes; once = sound.once }
+pub sound_promise : (me : RoleId) (d : AcceptorDurable) (i : Round) → IsSound me d → round.fits i ≡ true → IsSound me (record d { promise = i })
+sound_promise me d i sound real = record { who = sound.who; promise = real_or_none i real; cw = sound.cw; top = sound.top; votes = sound.votes; once = sound.once }
 
-pub sound_vote : (d : AcceptorDurable) (i : Round) (s cw : ℕ) (v : Value) → IsSound d → round.fits i ≡ true → slot.fits s ≡ true → mark.fits cw ≡ true → value.fits v ≡ true → nat_le d.cw s ≡ true → in_window cw s ≡ true → IsSound (acceptor_after d (kept.Vote i s cw v))
-sound_vote d i s cw v sound real in_slots in_marks fit from inside =
+pub sound_vote : (me : RoleId) (d : AcceptorDurable) (i : Round) (s cw : ℕ) (v : Value) → IsSound me d → round.fits i ≡ true → slot.fits s ≡ true → mark.fits cw ≡ true → value.fits v ≡ true → nat_le d.cw s ≡ true → in_window cw s ≡ true → IsSound me (acceptor_after d (kept.Vote i s cw v))
+sound_vote me d i s cw v sound real in_slots in_marks fit from inside =
     let low = max d.cw cw in
     let new : Vote = record { round = i; slot = s; value = v } in
     let others = other_votes low s d.votes in
@@ -138,6 +140,7 @@ sound_vote d i s cw v sound real in_slots in_marks fit from inside =
     let own : is_kept low new ≡ true = rw (real, in_slots, fit) (window_of_both d.cw cw s from inside) in
     let free : has_slot s others ≡ false = none_refused (λ (w : Vote). w.slot == s) (λ (w : Vote). nat_le low w.slot && not (w.slot == s)) (other_slot low s) d.votes in
     record {
+      who = sound.who;
       promise = real_or_none i real;
       cw = max_fits d.cw cw sound.cw in_marks;
       top = max_fits d.top (s + 1) sound.top (next_fits s in_slots);
@@ -145,11 +148,12 @@ sound_vote d i s cw v sound real in_slots in_marks fit from inside =
       once = single_append others new (single_filter (λ (w : Vote). nat_le low w.slot && not (w.slot == s)) d.votes sound.once) free;
     }
 
-pub sound_water : (d : AcceptorDurable) (i : Round) (cw : ℕ) → IsSound d → round.fits i ≡ true → mark.fits cw ≡ true → IsSound (acceptor_after d (kept.Water i cw))
-sound_water d i cw sound real in_marks =
+pub sound_water : (me : RoleId) (d : AcceptorDurable) (i : Round) (cw : ℕ) → IsSound me d → round.fits i ≡ true → mark.fits cw ≡ true → IsSound me (acceptor_after d (kept.Water i cw))
+sound_water me d i cw sound real in_marks =
     let low = max d.cw cw in
     let below : d.cw ≤ low = omega arith in
     record {
+      who = sound.who;
       promise = real_or_none i real;
       cw = max_fits d.cw cw sound.cw in_marks;
       top = sound.top;
@@ -161,26 +165,45 @@ fourth_and_fifth : (a b c d e f : Bool) → (a && b && c && d && e && f) ≡ tru
 fourth_and_fifth a b c d e f h = grind (arith, nat_tests)
 
 -- a record that fits leaves a sound acceptor sound
-pub after_sound : (c : Cluster) (me : RoleId) (d : AcceptorDurable) (r : Record) → IsSound d → fits r ≡ true → acceptor_fits c me d r ≡ true → IsSound (acceptor_after d r)
+pub after_sound : (c : Cluster) (me : RoleId) (d : AcceptorDurable) (r : Record) → IsSound me d → fits r ≡ true → acceptor_fits c me d r ≡ true → IsSound me (acceptor_after d r)
 unfolding kept_record vote_record round_mark
-after_sound c me d (kept.Promise i) sound fit takes = sound_promise d i sound fit
+after_sound c me d (kept.Promise i) sound fit takes = sound_promise me d i sound fit
 after_sound c me d (kept.Vote i s cw v) sound fit takes =
     let a = and_parts (round.fits i) (slot.fits s && (mark.fits cw && value.fits v)) fit in
     let b = and_parts (slot.fits s) (mark.fits cw && value.fits v) a.1 in
     let e = and_parts (mark.fits cw) (value.fits v) b.1 in
     let window = fourth_and_fifth (names_round c i) (names_value c v) (not (is_before i d.promise)) (nat_le d.cw s) (in_window cw s) (not (is_of i (vote_at s d.votes))) takes in
-    sound_vote d i s cw v sound a.0 b.0 e.0 e.1 window.0 window.1
+    sound_vote me d i s cw v sound a.0 b.0 e.0 e.1 window.0 window.1
 after_sound c me d (kept.Water i cw) sound fit takes =
-    let a = and_parts (round.fits i) (mark.fits cw) fit in sound_water d i cw sound a.0 a.1
+    let a = and_parts (round.fits i) (mark.fits cw) fit in sound_water me d i cw sound a.0 a.1
 after_sound c me d (kept.Match i g) sound fit takes = cc
 after_sound c me d (kept.Garbage i g) sound fit takes = cc
 after_sound c me d (kept.Round i g) sound fit takes = cc
 after_sound c me d (kept.Log vs) sound fit takes = cc
 
-pub vote_slot : (i : Round) (s cw : ℕ) (v : Value) → fits (kept.Vote i s cw v) ≡ true → s < 2 ^ 40
-unfolding kept_record vote_record slot u64
-vote_slot i s cw v fit = grind (arith, nat_tests)
+pub at_most : (n k : ℕ) → n ≤ k → nat_le n k ≡ true
+at_most n k below = grind (arith, nat_tests)
 
-pub empty_sound : IsSound (record { promise = no_round; cw = 0; votes = []; top = 0 })
+pub slot_small : (s : ℕ) → slot.fits s ≡ true → s < 2 ^ 40
+unfolding slot u64
+slot_small s fit = grind (arith, nat_tests)
+
+pub vote_slot : (i : Round) (s cw : ℕ) (v : Value) → fits (kept.Vote i s cw v) ≡ true → slot.fits s ≡ true
+unfolding kept_record vote_record
+vote_slot i s cw v fit =
+    let a = and_parts (round.fits i) (slot.fits s && (mark.fits cw && value.fits v)) fit in
+    (and_parts (slot.fits s) (mark.fits cw && value.fits v) a.1).0
+
+-- a vote's record with each field in its range
+pub vote_fits : (i : Round) (s cw : ℕ) (v : Value) → round.fits i ≡ true → slot.fits s ≡ true → mark.fits cw ≡ true → value.fits v ≡ true → fits (kept.Vote i s cw v) ≡ true
+unfolding kept_record vote_record
+vote_fits i s cw v real in_slots in_marks fit = rw (real, in_slots, in_marks, fit) refl
+
+-- a promise above a round is a round
+pub promise_real : (i p : Round) → round.fits i ≡ true → round0.fits p ≡ true → is_before i p ≡ true → round.fits p ≡ true
+unfolding round round0
+promise_real i p real fit before = grind (arith, nat_tests)
+
+pub empty_sound : (me : RoleId) → me ≡ role Acceptor me.index → IsSound me (record { promise = no_round; cw = 0; votes = []; top = 0 })
 unfolding round0 mark u16 u32 u64
-empty_sound = record { promise = refl; cw = refl; top = refl; votes = refl; once = refl }
+empty_sound me who = record { who = who; promise = refl; cw = refl; top = refl; votes = refl; once = refl }

@@ -1,6 +1,9 @@
 -- What is so of every acceptor.
-use Rattle.std.specs.Prelude.{ℕ, ◌==◌, not, ◌&&◌, Bool, true, List, [], ◌∷◌, IsTrue}
+use Rattle.std.specs.Prelude.{◌≡◌, ℕ, ◌==◌, not, ◌&&◌, Bool, true, List, [], ◌∷◌, IsTrue}
 use Rattle.std.specs.List.{list_all, list_any}
+use Rattle.cx_base.specs.declared.role.Kind.TheVariants.{Acceptor}
+use Rattle.cx_base.specs.declared.role.RoleId.{RoleId}
+use Rattle.cx_base.specs.Role.{role}
 use Rattle.cx_msg.specs.declared.message.Vote.{Vote}
 use Rattle.cx_msg.specs.Fields.{mark, round, round0, slot, value}
 use Rattle.cx_msg.specs.Messages.{in_window}
@@ -18,8 +21,10 @@ abbrev pub are_single : List Vote → Bool
 are_single [] = true
 are_single (v ∷ vs) = not (has_slot v.slot vs) && are_single vs
 
--- the promise is a round or none, the watermark and the top are numbers of slots, and the votes are in the window, one at a slot
-pub record IsSound (d : AcceptorDurable) : Type 0 where
+-- it is an acceptor, its promise is a round or none, its watermark and top are numbers of slots, and its votes are in the
+-- window, one at a slot
+pub record IsSound (me : RoleId) (d : AcceptorDurable) : Type 0 where
+  pub who : me ≡ role Acceptor me.index
   pub promise : IsTrue (round0.fits d.promise)
   pub cw : IsTrue (mark.fits d.cw)
   pub top : IsTrue (mark.fits d.top)

@@ -1,14 +1,11 @@
-//! An acceptor's state.
+//! The acceptor.
 
-ghost use Rattle.std.specs.Prelude.{◌≡◌, ◌∷◌, [], true, OnOk, OnErr, IsTrue};
-ghost use Rattle.cx_model.specs.Acceptor.{acceptor_rules, acceptor_after, acceptor_fits};
-ghost use Rattle.cx_model.specs.Rules.{opened};
-ghost use Rattle.cx_msg.specs.Records.{fits as record_fits};
+ghost use Rattle.cx_model.specs.Acceptor.{AcceptorDurable, acceptor_rules};
 
-use crate::votes::{has_vote, is_in_window, keep_from, place};
-use cx_base::{Cluster, Duplicate, NoMemory, RoleId, Round};
-use cx_msg::{Record, Vote};
-use cx_role::{names_round, names_value};
+use cx_base::{Cluster, NoMemory, Order, RoleId, Round, Why};
+use cx_keeper::Keeper;
+use cx_msg::{Datagram, Msg, Record, Vote};
+use cx_role::{Outbox, Role, StepFault, WakeFault, is_for};
 use std::alloc::Global;
 use std::marker::Model;
 
@@ -35,93 +32,68 @@ impl Model for Acceptor {
 
     ghost view = { λ a. record { cluster = a.cluster; me = a.me; live = a.live; durable = record { promise = a.promise; cw = a.cw; votes = a.votes.items; top = a.top }; volatile = tt } };
 
-    ghost invariant = { λ a. IsSound (record { promise = a.promise; cw = a.cw; votes = a.votes.items; top = a.top }) };
+    ghost invariant = { λ a. IsSound a.me (record { promise = a.promise; cw = a.cw; votes = a.votes.items; top = a.top }) };
 }
 
-impl Acceptor {
-    /// An acceptor that has no records. It takes no memory.
-    pub(crate) fn new(alloc: Global, cluster: &Cluster, me: RoleId) -> Self
-        ensures { result ≡ opened acceptor_rules cluster.now me [] }
-    {
-        Acceptor {
-            alloc,
-            cluster: *cluster,
-            me,
-            live: true,
-            promise: Round::ZERO,
-            cw: 0,
-            votes: Vec::new(alloc),
-            top: 0,
+impl Role for Acceptor {
+    ghost Durable = { AcceptorDurable };
+
+    ghost Volatile = { Unit {0} };
+
+    ghost rules = { acceptor_rules };
+
+    ghost state = { λ s. s };
+
+    fn open(
+        alloc: Global,
+        cluster: &Cluster,
+        me: RoleId,
+        records: &[Record],
+    ) -> Result<Self, WakeFault> {
+        let mut acceptor = Acceptor::new(alloc, cluster, me);
+        for (index, what) in records.iter().enumerate() {
+            if !acceptor.fits(what) {
+                return Err(WakeFault::Record { index });
+            }
+            acceptor.remember(what)?;
         }
+        Ok(acceptor)
     }
 
-    /// Whether it could have appended this record. It takes no memory.
-    pub(crate) fn fits(&self, record: &Record) -> bool
-        ensures { result ≡ acceptor_fits self.now.cluster self.now.me self.now.durable record.now }
-    {
-        match record {
-            Record::Promise { round } => {
-                names_round(&self.cluster, *round) && self.promise.is_before(round)
-            }
-            Record::Vote {
+    fn take<K: Keeper>(
+        &mut self,
+        keeper: &mut K,
+        datagram: &Datagram,
+        out: &mut Outbox,
+    ) -> Result<Why, StepFault> {
+        if !is_for(&self.cluster, self.me, datagram) {
+            return Ok(Why::Stranger);
+        }
+        match datagram.msg() {
+            Msg::Phase2A {
                 round,
                 slot,
                 cw,
                 value,
-            } => {
-                names_round(&self.cluster, *round)
-                    && names_value(&self.cluster, value)
-                    && !round.is_before(&self.promise)
-                    && self.cw <= *slot
-                    && is_in_window(*cw, *slot)
-                    && !has_vote(&self.votes, *slot, *round)
-            }
-            Record::Water { round, mark } => {
-                names_round(&self.cluster, *round)
-                    && !round.is_before(&self.promise)
-                    && (self.promise.is_before(round) || self.cw < *mark)
-            }
-            _ => false,
+            } => self.phase2a(keeper, datagram.from(), *round, *slot, *cw, value, out),
+            _ => Ok(Why::Stranger),
         }
     }
 
-    /// Remembers a record that it could have appended.
-    pub(crate) fn remember(&mut self, record: &Record) -> Result<(), NoMemory>
-        requires ranges { IsTrue (record_fits record.now) }
-        requires own { acceptor_fits self.old.cluster self.old.me self.old.durable record.now ≡ true }
-        ensures ok { OnOk result (self.new ≡ record self.old { durable = acceptor_after self.old.durable record.now }) }
-        ensures err { OnErr result (self.new ≡ self.old) }
-    {
-        match record {
-            Record::Promise { round } => {
-                self.promise = *round;
-                Ok(())
-            }
-            Record::Vote {
-                round,
-                slot,
-                cw,
-                value,
-            } => {
-                let vote = Vote {
-                    round: *round,
-                    slot: *slot,
-                    value: value.copy(self.alloc)?,
-                };
-                self.votes.reserve(1)?;
-                self.promise = *round;
-                self.cw = self.cw.max(*cw);
-                self.top = self.top.max(*slot + 1);
-                place(&mut self.votes, self.cw, vote);
-                Ok(())
-            }
-            Record::Water { round, mark } => {
-                self.promise = *round;
-                self.cw = self.cw.max(*mark);
-                keep_from(&mut self.votes, self.cw);
-                Ok(())
-            }
-            _ => Ok(()),
-        }
+    fn order<K: Keeper>(
+        &mut self,
+        _keeper: &mut K,
+        _order: &Order,
+        _out: &mut Outbox,
+    ) -> Result<Why, StepFault> {
+        Ok(Why::Stranger)
+    }
+
+    fn tick(&mut self, _out: &mut Outbox) -> Result<Why, NoMemory> {
+        Ok(Why::Idle)
+    }
+
+    fn live(&self) -> bool {
+        self.live
     }
 }

@@ -6,6 +6,8 @@
 #![tactic(auto)]
 
 mod acceptor;
+mod records;
+mod rows;
 mod votes;
 
 pub use acceptor::Acceptor;

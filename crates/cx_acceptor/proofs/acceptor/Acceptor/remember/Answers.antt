@@ -1,6 +1,6 @@
 use Rattle.std.proofs.Common.{arith}
 use Rattle.cx_msg.specs.declared.kept.Record.TheVariants as kept
-use Rattle.cx_acceptor.proofs.SoundLaws.{after_sound, vote_slot}
+use Rattle.cx_acceptor.proofs.SoundLaws.{after_sound, slot_small, vote_slot}
 use Rattle.cx_acceptor.proofs.acceptor.Acceptor.remember.Goals as goal
 
 pub invariant_of-self : goal.invariant_of-self
@@ -12,7 +12,7 @@ invariant_of-self c =
 pub overflow_add-slot : goal.overflow_add-slot
 overflow_add-slot c =
     let ranges = rw c.in-Vote.is at c.requires.ranges in
-    let small = vote_slot c.in-Vote.round c.in-Vote.slot c.in-Vote.cw c.in-Vote.value ranges in
+    let small = slot_small c.in-Vote.slot (vote_slot c.in-Vote.round c.in-Vote.slot c.in-Vote.cw c.in-Vote.value ranges) in
     omega arith
 
 pub invariant_of-self-in-Vote : goal.invariant_of-self-in-Vote
