@@ -8,6 +8,8 @@
 mod acceptor;
 mod records;
 mod rows;
+#[cfg(test)]
+mod tests;
 mod votes;
 
 pub use acceptor::Acceptor;
