@@ -1,0 +1,99 @@
+//! The acceptor.
+
+ghost use Rattle.cx_model.specs.Acceptor.{AcceptorDurable, acceptor_rules};
+
+use cx_base::{Cluster, NoMemory, Order, RoleId, Round, Why};
+use cx_keeper::Keeper;
+use cx_msg::{Datagram, Msg, Record, Vote};
+use cx_role::{Outbox, Role, StepFault, WakeFault, is_for};
+use std::alloc::Global;
+use std::marker::Model;
+
+/// An acceptor: the round that it promised, the chosen watermark, its last vote at each slot from there on, and one more
+/// than the greatest slot that it ever voted at (VLDB 2021; the watermark is this project's own).
+#[derive(Drop)]
+pub struct Acceptor {
+    pub(crate) alloc: Global,
+    pub(crate) cluster: Cluster,
+    pub(crate) me: RoleId,
+    pub(crate) live: bool,
+    pub(crate) promise: Round,
+    pub(crate) cw: u64,
+    pub(crate) votes: Vec<Vote>,
+    pub(crate) top: u64,
+}
+
+impl Model for Acceptor {
+    ghost use Rattle.cx_model.specs.Acceptor.{AcceptorDurable};
+    ghost use Rattle.cx_model.specs.Rules.{Running};
+    ghost use Rattle.cx_acceptor.specs.Sound.{IsSound};
+
+    ghost Value = { Running AcceptorDurable (Unit {0}) };
+
+    ghost view = { λ a. record { cluster = a.cluster; me = a.me; live = a.live; durable = record { promise = a.promise; cw = a.cw; votes = a.votes.items; top = a.top }; volatile = tt } };
+
+    ghost invariant = { λ a. IsSound a.me (record { promise = a.promise; cw = a.cw; votes = a.votes.items; top = a.top }) };
+}
+
+impl Role for Acceptor {
+    ghost Durable = { AcceptorDurable };
+
+    ghost Volatile = { Unit {0} };
+
+    ghost rules = { acceptor_rules };
+
+    ghost state = { λ s. s };
+
+    fn open(
+        alloc: Global,
+        cluster: &Cluster,
+        me: RoleId,
+        records: &[Record],
+    ) -> Result<Self, WakeFault> {
+        let mut acceptor = Acceptor::new(alloc, cluster, me);
+        for (index, what) in records.iter().enumerate() {
+            if !acceptor.fits(what) {
+                return Err(WakeFault::Record { index });
+            }
+            acceptor.remember(what)?;
+        }
+        Ok(acceptor)
+    }
+
+    fn take<K: Keeper>(
+        &mut self,
+        keeper: &mut K,
+        datagram: &Datagram,
+        out: &mut Outbox,
+    ) -> Result<Why, StepFault> {
+        if !is_for(&self.cluster, self.me, datagram) {
+            return Ok(Why::Stranger);
+        }
+        match datagram.msg() {
+            Msg::Phase2A {
+                round,
+                slot,
+                cw,
+                value,
+            } => self.phase2a(keeper, datagram.from(), *round, *slot, *cw, value, out),
+            _ => Ok(Why::Stranger),
+        }
+    }
+
+    fn order<K: Keeper>(
+        &mut self,
+        _keeper: &mut K,
+        _order: &Order,
+        _out: &mut Outbox,
+    ) -> Result<Why, StepFault> {
+        Ok(Why::Stranger)
+    }
+
+    fn tick(&mut self, _out: &mut Outbox) -> Result<Why, NoMemory> {
+        Ok(Why::Idle)
+    }
+
+    fn live(&self) -> bool {
+        self.live
+    }
+}

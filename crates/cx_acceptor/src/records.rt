@@ -1,0 +1,103 @@
+//! What an acceptor remembers of its records.
+
+ghost use Rattle.std.specs.Prelude.{◌≡◌, ◌∷◌, [], true, OnOk, OnErr, IsTrue};
+ghost use Rattle.cx_base.specs.declared.role.Kind.{Kind};
+ghost use Rattle.cx_model.specs.Acceptor.{acceptor_rules, acceptor_after, acceptor_fits};
+ghost use Rattle.cx_model.specs.Rules.{opened};
+ghost use Rattle.cx_msg.specs.Records.{fits as record_fits};
+
+use crate::Acceptor;
+use crate::votes::{has_vote, is_in_window, keep_from, place};
+use cx_base::{Cluster, Duplicate, NoMemory, RoleId, Round};
+use cx_msg::{Record, Vote};
+use cx_role::{names_round, names_value};
+use std::alloc::Global;
+
+impl Acceptor {
+    /// An acceptor that has no records. It takes no memory.
+    pub(crate) fn new(alloc: Global, cluster: &Cluster, me: RoleId) -> Self
+        requires { me.kind ≡ Kind.Acceptor }
+        ensures { result ≡ opened acceptor_rules cluster.now me [] }
+    {
+        Acceptor {
+            alloc,
+            cluster: *cluster,
+            me,
+            live: true,
+            promise: Round::ZERO,
+            cw: 0,
+            votes: Vec::new(alloc),
+            top: 0,
+        }
+    }
+
+    /// Whether it could have appended this record. It takes no memory.
+    pub(crate) fn fits(&self, what: &Record) -> bool
+        ensures { result ≡ acceptor_fits self.now.cluster self.now.me self.now.durable what.now }
+    {
+        match what {
+            Record::Promise { round } => {
+                names_round(&self.cluster, *round) && self.promise.is_before(round)
+            }
+            Record::Vote {
+                round,
+                slot,
+                cw,
+                value,
+            } => {
+                names_round(&self.cluster, *round)
+                    && names_value(&self.cluster, value)
+                    && !round.is_before(&self.promise)
+                    && self.cw <= *slot
+                    && is_in_window(*cw, *slot)
+                    && !has_vote(&self.votes, *slot, *round)
+            }
+            Record::Water { round, mark } => {
+                names_round(&self.cluster, *round)
+                    && !round.is_before(&self.promise)
+                    && (self.promise.is_before(round) || self.cw < *mark)
+            }
+            _ => false,
+        }
+    }
+
+    /// Remembers a record that it could have appended.
+    pub(crate) fn remember(&mut self, what: &Record) -> Result<(), NoMemory>
+        requires ranges { IsTrue (record_fits what.now) }
+        requires own { acceptor_fits self.old.cluster self.old.me self.old.durable what.now ≡ true }
+        ensures ok { OnOk result (self.new ≡ record self.old { durable = acceptor_after self.old.durable what.now }) }
+        ensures err { OnErr result (self.new ≡ self.old) }
+    {
+        match what {
+            Record::Promise { round } => {
+                self.promise = *round;
+                Ok(())
+            }
+            Record::Vote {
+                round,
+                slot,
+                cw,
+                value,
+            } => {
+                let vote = Vote {
+                    round: *round,
+                    slot: *slot,
+                    value: value.copy(self.alloc)?,
+                };
+                self.votes.reserve(1)?;
+                self.promise = *round;
+                self.cw = self.cw.max(*cw);
+                self.top = self.top.max(*slot + 1);
+                place(&mut self.votes, self.cw, vote);
+                Ok(())
+            }
+            Record::Water { round, mark } => {
+                self.promise = *round;
+                self.cw = self.cw.max(*mark);
+                keep_from(&mut self.votes, self.cw);
+                Ok(())
+            }
+            _ => Ok(()),
+        }
+    }
+}

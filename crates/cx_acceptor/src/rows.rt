@@ -1,0 +1,85 @@
+//! The rows of an acceptor.
+
+ghost use Rattle.std.specs.Prelude.{◌≡◌, [], true, IfOk, IsErrOf, IsTrue};
+ghost use Rattle.cx_base.specs.declared.role.Kind.{Kind};
+ghost use Rattle.cx_base.specs.Role.{role};
+ghost use Rattle.cx_model.specs.Acceptor.{acceptor_rules, phase2a_row};
+ghost use Rattle.cx_msg.specs.Fields as field;
+ghost use Rattle.cx_msg.specs.Messages.{in_window};
+ghost use Rattle.cx_role.specs.declared.role.StepFault.TheVariants as fault;
+ghost use Rattle.cx_role.specs.Role.{Steps, StaysAt, FailsAt};
+
+use crate::Acceptor;
+use crate::votes::{has_vote, place};
+use cx_base::{Duplicate, RoleId, Round, Value, Why};
+use cx_keeper::{KeepFault, Keeper};
+use cx_msg::{Record, Vote, nack, phase2b};
+use cx_role::{Outbox, StepFault};
+
+impl Acceptor {
+    /// A proxy leader asks for a vote: in a round below the promised one the round's leader is told, else the vote is kept
+    /// before it is told, once for each round and slot (VLDB 2021).
+    pub(crate) fn phase2a<K: Keeper>(
+        &mut self,
+        keeper: &mut K,
+        from: RoleId,
+        round: Round,
+        slot: u64,
+        cw: u64,
+        value: &Value,
+        out: &mut Outbox,
+    ) -> Result<Why, StepFault>
+        requires live { self.old.live ≡ true }
+        requires empty { out.old.list ≡ [] }
+        requires sender { from ≡ role Kind.Proxy from.index }
+        requires round { IsTrue (field.round.fits round) }
+        requires slot { IsTrue (field.slot.fits slot) }
+        requires mark { IsTrue (field.mark.fits cw) }
+        requires window { IsTrue (in_window cw slot) }
+        requires value { IsTrue (field.value.fits value.now) }
+        ensures ok { IfOk result (λ why. Steps K.append_gives acceptor_rules self.old (phase2a_row self.old.me self.old.durable from round slot cw value.now) why keeper.old keeper.new self.new out.new.list) }
+        ensures no_memory { IsErrOf result StepFault.NoMemory → StaysAt K.kept self.old self.new keeper.old keeper.new out.new.list }
+        ensures failed { IsErrOf result StepFault.Failed → FailsAt K.append_gives (phase2a_row self.old.me self.old.durable from round slot cw value.now) keeper.old keeper.new self.new out.new.list }
+    {
+        if round.is_before(&self.promise) {
+            out.room(1)?;
+            out.push(nack(self.me.index, round.id, round, self.promise));
+            return Ok(Why::Nack);
+        }
+        if slot < self.cw {
+            return Ok(Why::Past);
+        }
+        if has_vote(&self.votes, slot, round) {
+            out.room(1)?;
+            out.push(phase2b(self.me.index, from.index, round, slot));
+            return Ok(Why::Same);
+        }
+        let vote = Vote {
+            round,
+            slot,
+            value: value.copy(self.alloc)?,
+        };
+        let record = Record::Vote {
+            round,
+            slot,
+            cw,
+            value: value.copy(self.alloc)?,
+        };
+        self.votes.reserve(1)?;
+        out.room(1)?;
+        match keeper.append(&record) {
+            Ok(()) => {}
+            Err(KeepFault::NoMemory) => return Err(StepFault::NoMemory),
+            Err(KeepFault::Failed) => {
+                self.live = false;
+                return Err(StepFault::Failed);
+            }
+        }
+        self.promise = round;
+        self.cw = self.cw.max(cw);
+        self.top = self.top.max(slot + 1);
+        place(&mut self.votes, self.cw, vote);
+        out.push(phase2b(self.me.index, from.index, round, slot));
+        Ok(Why::Voted)
+    }
+}

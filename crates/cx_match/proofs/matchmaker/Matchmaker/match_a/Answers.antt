@@ -1,0 +1,45 @@
+use Rattle.std.proofs.Common.{◌<◌, length, arith, rules}
+use Rattle.cx_match.proofs.EntryLaws.{all_before, before_fit, greatest_fits, some_later}
+use Rattle.cx_match.proofs.SoundLaws.{has_space, match_fits, sound_match, watermark_real}
+use Rattle.cx_match.proofs.matchmaker.Matchmaker.match_a.Goals as goal
+
+pub match_nack-requires-clause-other : goal.match_nack-requires-clause-other
+match_nack-requires-clause-other g c = watermark_real c.args.round c.self.inside.watermark c.requires.round c.self.invariant.watermark (rw c.is_before.ensures at c.if-is_before.true)
+
+pub match_nack-requires-then-has_later-clause-other : goal.match_nack-requires-then-has_later-clause-other
+match_nack-requires-then-has_later-clause-other g c =
+    let later = rw (c.has_later.ensures, c.deref.ensures.value) at c.if-has_later.true in
+    rw (c.last_round-last.ensures, c.deref-then-has_later.ensures.value) (greatest_fits c.self.inside.entries.items (some_later c.args.round c.self.inside.entries.items later) c.self.invariant.entries)
+
+pub match_b-requires-clause-entries : goal.match_b-requires-clause-entries
+match_b-requires-clause-entries g c =
+    rw (c.in_ok-entries.ensures, c.deref-then-has_entry.ensures.value) (before_fit c.args.round c.self.inside.entries.items c.self.invariant.entries c.self.invariant.few)
+
+pub match_nack-requires-then-len-ge16-clause-other : goal.match_nack-requires-then-len-ge16-clause-other
+match_nack-requires-then-len-ge16-clause-other g c =
+    let some : 0 < length c.self.inside.entries.items = omega arith in
+    rw (c.last_round-last-then-len-ge16.ensures, c.deref-then-len-ge16.ensures.value) (greatest_fits c.self.inside.entries.items some c.self.invariant.entries)
+
+pub append-requires : goal.append-requires
+append-requires g c = match_fits c.args.round c.args.grid c.requires.round c.requires.grid
+
+pub match_b-requires-2-clause-entries : goal.match_b-requires-2-clause-entries
+match_b-requires-2-clause-entries g c =
+    rw (c.in_ok-entries-2.ensures, c.deref-3.ensures.value) (before_fit c.args.round c.self.inside.entries.items c.self.invariant.entries c.self.invariant.few)
+
+pub invariant_of-self-2 : goal.invariant_of-self-2
+invariant_of-self-2 g c =
+    let last = rw (c.has_later.ensures, c.deref.ensures.value) at c.if-has_later.false in
+    let new = rw (c.has_entry.ensures, c.deref-2.ensures.value) at c.if-has_entry.false in
+    let space : length c.self.inside.entries.items < 16 = omega arith in
+    let sound = sound_match c.self.inside.me _ c.args.round c.args.grid c.self.invariant c.requires.round c.requires.grid (all_before c.args.round c.self.inside.entries.items last new) space in
+    rw (c.push_reserved.ensures.items, c.reserve.ensures.items) sound
+
+pub returns-clause-ok : goal.returns-clause-ok
+returns-clause-ok g c =
+    let high = rw c.is_before.ensures at c.if-is_before.false in
+    let last = rw (c.has_later.ensures, c.deref.ensures.value) at c.if-has_later.false in
+    let new = rw (c.has_entry.ensures, c.deref-2.ensures.value) at c.if-has_entry.false in
+    let few : length c.self.inside.entries.items < 16 = omega arith in
+    let space = has_space (length c.self.inside.entries.items) few in
+    rw (← c.self.view_is, high, last, new, space) (record { why = search rules; kept = search rules; state = search rules; sends = search rules })

@@ -1,0 +1,8 @@
+use Rattle.std.proofs.Common.{ap}
+use Rattle.cx_base.specs.declared.role.Kind.{Kind}
+use Rattle.cx_base.specs.Role.{role}
+use Rattle.cx_match.proofs.SoundLaws.{empty_sound}
+use Rattle.cx_match.proofs.matchmaker.Matchmaker.new.Goals as goal
+
+pub invariant_of-result : goal.invariant_of-result
+invariant_of-result c = rw c.new.ensures.items (empty_sound c.args.me (ap (λ (k : Kind). role k c.args.me.index) c.requires))

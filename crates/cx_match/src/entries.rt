@@ -1,0 +1,72 @@
+//! The entries of a matchmaker: rounds with their grids, in rising order.
+
+ghost use Rattle.std.specs.Prelude.{◌≡◌, ◌<◌, ◌≤◌, ◌∷◌, length, vec_len, vec_capacity, IfOk};
+ghost use Rattle.std.specs.List.{list_all, list_any};
+ghost use Rattle.cx_base.specs.Round.{is_before};
+ghost use Rattle.cx_model.specs.Matchmaker.{entries_before, entries_from, entry, greatest, has_round, with_own};
+ghost use Rattle.cx_msg.specs.declared.message.Entry.{Entry};
+
+use cx_base::{Few, Grid, NoMemory, Round};
+use cx_msg::{Entries, Entry};
+use std::alloc::Global;
+
+/// Whether some entry is of a later round. It takes no memory.
+pub fn has_later(entries: &[Entry], round: Round) -> bool
+    ensures { result ≡ list_any (λ (e : Entry). is_before round e.round) entries.now }
+{
+    entries.iter().any(|entry| round.is_before(&entry.round))
+}
+
+/// Whether all entries are of earlier rounds. It takes no memory.
+pub fn are_before(entries: &[Entry], round: Round) -> bool
+    ensures { result ≡ list_all (λ (e : Entry). is_before e.round round) entries.now }
+{
+    entries.iter().all(|entry| entry.round.is_before(&round))
+}
+
+/// Whether some entry is of this round. It takes no memory.
+pub fn has_entry(entries: &[Entry], round: Round) -> bool
+    ensures { result ≡ has_round round entries.now }
+{
+    entries.iter().any(|entry| entry.round == round)
+}
+
+/// The round of the last entry, or none. It takes no memory.
+pub fn last_round(entries: &[Entry]) -> Round
+    ensures { result ≡ greatest entries.now }
+{
+    entries.last().map_or(Round::ZERO, |entry| entry.round)
+}
+
+/// The entries of earlier rounds.
+pub fn earlier(alloc: Global, entries: &[Entry], round: Round) -> Result<Entries, NoMemory>
+    requires { length entries.now ≤ 17 }
+    ensures { IfOk result (λ list. list ≡ entries_before round entries.now) }
+{
+    let list = entries
+        .iter()
+        .copied()
+        .filter(|entry| entry.round.is_before(&round))
+        .collect::<Vec<Entry>>(alloc)?;
+    Ok(Few::from_vec(list))
+}
+
+fn keep_from(entries: &mut Vec<Entry>, round: Round)
+    ensures items { entries.new.items ≡ entries_from round entries.old.items }
+    ensures fewer { vec_len entries.new ≤ vec_len entries.old }
+    ensures room { vec_capacity entries.new ≡ vec_capacity entries.old }
+{
+    entries.retain(|entry| !entry.round.is_before(&round));
+}
+
+/// Forgets the entries of earlier rounds, and puts this one in front of the others if its round has none. Room for it was
+/// taken beforehand.
+pub fn retire(entries: &mut Vec<Entry>, round: Round, grid: Grid)
+    requires { vec_len entries.old < vec_capacity entries.old }
+    ensures { entries.new.items ≡ with_own round grid (entries_from round entries.old.items) }
+{
+    keep_from(entries, round);
+    if !has_entry(entries, round) {
+        entries.insert(0, Entry { round, grid }).unwrap();
+    }
+}

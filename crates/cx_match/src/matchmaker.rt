@@ -1,0 +1,94 @@
+//! The matchmaker.
+
+ghost use Rattle.cx_model.specs.Matchmaker.{MatchmakerDurable, matchmaker_rules};
+
+use cx_base::{Cluster, NoMemory, Order, RoleId, Round, Why};
+use cx_keeper::Keeper;
+use cx_msg::{Datagram, Entry, Msg, Record};
+use cx_role::{Outbox, Role, StepFault, WakeFault, is_for};
+use std::alloc::Global;
+use std::marker::Model;
+
+/// A matchmaker: the round below which rounds are retired, and the rounds that were recorded with their grids, in rising
+/// order (JSys 2021). It records at most 16 rounds.
+#[derive(Drop)]
+pub struct Matchmaker {
+    pub(crate) alloc: Global,
+    pub(crate) cluster: Cluster,
+    pub(crate) me: RoleId,
+    pub(crate) live: bool,
+    pub(crate) watermark: Round,
+    pub(crate) entries: Vec<Entry>,
+}
+
+impl Model for Matchmaker {
+    ghost use Rattle.cx_model.specs.Matchmaker.{MatchmakerDurable};
+    ghost use Rattle.cx_model.specs.Rules.{Running};
+    ghost use Rattle.cx_match.specs.Sound.{IsSound};
+
+    ghost Value = { Running MatchmakerDurable (Unit {0}) };
+
+    ghost view = { λ m. record { cluster = m.cluster; me = m.me; live = m.live; durable = record { watermark = m.watermark; entries = m.entries.items }; volatile = tt } };
+
+    ghost invariant = { λ m. IsSound m.me (record { watermark = m.watermark; entries = m.entries.items }) };
+}
+
+impl Role for Matchmaker {
+    ghost Durable = { MatchmakerDurable };
+
+    ghost Volatile = { Unit {0} };
+
+    ghost rules = { matchmaker_rules };
+
+    ghost state = { λ s. s };
+
+    fn open(
+        alloc: Global,
+        cluster: &Cluster,
+        me: RoleId,
+        records: &[Record],
+    ) -> Result<Self, WakeFault> {
+        let mut matchmaker = Matchmaker::new(alloc, cluster, me);
+        for (index, what) in records.iter().enumerate() {
+            if !matchmaker.fits(what) {
+                return Err(WakeFault::Record { index });
+            }
+            matchmaker.remember(what)?;
+        }
+        Ok(matchmaker)
+    }
+
+    fn take<K: Keeper>(
+        &mut self,
+        keeper: &mut K,
+        datagram: &Datagram,
+        out: &mut Outbox,
+    ) -> Result<Why, StepFault> {
+        if !is_for(&self.cluster, self.me, datagram) {
+            return Ok(Why::Stranger);
+        }
+        match datagram.msg() {
+            Msg::MatchA { round, grid } => {
+                self.match_a(keeper, datagram.from(), *round, *grid, out)
+            }
+            _ => Ok(Why::Stranger),
+        }
+    }
+
+    fn order<K: Keeper>(
+        &mut self,
+        _keeper: &mut K,
+        _order: &Order,
+        _out: &mut Outbox,
+    ) -> Result<Why, StepFault> {
+        Ok(Why::Stranger)
+    }
+
+    fn tick(&mut self, _out: &mut Outbox) -> Result<Why, NoMemory> {
+        Ok(Why::Idle)
+    }
+
+    fn live(&self) -> bool {
+        self.live
+    }
+}

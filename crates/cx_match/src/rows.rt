@@ -1,0 +1,76 @@
+//! The rows of a matchmaker.
+
+ghost use Rattle.std.specs.Prelude.{◌≡◌, [], true, IfOk, IsErrOf, IsTrue};
+ghost use Rattle.cx_base.specs.declared.role.Kind.{Kind};
+ghost use Rattle.cx_base.specs.Role.{role};
+ghost use Rattle.cx_model.specs.Matchmaker.{matchmaker_rules, match_a_row};
+ghost use Rattle.cx_msg.specs.Fields as field;
+ghost use Rattle.cx_role.specs.declared.role.StepFault.TheVariants as fault;
+ghost use Rattle.cx_role.specs.Role.{Steps, StaysAt, FailsAt};
+
+use crate::Matchmaker;
+use crate::entries::{earlier, has_entry, has_later, last_round};
+use cx_base::{Grid, RoleId, Round, Why};
+use cx_keeper::{KeepFault, Keeper};
+use cx_msg::{Entry, Record, match_b, match_nack};
+use cx_role::{Outbox, StepFault};
+
+impl Matchmaker {
+    /// A leader asks that a round be recorded, and for the earlier rounds and their grids. A round below the watermark, one
+    /// below another that is recorded, and a seventeenth are refused (JSys 2021; the limit is this project's own).
+    pub(crate) fn match_a<K: Keeper>(
+        &mut self,
+        keeper: &mut K,
+        from: RoleId,
+        round: Round,
+        grid: Grid,
+        out: &mut Outbox,
+    ) -> Result<Why, StepFault>
+        requires live { self.old.live ≡ true }
+        requires empty { out.old.list ≡ [] }
+        requires sender { from ≡ role Kind.Leader from.index }
+        requires round { IsTrue (field.round.fits round) }
+        requires grid { IsTrue (field.grid.fits grid) }
+        ensures ok { IfOk result (λ why. Steps K.append_gives matchmaker_rules self.old (match_a_row self.old.me self.old.durable from round grid) why keeper.old keeper.new self.new out.new.list) }
+        ensures no_memory { IsErrOf result StepFault.NoMemory → StaysAt K.kept self.old self.new keeper.old keeper.new out.new.list }
+        ensures failed { IsErrOf result StepFault.Failed → FailsAt K.append_gives (match_a_row self.old.me self.old.durable from round grid) keeper.old keeper.new self.new out.new.list }
+    {
+        if round.is_before(&self.watermark) {
+            out.room(1)?;
+            out.push(match_nack(self.me.index, from.index, round, 0, self.watermark));
+            return Ok(Why::Collected);
+        }
+        if has_later(&self.entries, round) {
+            let last = last_round(&self.entries);
+            out.room(1)?;
+            out.push(match_nack(self.me.index, from.index, round, 1, last));
+            return Ok(Why::Later);
+        }
+        if has_entry(&self.entries, round) {
+            let entries = earlier(self.alloc, &self.entries, round)?;
+            out.room(1)?;
+            out.push(match_b(self.me.index, from.index, round, self.watermark, entries));
+            return Ok(Why::Same);
+        }
+        if self.entries.len() >= 16 {
+            let last = last_round(&self.entries);
+            out.room(1)?;
+            out.push(match_nack(self.me.index, from.index, round, 2, last));
+            return Ok(Why::Full);
+        }
+        let entries = earlier(self.alloc, &self.entries, round)?;
+        self.entries.reserve(1)?;
+        out.room(1)?;
+        match keeper.append(&Record::Match { round, grid }) {
+            Ok(()) => {}
+            Err(KeepFault::NoMemory) => return Err(StepFault::NoMemory),
+            Err(KeepFault::Failed) => {
+                self.live = false;
+                return Err(StepFault::Failed);
+            }
+        }
+        self.entries.push_reserved(Entry { round, grid });
+        out.push(match_b(self.me.index, from.index, round, self.watermark, entries));
+        Ok(Why::Matched)
+    }
+}
