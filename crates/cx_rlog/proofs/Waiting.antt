@@ -1,5 +1,5 @@
 -- Values that wait stay above the slots held.
-use Rattle.std.proofs.Common.{◌≡◌, ℕ, zero, suc, ◌+◌, ◌-◌, ◌^◌, ◌<◌, ◌≤◌, ◌⊎◌, inl, inr, Bool, true, false, ◌==◌, nat_le, List, [], ◌∷◌, ◌++◌, length, refl, ap, sym, ◌∙◌, subst, add-zero, arith, Option, Some, None, min}
+use Rattle.std.proofs.Common.{◌≡◌, ℕ, zero, suc, ◌+◌, ◌-◌, ◌^◌, ◌≤◌, ◌⊎◌, inl, inr, ◌==◌, nat_le, List, [], ◌∷◌, ◌++◌, length, refl, ap, add-zero, arith, Option, Some, None, min}
 use Rattle.std.proofs.lemmas.Bool.{cases_Bool, leb-true, eqb-false}
 use Rattle.cx_base.specs.Log.{following, ready_values, still_early, value_for}
 use Rattle.cx_base.specs.declared.command.Value.{Value}
@@ -34,13 +34,13 @@ kept_gap held new [] h l e = tt
 kept_gap held new (p ∷ early) h l e = elim (cases_Bool (p.slot == new)) as (λ _. AreEarly new (still_early new (p ∷ early))) [
   | inl same ↦ absurd (some_none p.value (rw same at e))
   | inr other ↦
-  let rest = kept_gap held new early h.1 l (rw other at e) in
-  let apart : p.slot ≡ new → ⊥ = eqb-false p.slot new other in
-  elim (cases_Bool (nat_le new p.slot)) as (λ _. AreEarly new (still_early new (p ∷ early))) [
-    | inl t ↦
-    rw t (record { above = omega (arith, leb-true new p.slot t); near = omega (arith, h.0.near); real = h.0.real }, rest)
-    | inr t ↦ rw t rest
-  ]
+      let rest = kept_gap held new early h.1 l (rw other at e) in
+      let apart : p.slot ≡ new → ⊥ = eqb-false p.slot new other in
+      elim (cases_Bool (nat_le new p.slot)) as (λ _. AreEarly new (still_early new (p ∷ early))) [
+        | inl t ↦
+            rw t (record { above = omega (arith, leb-true new p.slot t); near = omega (arith, h.0.near); real = h.0.real }, rest)
+        | inr t ↦ rw t rest
+      ]
 ]
 
 -- the values that follow end at their greatest number, or before a slot for which none waits
@@ -68,8 +68,8 @@ ready_waiting s (v ∷ later) held new e h waiting n short =
     elim (following_stops s.early (held + 1) most) as (λ _. AreEarly new (still_early new s.early)) [
       | inl full ↦ kept_end held new s.early waiting (omega arith) (end full count)
       | inr gap ↦
-      let at : new ≡ held + 1 + length (following s.early (held + 1) most) = omega arith in
-      kept_gap held new s.early waiting (omega arith) (rw at gap)
+          let at : new ≡ held + 1 + length (following s.early (held + 1) most) = omega arith in
+          kept_gap held new s.early waiting (omega arith) (rw at gap)
     ]
   where
     end : length (following s.early (held + 1) (min 31 (1099511627776 - (held + 1)))) ≡ min 31 (1099511627776 - (held + 1))

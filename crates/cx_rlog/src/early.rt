@@ -1,6 +1,6 @@
 //! Values that came before their turn.
 
-ghost use Rattle.std.specs.Prelude.{◌≡◌, ◌<◌, ◌≤◌, ◌^◌, vec_len, OnErr, OnOk, IfOk};
+ghost use Rattle.std.specs.Prelude.{◌≡◌, ◌+◌, ◌<◌, ◌≤◌, ◌^◌, vec_len, OnErr, OnOk, IfOk};
 ghost use Rattle.std.specs.Option.{option_copied};
 ghost use Rattle.cx_base.specs.Log.{ready_values, still_early, value_for};
 ghost use Rattle.cx_rlog.specs.Taken.{waiting_with};
@@ -27,7 +27,12 @@ pub fn value_for(early: &[Placed], slot: u64) -> Option<&Value>
 }
 
 /// Lets a value wait, where none waits for its slot.
-pub fn wait(alloc: Global, early: &mut Vec<Placed>, slot: u64, value: &Value) -> Result<(), NoMemory>
+pub fn wait(
+    alloc: Global,
+    early: &mut Vec<Placed>,
+    slot: u64,
+    value: &Value,
+) -> Result<(), NoMemory>
     ensures ok { OnOk result (early.new.items ≡ waiting_with (value_for slot early.old.items) slot value.now early.old.items) }
     ensures err { OnErr result (early.new.items ≡ early.old.items) }
 {
@@ -47,11 +52,17 @@ pub fn keep_early(early: &mut Vec<Placed>, held: u64)
 }
 
 /// A value for the slot held, and the waiting ones that follow it.
-pub fn ready(alloc: Global, early: &[Placed], held: u64, value: &Value) -> Result<Vec<Value>, NoMemory>
+pub fn ready(
+    alloc: Global,
+    early: &[Placed],
+    held: u64,
+    value: &Value,
+) -> Result<Vec<Value>, NoMemory>
     requires { held < 2 ^ 40 }
     ensures values { IfOk result (λ values. values.items ≡ ready_values held early.now value.now) }
     ensures some { IfOk result (λ values. 1 ≤ vec_len values) }
     ensures few { IfOk result (λ values. vec_len values ≤ 32) }
+    ensures short { IfOk result (λ values. held + vec_len values ≤ 2 ^ 40) }
 {
     let mut values = Vec::with_capacity(alloc, 1)?;
     values.push(value.copy(alloc)?)?;

@@ -92,11 +92,13 @@ impl Log {
     }
 
     /// All that can be held once there is a value for the next slot: the value, and those waiting that follow it. The log has
-    /// room for them then; it holds no more yet.
+    /// room for them then, as `put` asks; it holds no more yet.
     pub fn ready(&mut self, alloc: Global, value: &Value) -> Result<Few<Value, 1, 32>, NoMemory>
         requires { length self.old.list < 2 ^ 40 }
         ensures values { IfOk result (λ values. values ≡ ready_values (length self.old.list) self.old.early value.now) }
+        ensures ready { IfOk result (IsReady self.new) }
         ensures room { IfOk result (λ values. length values ≤ self.new.spare) }
+        ensures short { IfOk result (λ values. length self.new.list + length values ≤ 2 ^ 40) }
         ensures list { self.new.list ≡ self.old.list }
         ensures early { self.new.early ≡ self.old.early }
     {

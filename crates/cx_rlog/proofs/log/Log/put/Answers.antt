@@ -1,6 +1,6 @@
 use Rattle.std.proofs.Common.{◌≡◌, ◌+◌, ◌≤◌, ◌^◌, List, length, sym, subst, ap, arith, vec_len}
 use Rattle.cx_base.specs.declared.command.Value.{Value}
-use Rattle.cx_rlog.specs.State.{AreEarly, IsReady, LogState}
+use Rattle.cx_rlog.specs.State.{IsReady, LogState}
 use Rattle.cx_rlog.proofs.Waiting.{ready_waiting}
 use Rattle.cx_rlog.proofs.log.Log.put.Goals as goal
 
