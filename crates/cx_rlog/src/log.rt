@@ -16,7 +16,7 @@ use std::marker::Model;
 const AHEAD: u64 = 32;
 
 /// The chosen values in slot order, and those that came before their turn (VLDB 2021: replicas execute in slot order).
-/// Slots are below 2^40.
+/// Slots are below 2^40, and a value waits at most 31 slots ahead (this project's own limits).
 #[derive(Debug, Drop)]
 pub struct Log {
     list: Vec<Value>,
