@@ -3,7 +3,7 @@ use Rattle.std.specs.Prelude.{ℕ, ◌+◌, ◌==◌, Bool, false, not, ◌&&◌
 use Rattle.cx_base.specs.declared.cluster.Cluster.{Cluster}
 use Rattle.cx_base.specs.declared.command.Value.{Value}
 use Rattle.cx_base.specs.declared.role.RoleId.{RoleId}
-use Rattle.cx_base.specs.declared.role.Kind.TheVariants.{Leader}
+use Rattle.cx_base.specs.declared.role.Kind.TheVariants.{Acceptor, Leader}
 use Rattle.cx_base.specs.declared.round.Round.{Round}
 use Rattle.cx_base.specs.declared.why.Why.TheVariants.{Idle, Nack, Past, Same, Stranger, Voted}
 use Rattle.cx_base.specs.Role.{same_role, role}
@@ -100,6 +100,7 @@ acceptor_row c me d v (Order order) = answered Stranger tt
 -- all that an acceptor knows is durable
 abbrev pub acceptor_rules : Rules AcceptorDurable (Unit {0})
 acceptor_rules = record {
+  kind = Acceptor;
   empty = record { promise = no_round; cw = 0; votes = []; top = 0 };
   after = acceptor_after;
   fits = acceptor_fits;

@@ -3,7 +3,7 @@ use Rattle.std.specs.Prelude.{ℕ, nat_lt, nat_le, ◌&&◌, List, [], ◌∷◌
 use Rattle.cx_base.specs.declared.cluster.Cluster.{Cluster}
 use Rattle.cx_base.specs.declared.command.Command.{Command}
 use Rattle.cx_base.specs.declared.role.RoleId.{RoleId}
-use Rattle.cx_base.specs.declared.role.Kind.TheVariants.{Leader}
+use Rattle.cx_base.specs.declared.role.Kind.TheVariants.{Batcher, Leader}
 use Rattle.cx_base.specs.declared.round.Round.{Round}
 use Rattle.cx_base.specs.declared.why.Why.TheVariants.{Batched, Held, Idle, Leads, Old, Stranger}
 use Rattle.cx_base.specs.Role.{same_role, role}
@@ -56,6 +56,7 @@ batcher_row c me d v (Order order) = answered Stranger v
 -- a batcher keeps no records
 abbrev pub batcher_rules : Rules (Unit {0}) BatcherVolatile
 batcher_rules = record {
+  kind = Batcher;
   empty = tt;
   after = λ d r. tt;
   fits = λ c me d r. false;

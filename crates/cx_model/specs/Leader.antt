@@ -8,7 +8,7 @@ use Rattle.cx_base.specs.declared.command.Value.TheVariants.{Batch}
 use Rattle.cx_base.specs.declared.event.Order.{Order as OrderOf}
 use Rattle.cx_base.specs.declared.event.Order.TheVariants.{Lead, Change, Collect}
 use Rattle.cx_base.specs.declared.role.RoleId.{RoleId}
-use Rattle.cx_base.specs.declared.role.Kind.TheVariants.{Acceptor, Batcher, Matchmaker, Proxy}
+use Rattle.cx_base.specs.declared.role.Kind.TheVariants.{Acceptor, Batcher, Leader, Matchmaker, Proxy}
 use Rattle.cx_base.specs.declared.round.Round.{Round}
 use Rattle.cx_base.specs.declared.why.Why.{Why}
 use Rattle.cx_base.specs.declared.why.Why.TheVariants as why
@@ -217,6 +217,7 @@ leader_fits c me d (kept.Log vs) = false
 
 abbrev pub leader_rules : Rules LeaderDurable LeaderVolatile
 leader_rules = record {
+  kind = Leader;
   empty = record { own = None };
   after = leader_after;
   fits = leader_fits;

@@ -3,6 +3,7 @@ use Rattle.std.specs.Prelude.{ℕ, ◌-◌, Bool, false, not, ◌&&◌, nat_lt, 
 use Rattle.std.specs.List.{list_all, list_any}
 use Rattle.std.specs.Option.{option_map_or}
 use Rattle.cx_base.specs.declared.cluster.Cluster.{Cluster}
+use Rattle.cx_base.specs.declared.role.Kind.TheVariants.{Matchmaker}
 use Rattle.cx_base.specs.declared.role.RoleId.{RoleId}
 use Rattle.cx_base.specs.declared.round.Round.{Round}
 use Rattle.cx_base.specs.declared.why.Why.TheVariants.{Collected, Full, Idle, Later, Matched, Same, Stranger}
@@ -97,6 +98,7 @@ matchmaker_row c me d v (Order order) = answered Stranger tt
 -- all that a matchmaker knows is durable
 abbrev pub matchmaker_rules : Rules MatchmakerDurable (Unit {0})
 matchmaker_rules = record {
+  kind = Matchmaker;
   empty = record { watermark = no_round; entries = [] };
   after = matchmaker_after;
   fits = matchmaker_fits;

@@ -3,7 +3,7 @@ use Rattle.std.specs.Prelude.{ℕ, ◌+◌, ◌%◌, ◌==◌, Bool, true, false
 use Rattle.cx_base.specs.declared.cluster.Cluster.{Cluster}
 use Rattle.cx_base.specs.declared.command.Value.{Value}
 use Rattle.cx_base.specs.declared.role.RoleId.{RoleId}
-use Rattle.cx_base.specs.declared.role.Kind.TheVariants.{Acceptor, Leader, Replica}
+use Rattle.cx_base.specs.declared.role.Kind.TheVariants.{Acceptor, Leader, Proxy, Replica}
 use Rattle.cx_base.specs.declared.round.Round.{Round}
 use Rattle.cx_base.specs.declared.why.Why.TheVariants as why
 use Rattle.cx_base.specs.Grid.{Shape, is_in}
@@ -121,6 +121,7 @@ proxy_row c me d v (Order order) = answered why.Stranger v
 -- a proxy leader keeps no records
 abbrev pub proxy_rules : Rules (Unit {0}) ProxyVolatile
 proxy_rules = record {
+  kind = Proxy;
   empty = tt;
   after = λ d r. tt;
   fits = λ c me d r. false;

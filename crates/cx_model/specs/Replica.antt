@@ -161,6 +161,7 @@ replica_fits c me d (kept.Round i g) = false
 
 abbrev pub replica_rules : Rules ReplicaDurable ReplicaVolatile
 replica_rules = record {
+  kind = Replica;
   empty = record { log = [] };
   after = replica_after;
   fits = replica_fits;

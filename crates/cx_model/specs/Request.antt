@@ -1,12 +1,13 @@
 -- What clients ask for, and when a request is not sent any more.
-use Rattle.std.specs.Prelude.{ℕ, ◌==◌, ◌&&◌, ◌||◌, not, nat_le, Bool, true, false, List, [], ◌∷◌, Option, None, Some, codes}
+use Rattle.std.specs.Prelude.{ℕ, ◌==◌, ◌&&◌, ◌||◌, not, nat_le, Bool, true, false, List, [], ◌∷◌, Option, None, Some}
 use Rattle.std.specs.List.{list_any}
 use Rattle.std.specs.Str.{bytes_eq}
 use Rattle.cx_base.specs.declared.event.Event.{Event}
 use Rattle.cx_base.specs.declared.event.Event.TheVariants as event
 use Rattle.cx_base.specs.declared.event.Happened.{Happened}
 use Rattle.cx_base.specs.declared.role.Kind.TheVariants.{Client, Batcher, Reader}
-use Rattle.cx_base.specs.Why.{why_text}
+use Rattle.cx_base.specs.declared.why.Why.{Why}
+use Rattle.cx_base.specs.declared.why.Why.TheVariants as why
 use Rattle.cx_base.specs.Role.{role}
 use Rattle.cx_base.specs.Same.{same_op}
 use Rattle.cx_msg.specs.Letter.{Letter, letter}
@@ -38,9 +39,13 @@ abbrev pub not_below : Token → Option Token → Bool
 not_below t None = false
 not_below t (Some u) = (t.client == u.client) && nat_le t.seq u.seq
 
+abbrev pub is_sent : Why → Bool
+is_sent why.Sent = true
+is_sent other = false
+
 -- whether an event of the history went out as a request
 abbrev pub was_sent : Happened → Bool
-was_sent h = bytes_eq (why_text h.why) (codes "sent")
+was_sent h = is_sent h.why
 
 -- A request is stale in two cases: an earlier request that was sent has its client and number but asks something else;
 -- or none has them, and the number is not above all numbers of the client's requests that were sent.

@@ -3,7 +3,7 @@ use Rattle.std.specs.Prelude.{◌&&◌, map, false, List, if◌then◌else◌}
 use Rattle.cx_base.specs.declared.cluster.Cluster.{Cluster}
 use Rattle.cx_base.specs.declared.command.Answered.{Answered}
 use Rattle.cx_base.specs.declared.role.RoleId.{RoleId}
-use Rattle.cx_base.specs.declared.role.Kind.TheVariants.{Client}
+use Rattle.cx_base.specs.declared.role.Kind.TheVariants.{Client, Unbatcher}
 use Rattle.cx_base.specs.declared.why.Why.TheVariants.{Idle, Stranger, Unbatched}
 use Rattle.cx_base.specs.Role.{same_role, role}
 use Rattle.cx_msg.specs.Letter.{Letter, letter}
@@ -31,6 +31,7 @@ unbatcher_row c me d v (Order order) = answered Stranger tt
 -- an unbatcher knows nothing
 abbrev pub unbatcher_rules : Rules (Unit {0}) (Unit {0})
 unbatcher_rules = record {
+  kind = Unbatcher;
   empty = tt;
   after = λ d r. tt;
   fits = λ c me d r. false;

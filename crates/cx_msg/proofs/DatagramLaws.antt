@@ -22,25 +22,7 @@ use Rattle.std.proofs.Common.{lit<}
 use Rattle.std.proofs.lemmas.Bool.{leb-true, lt-ltb}
 use Rattle.cx_msg.proofs.Sizes.{body-sizes}
 use Rattle.cx_msg.proofs.BodyLaws.{bodies-sound, body-again}
-
-record Fitting (d : Letter) : Type 0 where
-  pub from_index : u16.fits d.from.index ≡ true
-  pub to_index : u16.fits d.to.index ≡ true
-  pub from : is_listed senders (body_shape d.msg).tag (code_of d.from.kind) ≡ true
-  pub to : is_listed receivers (body_shape d.msg).tag (code_of d.to.kind) ≡ true
-  pub msg : (body_shape d.msg).fits ≡ true
-
-fitting : (d : Letter) → fits d ≡ true → Fitting d
-fitting d h =
-    let f = u16.fits d.from.index in
-    let t = u16.fits d.to.index in
-    let s = is_listed senders (body_shape d.msg).tag (code_of d.from.kind) in
-    let r = is_listed receivers (body_shape d.msg).tag (code_of d.to.kind) in
-    let a = both (f && t && s && r) (body_shape d.msg).fits h in
-    let b = both (f && t && s) r a.0 in
-    let c = both (f && t) s b.0 in
-    let e = both f t c.0 in
-    record { from_index = e.0; to_index = e.1; from = c.1; to = b.1; msg = a.1 }
+use Rattle.cx_msg.proofs.PartsLaws.{Fitting, fitting}
 
 header-exact : IsExact header
 unfolding header

@@ -2,6 +2,7 @@
 
 ghost use Rattle.std.specs.Prelude.{◌≡◌, IsTrue};
 ghost use Rattle.cx_msg.specs.Letter.{fits as letter_fits, letter};
+ghost use Rattle.cx_msg.specs.LetterParts.{PartsFit};
 
 use crate::message::Msg;
 use cx_base::{Duplicate, NoMemory, RoleId};
@@ -56,6 +57,7 @@ impl Datagram {
     pub fn msg(&self) -> &Msg
         ensures msg { result.now ≡ self.now.msg }
         ensures fits { IsTrue (letter_fits self.now) }
+        ensures parts { PartsFit self.now.from self.now.to result.now }
     {
         &self.msg
     }

@@ -16,10 +16,12 @@ mod header;
 mod input;
 mod items;
 mod kept;
+mod letters;
 mod lists;
 mod message;
 mod put;
 mod put_bodies;
+mod ranges;
 mod reader;
 mod records;
 mod roles;
@@ -30,5 +32,10 @@ pub use encoding::{body_into, encode_into};
 pub use fault::WireFault;
 pub use input::{Act, Input, KeptRecord};
 pub use kept::{LogValues, Record};
+pub use letters::{
+    answer, batch, chosen, chosen_in, fetched, leads, match_a, match_b, match_nack, nack, phase1a,
+    phase1b, phase2a, phase2b, propose, read_req, results, submit,
+};
 pub use message::{Answers, Entries, Entry, Msg, Token, Vote, Votes};
+pub use ranges::{grid_fits, name_fits, op_fits};
 pub use records::{record_from, record_into};

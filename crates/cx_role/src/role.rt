@@ -2,6 +2,7 @@
 
 ghost use Rattle.std.specs.Prelude.{◌≡◌, [], true, None, IfOk, IfErr, IsErrOf, IsTrue, OnErr};
 ghost use Rattle.cx_keeper.specs.Keeper.{all_fit};
+ghost use Rattle.cx_model.specs.Names.{names_role};
 ghost use Rattle.cx_model.specs.Rules.{Rules, Running, opened, refused, outcome_of, IsFit};
 ghost use Rattle.cx_msg.specs.declared.input.Input.TheVariants as input;
 ghost use Rattle.cx_role.specs.declared.role.StepFault.TheVariants as fault;
@@ -91,15 +92,17 @@ pub trait Role: Sized {
     /// Its state.
     ghost state: { Self → Running Durable Volatile };
 
-    /// The role as these records leave it. The fault names exactly the first record that the role could not have appended
-    /// in the state that those before it leave.
+    /// The role as these records leave it; it is one of the cluster's, of the kind that the rules are for. The fault names
+    /// exactly the first record that the role could not have appended in the state that those before it leave.
     fn open(
         alloc: Global,
         cluster: &Cluster,
         me: RoleId,
         records: &[Record],
     ) -> Result<Self, WakeFault>
-        requires { IsTrue (all_fit records.now) }
+        requires kind { me.kind ≡ rules.kind }
+        requires named { IsTrue (names_role cluster.now me) }
+        requires records { IsTrue (all_fit records.now) }
         ensures role { IfOk result (λ role. state role ≡ opened rules cluster.now me records.now) }
         ensures whole { IfOk result (λ _. refused rules cluster.now me records.now ≡ None) }
         ensures fault { IfErr result (IsWakeFault (refused rules cluster.now me records.now)) };

@@ -1,0 +1,48 @@
+-- What a read gives, and what a whole reading comes to.
+use Rattle.std.specs.Prelude.{◌≡◌, ◌≤◌, ◌<◌, ℕ, List, length, take, Option, IfSome, ⊤}
+use Rattle.std.specs.Io.KnownBytes.{Keeps, Consumes, IsAtEnd}
+use Rattle.cx_edge.specs.declared.source.ReadEnd.{ReadEnd}
+use Rattle.cx_edge.specs.declared.source.ReadEnd.TheVariants as end
+use Rattle.cx_edge.specs.declared.source.ReadAll.{ReadAll}
+use Rattle.cx_edge.specs.declared.source.ReadAll.TheVariants.{Whole, TooLong, Failed, NoMemory}
+
+-- the next bytes stand at the front of the buffer; none, where there was room, is the end
+pub record Gets (old new : Option (List ℕ)) (count : ℕ) (buffer : List ℕ) : Type 0 where
+  pub fits : count ≤ length buffer
+  pub bytes : Consumes old new (take count buffer)
+  pub at_end : count ≡ 0 → 0 < length buffer → IsAtEnd new
+
+-- a read gives the next bytes, or fails and leaves them
+abbrev pub Reads : Option (List ℕ) → Option (List ℕ) → ReadEnd → List ℕ → Type 0
+Reads old new (end.Got count) buffer = Gets old new count buffer
+Reads old new end.Failed buffer = Keeps old new
+
+-- the count of faults stays where the read did not fail
+abbrev pub ReadKeepsCount : ReadEnd → ℕ → ℕ → Type 0
+ReadKeepsCount (end.Got count) old new = new ≡ old
+ReadKeepsCount end.Failed old new = ⊤
+
+-- all bytes that were left have come, at most so many, and the source is at its end
+pub record GetsAll (limit : ℕ) (old new : Option (List ℕ)) (bytes : List ℕ) : Type 0 where
+  pub fits : length bytes ≤ limit
+  pub all : IfSome old (λ left. left ≡ bytes)
+  pub consumed : Consumes old new bytes
+  pub at_end : IsAtEnd new
+
+-- some bytes from the front of those that were left are gone
+abbrev pub ConsumesSome : Option (List ℕ) → Option (List ℕ) → Type 0
+ConsumesSome old new = (bytes : List ℕ) × Consumes old new bytes
+
+-- what a whole reading came to; too long are more bytes than the limit
+abbrev pub ReadsAll : ℕ → Option (List ℕ) → Option (List ℕ) → ReadAll → Type 0
+ReadsAll limit old new (Whole bytes) = GetsAll limit old new bytes.items
+ReadsAll limit old new TooLong = IfSome old (λ left. limit < length left) × ConsumesSome old new
+ReadsAll limit old new Failed = ConsumesSome old new
+ReadsAll limit old new NoMemory = ConsumesSome old new
+
+-- the count of faults stays where no read failed
+abbrev pub ReadAllKeepsCount : ReadAll → ℕ → ℕ → Type 0
+ReadAllKeepsCount (Whole bytes) old new = new ≡ old
+ReadAllKeepsCount TooLong old new = new ≡ old
+ReadAllKeepsCount Failed old new = ⊤
+ReadAllKeepsCount NoMemory old new = new ≡ old

@@ -1,0 +1,74 @@
+//! Sources of bytes.
+
+ghost use Rattle.std.specs.Prelude.{◌≡◌, ◌≤◌, ℕ, Option, List};
+ghost use Rattle.cx_base.specs.Faults.{Rises};
+ghost use Rattle.cx_edge.specs.declared.source.ReadAll.TheVariants as all;
+ghost use Rattle.cx_edge.specs.declared.source.ReadEnd.TheVariants.{Failed};
+ghost use Rattle.cx_edge.specs.Source.{Reads, ReadKeepsCount, ReadsAll, ReadAllKeepsCount};
+
+use std::alloc::{AllocError, Global};
+
+/// So many bytes were read, or the read failed.
+#[derive(Clone, Copy, Debug, PartialEq, Eq)]
+pub enum ReadEnd {
+    /// So many bytes, which stand at the front of the buffer.
+    Got(usize),
+    /// None, and the fault was counted.
+    Failed,
+}
+
+/// Bytes that come in pieces, and reads that may fail.
+pub trait Source {
+    /// The bytes that are left, where the source tells them.
+    ghost left: { Self → Option (List ℕ) };
+
+    /// How often it has failed.
+    ghost faults: { Self → ℕ };
+
+    /// Reads the next bytes into the front of the buffer; no bytes, for a buffer that isn't empty, are the end. Where it
+    /// fails nothing is lost, and the count of faults rises (or stands at its end); else the count stays.
+    fn read(&mut self, buffer: &mut [u8]) -> ReadEnd
+        ensures bytes { Reads (left self.old) (left self.new) result buffer.new }
+        ensures cause { result ≡ Failed → Rises (faults self.old) (faults self.new) }
+        ensures still { ReadKeepsCount result (faults self.old) (faults self.new) }
+        ensures later { faults self.old ≤ faults self.new };
+}
+
+/// What a whole reading came to.
+#[derive(Drop)]
+pub enum ReadAll {
+    /// These are all bytes that were left.
+    Whole(Vec<u8>),
+    /// There were more bytes than the limit.
+    TooLong,
+    /// A read failed.
+    Failed,
+    /// Memory is wanting.
+    NoMemory,
+}
+
+const PIECE: usize = 4096;
+
+/// Reads all bytes that are left, if they are at most so many. `Failed` comes exactly where a read failed, and only then
+/// the count of faults changes. Where it answers no bytes, those that it has read are lost.
+pub fn read_all<S: Source>(alloc: Global, source: &mut S, limit: usize) -> ReadAll
+    ensures bytes { ReadsAll limit (S.left source.old) (S.left source.new) result }
+    ensures cause { result ≡ all.Failed → Rises (S.faults source.old) (S.faults source.new) }
+    ensures still { ReadAllKeepsCount result (S.faults source.old) (S.faults source.new) }
+    ensures later { S.faults source.old ≤ S.faults source.new }
+{
+    let mut bytes = Vec::new(alloc);
+    let mut piece = [0; PIECE];
+    while bytes.len() <= limit {
+        match source.read(&mut piece) {
+            ReadEnd::Failed => return ReadAll::Failed,
+            ReadEnd::Got(0) => return ReadAll::Whole(bytes),
+            ReadEnd::Got(count) => {
+                if let Err(AllocError) = bytes.extend_from_slice(&piece[..count]) {
+                    return ReadAll::NoMemory;
+                }
+            }
+        }
+    }
+    ReadAll::TooLong
+}

@@ -1,0 +1,10 @@
+use Rattle.std.proofs.Common.{subst}
+use Rattle.cx_msg.specs.Letter.{Letter}
+use Rattle.cx_msg.specs.LetterParts.{PartsFit}
+use Rattle.cx_msg.proofs.PartsLaws.{parts}
+use Rattle.cx_msg.proofs.datagram.Datagram.msg.Goals as goal
+
+pub returns-clause-parts : goal.returns-clause-parts
+returns-clause-parts c =
+    let here = c.self.inside in
+    subst (λ (d : Letter). PartsFit d.from d.to here.msg) c.self.view_is (parts here.from here.to here.msg c.self.invariant)

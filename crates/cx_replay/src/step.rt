@@ -1,0 +1,51 @@
+//! One event with its text, and the summary at the end.
+
+ghost use Rattle.std.specs.Prelude.{◌≡◌, ◌++◌, false, OnOk, IfOk, IsTrue, map};
+ghost use Rattle.cx_base.specs.Asked.{takes_event};
+ghost use Rattle.cx_base.specs.Lists.{below};
+ghost use Rattle.cx_model.specs.World.{step};
+ghost use Rattle.cx_replay.specs.Replay.{step_text, summary};
+ghost use Rattle.cx_world.specs.Folded.{folded_of};
+
+use cx_base::{Event, NoMemory};
+use cx_trace::{Folded, datagrams_into, event_into, summary_into};
+use cx_world::World;
+use std::alloc::Global;
+
+/// Makes the step of an event, and puts its lines at the end of a text.
+#[tactic(auto, unfolding(crate::specs::Replay::step_text))]
+pub fn step_into(
+    alloc: Global,
+    world: &mut World,
+    event: &Event,
+    text: &mut Vec<u8>,
+) -> Result<(), NoMemory>
+    requires fresh { world.old.spent ≡ false }
+    requires taken { IsTrue (takes_event event.now) }
+    ensures world { OnOk result (world.new ≡ record { world = step world.old.world event.now; spent = false }) }
+    ensures text { OnOk result (text.new.items ≡ text.old.items ++ step_text world.old.world event.now) }
+{
+    let effect = world.step(event)?;
+    event_into(event, &effect, text)?;
+    datagrams_into(alloc, effect.first, world.sent_since(effect.first), text)
+}
+
+// What each replica's kept values leave, the replicas in order.
+fn folds(alloc: Global, world: &World) -> Result<Vec<Folded>, NoMemory>
+    ensures { IfOk result (λ folds. folds.items ≡ map (λ p. folded_of p world.now.world.kept) (below world.now.world.cluster.replicas)) }
+{
+    let mut folds = Vec::new(alloc);
+    for replica in 0..world.cluster().replicas {
+        folds.push(world.folded(replica)?)?;
+    }
+    Ok(folds)
+}
+
+/// Puts the summary at the end of a text.
+pub fn end_into(alloc: Global, world: &World, text: &mut Vec<u8>) -> Result<(), NoMemory>
+    ensures { OnOk result (text.new.items ≡ text.old.items ++ summary world.now.world) }
+{
+    let chosen = world.chosen_prefix()?;
+    let folds = folds(alloc, world)?;
+    summary_into(alloc, chosen.as_slice(), &folds, text)
+}

@@ -1,0 +1,152 @@
+//! The log of a replica.
+
+ghost use Rattle.std.specs.Prelude.{◌≡◌, ◌+◌, ◌-◌, ◌++◌, ◌<◌, ◌≤◌, ◌^◌, [], length, slice_get, IfOk, OnErr, OnOk};
+ghost use Rattle.std.specs.Option.{option_copied};
+ghost use Rattle.cx_base.specs.Log.{ready_values, still_early};
+ghost use Rattle.cx_rlog.specs.State.{IsReady, LogState};
+ghost use Rattle.cx_rlog.specs.Taken.{early_after, taken_at};
+
+use crate::early;
+use crate::taken::Taken;
+use cx_base::{Duplicate, Few, NoMemory, Placed, Value, copy_all};
+use std::alloc::Global;
+use std::marker::Model;
+
+/// How far above the slots held a value may wait.
+const AHEAD: u64 = 32;
+
+/// The chosen values in slot order, and those that came before their turn (VLDB 2021: replicas execute in slot order).
+/// Slots are below 2^40.
+#[derive(Debug, Drop)]
+pub struct Log {
+    list: Vec<Value>,
+    early: Vec<Placed>,
+    spare: usize,
+}
+
+impl Model for Log {
+    ghost use Rattle.std.specs.Prelude.{vec_capacity, vec_len};
+    ghost use Rattle.cx_rlog.specs.State.{IsLog, LogState};
+
+    ghost Value = { LogState };
+
+    ghost view = { λ log. record { list = log.list.items; early = log.early.items; spare = log.spare } };
+
+    ghost invariant = { λ log. IsLog (vec_len log.list) (vec_capacity log.list) log.spare log.early.items };
+}
+
+impl Log {
+    /// The empty log.
+    pub fn new(alloc: Global) -> Result<Self, NoMemory>
+        ensures { IfOk result (λ log. log ≡ record { list = []; early = []; spare = 0 }) }
+    {
+        Ok(Log {
+            list: Vec::new(alloc),
+            early: Vec::new(alloc),
+            spare: 0,
+        })
+    }
+
+    /// How many slots are held: all below it. It takes no memory.
+    pub fn held(&self) -> u64
+        ensures held { result ≡ length self.now.list }
+        ensures short { result ≤ 2 ^ 40 }
+    {
+        self.list.len() as u64
+    }
+
+    /// The value of a slot, where it is held. It takes no memory.
+    pub fn value(&self, slot: u64) -> Option<&Value>
+        ensures { option_copied result ≡ slice_get self.now.list slot }
+    {
+        self.list.get(slot as usize)
+    }
+
+    /// The values held, in slot order. It takes no memory.
+    pub fn values(&self) -> &[Value]
+        ensures { result.now ≡ self.now.list }
+    {
+        self.list.as_slice()
+    }
+
+    /// Takes note of a chosen value for a slot: one that is held already is past, one 32 or more above the slots held finds
+    /// no room, one above the next slot waits where none waits for its slot, and the next one changes nothing yet.
+    pub fn take(&mut self, alloc: Global, slot: u64, value: &Value) -> Result<Taken, NoMemory>
+        requires { slot < 2 ^ 40 }
+        ensures answer { IfOk result (λ taken. taken ≡ taken_at (length self.old.list) slot) }
+        ensures early { IfOk result (λ taken. self.new ≡ record self.old { early = early_after taken slot value.now self.old.early }) }
+        ensures err { OnErr result (self.new ≡ self.old) }
+    {
+        let held = self.list.len() as u64;
+        if slot < held {
+            return Ok(Taken::Past);
+        }
+        if slot >= held + AHEAD {
+            return Ok(Taken::Full);
+        }
+        if slot == held {
+            return Ok(Taken::Next);
+        }
+        early::wait(alloc, &mut self.early, slot, value)?;
+        Ok(Taken::Early)
+    }
+
+    /// All that can be held once there is a value for the next slot: the value, and those waiting that follow it. The log has
+    /// room for them then; it holds no more yet.
+    pub fn ready(&mut self, alloc: Global, value: &Value) -> Result<Few<Value, 1, 32>, NoMemory>
+        requires { length self.old.list < 2 ^ 40 }
+        ensures values { IfOk result (λ values. values ≡ ready_values (length self.old.list) self.old.early value.now) }
+        ensures room { IfOk result (λ values. length values ≤ self.new.spare) }
+        ensures list { self.new.list ≡ self.old.list }
+        ensures early { self.new.early ≡ self.old.early }
+    {
+        let held = self.list.len() as u64;
+        let values = early::ready(alloc, self.early.as_slice(), held, value)?;
+        if self.spare < values.len() {
+            self.list.reserve(values.len())?;
+            self.spare = values.len();
+        }
+        Ok(Few::from_vec(values))
+    }
+
+    /// Holds the values that are ready, and drops those that wait no longer. It takes no memory.
+    pub fn put(&mut self, values: Few<Value, 1, 32>)
+        requires ready { IsReady self.old values }
+        requires room { length values ≤ self.old.spare }
+        requires short { length self.old.list + length values ≤ 2 ^ 40 }
+        ensures list { self.new.list ≡ self.old.list ++ values }
+        ensures early { self.new.early ≡ still_early (length self.new.list) self.old.early }
+        ensures spare { self.new.spare ≡ self.old.spare - length values }
+    {
+        let mut values = values.into_vec();
+        self.spare -= values.len();
+        self.list.append(&mut values).unwrap();
+        early::keep_early(&mut self.early, self.list.len() as u64);
+    }
+
+    /// Holds more values, while none waits: for a log that is opened from its records.
+    pub fn restore(&mut self, alloc: Global, values: &[Value]) -> Result<(), NoMemory>
+        requires none_early { self.old.early ≡ [] }
+        requires short { length self.old.list + length values.now ≤ 2 ^ 40 }
+        ensures ok { OnOk result (self.new ≡ record { list = self.old.list ++ values.now; early = []; spare = 0 }) }
+        ensures err { OnErr result (self.new ≡ self.old) }
+    {
+        let mut more = copy_all(alloc, values)?;
+        self.list.append(&mut more)?;
+        self.spare = 0;
+        Ok(())
+    }
+}
+
+impl Duplicate for Log {
+    fn copy(&self, alloc: Global) -> Result<Self, NoMemory> {
+        let mut list = copy_all(alloc, self.list.as_slice())?;
+        list.reserve(self.spare)?;
+        let early = copy_all(alloc, self.early.as_slice())?;
+        Ok(Log {
+            list,
+            early,
+            spare: self.spare,
+        })
+    }
+}

@@ -1,0 +1,75 @@
+//! What a replica's kept values leave in the map.
+
+ghost use Rattle.std.specs.Prelude.{◌≡◌, [], IfOk, OnOk};
+ghost use Rattle.cx_base.specs.Fold.{command_list, map_behind};
+ghost use Rattle.cx_model.specs.Replica.{replica_after};
+ghost use Rattle.cx_model.specs.World.{log_of};
+ghost use Rattle.cx_world.specs.Folded.{folded_of};
+
+use cx_base::{Command, Kind, NoMemory, RoleId, Value, acts, copy_all};
+use cx_kv::Store;
+use cx_msg::{KeptRecord, Record};
+use cx_trace::Folded;
+use std::alloc::Global;
+
+/// The values that a replica kept, in order.
+pub fn log(alloc: Global, kept: &[KeptRecord], replica: u16) -> Result<Vec<Value>, NoMemory>
+    ensures { IfOk result (λ values. values.items ≡ log_of replica kept.now) }
+{
+    let me = RoleId::new(Kind::Replica, replica);
+    let mut log = Vec::new(alloc);
+    for one in kept {
+        if me.is(one.role) {
+            keep(alloc, &one.what, &mut log)?;
+        }
+    }
+    Ok(log)
+}
+
+fn keep(alloc: Global, what: &Record, log: &mut Vec<Value>) -> Result<(), NoMemory>
+    ensures { OnOk result (log.new.items ≡ (replica_after (record { log = log.old.items }) what.now).log) }
+{
+    if let Record::Log { values } = what {
+        let mut more = copy_all(alloc, values.as_slice())?;
+        log.append(&mut more)?;
+    }
+    Ok(())
+}
+
+// The commands of values, in order.
+fn commands(alloc: Global, values: &[Value]) -> Result<Vec<Command>, NoMemory>
+    ensures { IfOk result (λ commands. commands.items ≡ command_list values.now) }
+{
+    let mut commands = Vec::new(alloc);
+    for value in values {
+        if let Value::Batch(batch) = value {
+            commands.extend_from_slice(batch.as_slice())?;
+        }
+    }
+    Ok(commands)
+}
+
+// The map behind the commands, of which those act that act behind all before them.
+fn map_behind(alloc: Global, commands: &[Command]) -> Result<Store, NoMemory>
+    ensures { IfOk result (λ store. store ≡ map_behind [] [] commands.now) }
+{
+    let mut store = Store::new(alloc)?;
+    for (place, command) in commands.iter().enumerate() {
+        if acts(&commands[..place], command) {
+            store.apply(command)?;
+        }
+    }
+    Ok(store)
+}
+
+/// How many values a replica kept, and the map that they leave.
+pub fn folded(alloc: Global, kept: &[KeptRecord], replica: u16) -> Result<Folded, NoMemory>
+    ensures { IfOk result (λ folded. folded ≡ folded_of replica kept.now) }
+{
+    let log = log(alloc, kept, replica)?;
+    let commands = commands(alloc, &log)?;
+    Ok(Folded {
+        held: log.len() as u64,
+        store: map_behind(alloc, &commands)?,
+    })
+}

@@ -1,0 +1,215 @@
+//! A role with its keeper, running or not.
+
+ghost use Rattle.std.specs.Prelude.{◌≡◌, [], IfOk, IsErrOf, None, Some, true};
+ghost use Rattle.cx_keeper.specs.MemKeeper.{kept_of, mem_append_gives};
+ghost use Rattle.cx_model.specs.Names.{count_of};
+ghost use Rattle.cx_model.specs.Rules.{Rules, Running, outcome_of, IsFit};
+ghost use Rattle.cx_model.specs.World.{fresh_roles};
+ghost use Rattle.cx_msg.specs.declared.input.Act.TheVariants.{Give, Stop, Wake};
+ghost use Rattle.cx_role.specs.declared.role.StepFault.TheVariants as fault;
+ghost use Rattle.cx_role.specs.Role.{Steps, StaysAt, FailsAt};
+ghost use Rattle.cx_world.specs.Seat.{AreSeats, roles_in, Seat, IsPlace, IsTurned, TurnsAt, seat_turn, volatile_of, why_of_cut};
+
+use cx_base::{Cluster, Cut, Kind, NoMemory, RoleId, Why};
+use cx_keeper::{Keeper, MemKeeper};
+use cx_msg::{Act, Input, Record};
+use cx_role::{Outbox, Role, StepFault, WakeFault};
+use std::alloc::Global;
+use std::marker::Model;
+
+/// What a turn came to, beside the seat and the outbox.
+#[derive(Drop)]
+pub struct Turned {
+    pub why: Why,
+    pub kept: Option<Record>,
+}
+
+/// A role's place in the world: its keeper, and the role where it runs.
+#[derive(Drop)]
+pub struct Seat<R: Role> {
+    cluster: Cluster,
+    me: RoleId,
+    role: Option<R>,
+    keeper: MemKeeper,
+}
+
+impl<R: Role> Model for Seat<R> {
+    ghost use Rattle.std.specs.Prelude.{◌≡◌, None};
+    ghost use Rattle.std.specs.Option.{ForSome};
+    ghost use Rattle.cx_model.specs.Rules.{refused};
+    ghost use Rattle.cx_world.specs.Seat.{Seat, Stands, IsPlace};
+
+    ghost Value = { Seat R };
+
+    ghost view = { λ seat. record { cluster = seat.cluster; me = seat.me; role = seat.role; records = seat.keeper.kept } };
+
+    ghost invariant = { λ seat. IsPlace R.rules seat.cluster seat.me × (refused R.rules seat.cluster seat.me seat.keeper.kept ≡ None) × ForSome seat.role (λ r. Stands R.rules seat.cluster seat.me seat.keeper.kept (R.state r)) };
+}
+
+fn why_of_cut(cut: Cut) -> Why
+    ensures { result ≡ why_of_cut cut }
+{
+    match cut {
+        Cut::Whole => Why::Down,
+        Cut::Torn => Why::Torn,
+        Cut::Kept => Why::Kept,
+    }
+}
+
+fn still(why: Why) -> Turned
+    ensures why { result.why ≡ why }
+    ensures kept { result.kept ≡ None }
+{
+    Turned { why, kept: None }
+}
+
+// One step of a role, whatever it is given.
+fn step<R: Role>(
+    role: &mut R,
+    keeper: &mut MemKeeper,
+    input: &Input,
+    out: &mut Outbox,
+) -> Result<Why, StepFault>
+    requires live { (R.state role.old).live ≡ true }
+    requires empty { out.old.list ≡ [] }
+    ensures ok { IfOk result (λ why. Steps mem_append_gives R.rules (R.state role.old) (outcome_of R.rules (R.state role.old) input.now) why keeper.old keeper.new (R.state role.new) out.new.list) }
+    ensures no_memory { IsErrOf result StepFault.NoMemory → StaysAt kept_of (R.state role.old) (R.state role.new) keeper.old keeper.new out.new.list }
+    ensures failed { IsErrOf result StepFault.Failed → FailsAt mem_append_gives (outcome_of R.rules (R.state role.old) input.now) keeper.old keeper.new (R.state role.new) out.new.list }
+    ensures fits_ok { IfOk result (λ _. IsFit R.rules (R.state role.old).cluster (R.state role.old).me (R.state role.old).durable (outcome_of R.rules (R.state role.old) input.now).kept) }
+    ensures fits_failed { IsErrOf result StepFault.Failed → IsFit R.rules (R.state role.old).cluster (R.state role.old).me (R.state role.old).durable (outcome_of R.rules (R.state role.old) input.now).kept }
+{
+    match input {
+        Input::Take { datagram } => role.take(keeper, datagram, out),
+        Input::Order { order } => role.order(keeper, order, out),
+        Input::Tick => Ok(role.tick(out)?),
+    }
+}
+
+impl<R: Role + Drop> Seat<R> {
+    /// A running role without records.
+    pub fn opened(alloc: Global, cluster: &Cluster, me: RoleId) -> Result<Self, NoMemory>
+        requires { IsPlace R.rules cluster.now me }
+        ensures cluster { IfOk result (λ seat. seat.cluster ≡ cluster.now) }
+        ensures me { IfOk result (λ seat. seat.me ≡ me) }
+        ensures records { IfOk result (λ seat. seat.records ≡ []) }
+        ensures role { IfOk result (λ seat. volatile_of R.state seat.role ≡ Some (R.rules.fresh cluster.now)) }
+    {
+        match R::open(alloc, cluster, me, &[]) {
+            Ok(role) => Ok(Seat {
+                cluster: *cluster,
+                me,
+                role: Some(role),
+                keeper: MemKeeper::new(alloc),
+            }),
+            Err(WakeFault::NoMemory) => Err(NoMemory),
+            Err(WakeFault::Record { .. }) => unreachable!(),
+        }
+    }
+
+    fn give(&mut self, input: &Input, cut: Cut, out: &mut Outbox) -> Result<Turned, NoMemory>
+        requires { out.old.list ≡ [] }
+        ensures { IfOk result (λ turned. IsTurned R.state (seat_turn R.rules R.state (Give input.now cut) self.old) self.old self.new turned.why turned.kept out.new.list) }
+    {
+        let Some(role) = &mut self.role else {
+            return Ok(still(Why::Down));
+        };
+        self.keeper.cut(cut);
+        let before = self.keeper.len();
+        match step(role, &mut self.keeper, input, out) {
+            Ok(why) => {
+                let kept = self.keeper.kept_since(before)?;
+                Ok(Turned { why, kept })
+            }
+            Err(StepFault::NoMemory) => Err(NoMemory),
+            Err(StepFault::Failed) => {
+                self.role = None;
+                let kept = self.keeper.kept_since(before)?;
+                Ok(Turned {
+                    why: why_of_cut(cut),
+                    kept,
+                })
+            }
+        }
+    }
+
+    fn stop(&mut self) -> Why
+        ensures { IsTurned R.state (seat_turn R.rules R.state Stop self.old) self.old self.new result None [] }
+    {
+        if self.role.is_none() {
+            return Why::Down;
+        }
+        self.role = None;
+        Why::Crashed
+    }
+
+    fn wake(&mut self, alloc: Global) -> Result<Why, NoMemory>
+        ensures { IfOk result (λ why. IsTurned R.state (seat_turn R.rules R.state Wake self.old) self.old self.new why None []) }
+    {
+        if self.role.is_some() {
+            return Ok(Why::Up);
+        }
+        // A keeper in memory recovers whatever it keeps, but for want of memory.
+        let records = match self.keeper.recover() {
+            Ok(records) => records,
+            Err(_) => return Err(NoMemory),
+        };
+        match R::open(alloc, &self.cluster, self.me, &records) {
+            Ok(role) => {
+                self.role = Some(role);
+                Ok(Why::Opened)
+            }
+            Err(WakeFault::NoMemory) => Err(NoMemory),
+            Err(WakeFault::Record { .. }) => unreachable!(),
+        }
+    }
+
+    /// What is done to the role.
+    pub fn act(&mut self, alloc: Global, act: &Act, out: &mut Outbox) -> Result<Turned, NoMemory>
+        requires { out.old.list ≡ [] }
+        ensures { IfOk result (λ turned. IsTurned R.state (seat_turn R.rules R.state act.now self.old) self.old self.new turned.why turned.kept out.new.list) }
+    {
+        match act {
+            Act::Give { input, cut } => self.give(input, *cut, out),
+            Act::Stop => Ok(still(self.stop())),
+            Act::Wake => Ok(still(self.wake(alloc)?)),
+        }
+    }
+}
+
+/// What is done to the role at this place.
+pub fn act_at<R: Role + Drop>(
+    alloc: Global,
+    seats: &mut Vec<Seat<R>>,
+    index: u16,
+    act: &Act,
+    out: &mut Outbox,
+) -> Result<Turned, NoMemory>
+    requires { out.old.list ≡ [] }
+    ensures { IfOk result (λ turned. TurnsAt R.rules R.state act.now index seats.old.items seats.new.items turned.why turned.kept out.new.list) }
+{
+    let index = index as usize;
+    if index >= seats.len() {
+        return Ok(still(Why::Down));
+    }
+    let seat = &mut seats[index];
+    seat.act(alloc, act, out)
+}
+
+/// A running role at each place below this count.
+pub fn open_all<R: Role + Drop>(
+    alloc: Global,
+    cluster: &Cluster,
+    kind: Kind,
+    count: u16,
+) -> Result<Vec<Seat<R>>, NoMemory>
+    requires kind { kind ≡ R.rules.kind }
+    requires count { count ≡ count_of cluster.now kind }
+    ensures roles { IfOk result (λ seats. roles_in R.state seats.items ≡ fresh_roles (R.rules.fresh cluster.now) count) }
+    ensures seats { IfOk result (λ seats. AreSeats cluster.now kind [] seats.items) }
+{
+    let mut seats = Vec::with_capacity(alloc, count as usize)?;
+    for index in 0..count {
+        seats.push(Seat::opened(alloc, cluster, RoleId { kind, index })?)?;
+    }
+    Ok(seats)
+}
