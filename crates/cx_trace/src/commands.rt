@@ -1,6 +1,6 @@
 //! The lines of the values that are chosen.
 
-ghost use Rattle.std.specs.Prelude.{◌≡◌, ◌++◌, OnOk, [], map};
+ghost use Rattle.std.specs.Prelude.{◌≡◌, ◌++◌, OnOk};
 ghost use Rattle.cx_base.specs.Fold.{commands_of};
 ghost use Rattle.cx_trace.specs.Summary.{acts_text, command_text, commands_text, op_text, slot_text, slots_text};
 

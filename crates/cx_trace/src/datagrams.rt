@@ -70,8 +70,8 @@ fn put_datagrams(
     Ok(())
 }
 
-/// Appends the line of a datagram with its number, and behind an answer to a client the line of what it tells the client;
-/// an `Err` appends nothing.
+/// Appends the line of a datagram (this project's own format): its number, who sends it, who gets it, its name, and its
+/// body in lower hexadecimal; behind it, where it answers a client, the line of that answer. An `Err` appends nothing.
 pub fn datagram_into(
     alloc: Global,
     n: u64,
@@ -86,7 +86,8 @@ pub fn datagram_into(
     put(out, &lines)
 }
 
-/// Appends the lines of datagrams, whose numbers rise from the first one's; an `Err` appends nothing.
+/// Appends the lines of datagrams, each as `datagram_into` does, with numbers that rise from the first one's. An `Err`
+/// appends nothing.
 pub fn datagrams_into(
     alloc: Global,
     first: u64,

@@ -52,7 +52,11 @@ fn hex_digit(half: u8) -> u8
     requires { half < 16 }
     ensures { result ≡ hex_digit half }
 {
-    if half < 10 { b'0' + half } else { b'a' - 10 + half }
+    if half < 10 {
+        b'0' + half
+    } else {
+        b'a' - 10 + half
+    }
 }
 
 // Two lower hexadecimal digits for each byte.

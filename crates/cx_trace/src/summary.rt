@@ -1,7 +1,7 @@
 //! The last lines of a run.
 
-ghost use Rattle.std.specs.Prelude.{◌≡◌, ◌++◌, [], OnErr, OnOk};
-ghost use Rattle.cx_trace.specs.Summary.{replica_text, replicas_text, slots_text, summary_text};
+ghost use Rattle.std.specs.Prelude.{◌≡◌, ◌++◌, OnErr, OnOk};
+ghost use Rattle.cx_trace.specs.Summary.{replica_text, replicas_text, summary_text};
 
 use crate::commands::put_slots;
 use crate::put::{put, put_number, put_role_at};
@@ -36,8 +36,8 @@ fn put_replicas(text: &mut Vec<u8>, replicas: &[Folded]) -> Result<(), NoMemory>
     Ok(())
 }
 
-/// Appends the summary of a run: the values that are chosen, in the order of their slots, and what each replica holds; an
-/// `Err` appends nothing.
+/// Appends the summary of a run (this project's own format): how many values are chosen, each in the order of their slots,
+/// its commands with `acts` or `past`, and for each replica how many slots it holds and its map. An `Err` appends nothing.
 #[tactic(auto, unfolding(crate::specs::Summary::summary_text))]
 pub fn summary_into(
     alloc: Global,
