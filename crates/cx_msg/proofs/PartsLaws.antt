@@ -1,7 +1,9 @@
--- The parts of a datagram that fits.
-use Rattle.std.proofs.Common.{◌≡◌, ℕ, Bool, true, false, ◌&&◌, ◌||◌, eqb, refl, sym, ap, ◌∙◌, IsTrue}
+-- The parts of a datagram and of a record that fit.
+use Rattle.std.proofs.Common.{◌≡◌, ℕ, Bool, true, false, ◌&&◌, ◌||◌, eqb, List, refl, sym, ap, ◌∙◌, IsTrue}
 use Rattle.std.proofs.lemmas.Bool.{eqb-true}
 use Rattle.cx_base.specs.Role.{role, code_of, kind_of}
+use Rattle.cx_base.specs.declared.command.Command.{Command}
+use Rattle.cx_base.specs.declared.command.Value.TheVariants as choice
 use Rattle.cx_base.specs.declared.role.Kind.{Kind}
 use Rattle.cx_base.specs.declared.role.Kind.TheVariants.{Client, Batcher, Leader, Proxy, Acceptor, Matchmaker, Replica, Unbatcher, Reader}
 use Rattle.cx_base.specs.declared.role.RoleId.{RoleId}
@@ -11,6 +13,9 @@ use Rattle.cx_msg.specs.Fields.{slot, mark, at, seq, round, round0, grid, name, 
 use Rattle.cx_msg.specs.Messages.{body_shape, in_window, entries, votes, answers, found, reason, token, answer, match_b, match_nack, match_read_ack, nack, phase1b, phase2a, pre_read, pre_read_ack, propose, read_answer, read_key, read_req, results, round_grid, round_mark, round_slot, slot_value}
 use Rattle.cx_msg.specs.Letter.{Letter, letter, senders, receivers, is_listed, msg_fits, fits}
 use Rattle.cx_msg.specs.LetterParts.{Goes, PartsFit}
+use Rattle.cx_msg.specs.Records.{values, fits as record_fits}
+use Rattle.cx_msg.specs.declared.kept.Record.{Record}
+use Rattle.cx_msg.specs.declared.kept.Record.TheVariants as kept
 use Rattle.cx_msg.specs.declared.message.Msg.{Msg}
 use Rattle.cx_msg.specs.declared.message.Msg.TheVariants.{Submit, Batch, Leads, MatchA, MatchB, MatchNack, Phase1A, Phase1B, Nack, Propose, Phase2A, Phase2B, Chosen, ChosenIn, Results, Answer, Held, Fetch, Inform, Informed, GarbageA, GarbageB, ReadReq, MatchRead, MatchReadAck, PreRead, PreReadAck, Read, ReadAnswer}
 
@@ -182,3 +187,39 @@ parts from to (ReadAnswer sq n text) h =
     let p = both (seq.fits sq) (mark.fits n && found.fits text) f.msg in
     let q = both (mark.fits n) (found.fits text) p.1 in
     (record { sent = listed_role from 7 f.from; received = listed_role to 1 f.to }, p.0, q.0, q.1)
+
+-- each part of a record that fits
+abbrev pub RecordPartsFit : Record → Type 0
+RecordPartsFit (kept.Promise r) = IsTrue (round.fits r)
+RecordPartsFit (kept.Vote r s cw v) = IsTrue (round.fits r) × IsTrue (slot.fits s) × IsTrue (mark.fits cw) × IsTrue (value.fits v)
+RecordPartsFit (kept.Water r n) = IsTrue (round.fits r) × IsTrue (mark.fits n)
+RecordPartsFit (kept.Match r g) = IsTrue (round.fits r) × IsTrue (grid.fits g)
+RecordPartsFit (kept.Garbage r g) = IsTrue (round.fits r) × IsTrue (grid.fits g)
+RecordPartsFit (kept.Round r g) = IsTrue (round.fits r) × IsTrue (grid.fits g)
+RecordPartsFit (kept.Log vs) = IsTrue (values.fits vs)
+
+pub record_parts : (r : Record) → IsTrue (record_fits r) → RecordPartsFit r
+record_parts (kept.Promise r) h = h
+record_parts (kept.Vote r s cw v) h =
+    let p = both (round.fits r) (slot.fits s && (mark.fits cw && value.fits v)) h in
+    let q = both (slot.fits s) (mark.fits cw && value.fits v) p.1 in
+    let t = both (mark.fits cw) (value.fits v) q.1 in
+    (p.0, q.0, t.0, t.1)
+record_parts (kept.Water r n) h = both (round.fits r) (mark.fits n) h
+record_parts (kept.Match r g) h = both (round.fits r) (grid.fits g) h
+record_parts (kept.Garbage r g) h = both (round.fits r) (grid.fits g) h
+record_parts (kept.Round r g) h = both (round.fits r) (grid.fits g) h
+record_parts (kept.Log vs) h = h
+
+-- a value fits where its commands do
+pub noop_fits : IsTrue (value.fits choice.Noop)
+unfolding value
+noop_fits = refl
+
+pub batch_fits : (cs : List Command) → IsTrue (commands.fits cs) → IsTrue (value.fits (choice.Batch cs))
+unfolding value
+batch_fits cs h = h
+
+pub commands_of_value : (cs : List Command) → IsTrue (value.fits (choice.Batch cs)) → IsTrue (commands.fits cs)
+unfolding value
+commands_of_value cs h = h
