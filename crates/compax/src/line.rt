@@ -17,9 +17,7 @@ pub fn line(status: &Status) -> &'static str
         Status::ReadFault => "read failed\n",
         Status::WriteFault => "write failed\n",
         Status::NoMemory => "no memory\n",
-        Status::LinkFault
-        | Status::StoreFault { .. }
-        | Status::Turns
-        | Status::BadStore { .. } => unreachable!(),
+        Status::LinkFault | Status::StoreFault { .. } | Status::Turns | Status::BadStore { .. } =>
+            unreachable!(),
     }
 }

@@ -6,10 +6,12 @@ use cx_edge::{MemSink, MemSource};
 use std::alloc::Global;
 use std::test::Fail;
 
-const HEADER: &str = "f = 0\nleaders = 1\nproxies = 1\nacceptors = 1\nreplicas = 1\nbatchers = 1\nunbatchers = 1\nreaders = 1\nclients = 1\nbatch = 1\n---\n";
+const HEADER: &str =
+    "f = 0\nleaders = 1\nproxies = 1\nacceptors = 1\nreplicas = 1\nbatchers = 1\nunbatchers = 1\nreaders = 1\nclients = 1\nbatch = 1\n---\n";
 
 // A round is led, and a put is proposed and voted for.
-const VOTED: &str = "lead leader:0 1x1 0\ndeliver 0\ndeliver 1\ndeliver 2\nwrite client:0 1 batcher:0 put a 1\ndeliver 3\ndeliver 4\ndeliver 5\ndeliver 6\n";
+const VOTED: &str =
+    "lead leader:0 1x1 0\ndeliver 0\ndeliver 1\ndeliver 2\nwrite client:0 1 batcher:0 put a 1\ndeliver 3\ndeliver 4\ndeliver 5\ndeliver 6\n";
 
 const VOTED_TRACE: &str = "@1 lead leader:0 started
 +0 leader:0 match:0 MatchA 0000000100000000000001010000
@@ -130,7 +132,11 @@ fn runs_the_worked_schedules(rt: HostRuntime) -> Result<(), Fail> {
         for part in case.printed {
             printed.extend_from_slice(part.as_bytes())?;
         }
-        let failing = if case.failing { vec![in alloc; 0u64]? } else { Vec::new(alloc) };
+        let failing = if case.failing {
+            vec![in alloc; 0u64]?
+        } else {
+            Vec::new(alloc)
+        };
         let mut input = MemSource::new(bytes, Vec::new(alloc));
         let mut out = MemSink::new(alloc, 10_000, failing)?;
         let mut err = MemSink::new(alloc, 100, Vec::new(alloc))?;

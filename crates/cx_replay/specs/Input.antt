@@ -14,13 +14,36 @@ header = codes "f = 0\nleaders = 1\nproxies = 1\nacceptors = 1\nreplicas = 1\nba
 abbrev pub one_of_each : Cluster
 one_of_each =
     record {
-      f = 0; leaders = 1; proxies = 1; acceptors = 1; replicas = 1; batchers = 1; unbatchers = 1; readers = 1; clients = 1;
-      batch = 1; base_port = None;
-      f_fits = lit≤ tt; some_leader = lit≤ tt; leaders_fit = lit≤ tt; some_proxy = lit≤ tt; proxies_fit = lit≤ tt;
-      some_acceptor = lit≤ tt; acceptors_fit = lit≤ tt; some_replicas = lit≤ tt; replicas_fit = lit≤ tt;
-      some_batcher = lit≤ tt; batchers_fit = lit≤ tt; some_unbatcher = lit≤ tt; unbatchers_fit = lit≤ tt;
-      some_reader = lit≤ tt; readers_fit = lit≤ tt; some_client = lit≤ tt; clients_fit = lit≤ tt;
-      some_batch = lit≤ tt; batch_fits = lit≤ tt;
+      f = 0;
+      leaders = 1;
+      proxies = 1;
+      acceptors = 1;
+      replicas = 1;
+      batchers = 1;
+      unbatchers = 1;
+      readers = 1;
+      clients = 1;
+      batch = 1;
+      base_port = None;
+      f_fits = lit≤ tt;
+      some_leader = lit≤ tt;
+      leaders_fit = lit≤ tt;
+      some_proxy = lit≤ tt;
+      proxies_fit = lit≤ tt;
+      some_acceptor = lit≤ tt;
+      acceptors_fit = lit≤ tt;
+      some_replicas = lit≤ tt;
+      replicas_fit = lit≤ tt;
+      some_batcher = lit≤ tt;
+      batchers_fit = lit≤ tt;
+      some_unbatcher = lit≤ tt;
+      unbatchers_fit = lit≤ tt;
+      some_reader = lit≤ tt;
+      readers_fit = lit≤ tt;
+      some_client = lit≤ tt;
+      clients_fit = lit≤ tt;
+      some_batch = lit≤ tt;
+      batch_fits = lit≤ tt;
     }
 
 -- The events behind that header, None where the input has another form. No input of the form has more bytes.

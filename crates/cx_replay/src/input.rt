@@ -13,7 +13,8 @@ use std::alloc::Global;
 /// The most bytes that an input of the form can have, with room to spare.
 pub const LIMIT: usize = 68_000_000;
 
-const HEADER: &str = "f = 0\nleaders = 1\nproxies = 1\nacceptors = 1\nreplicas = 1\nbatchers = 1\nunbatchers = 1\nreaders = 1\nclients = 1\nbatch = 1\n---\n";
+const HEADER: &str =
+    "f = 0\nleaders = 1\nproxies = 1\nacceptors = 1\nreplicas = 1\nbatchers = 1\nunbatchers = 1\nreaders = 1\nclients = 1\nbatch = 1\n---\n";
 
 /// The cluster of that header: one role of each kind.
 pub fn one_of_each() -> Cluster

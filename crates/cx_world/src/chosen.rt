@@ -20,7 +20,10 @@ fn is_vote(of: Round, at: u64, wanted: &Value, what: &Record) -> bool
 {
     match what {
         Record::Vote {
-            round, slot, value, ..
+            round,
+            slot,
+            value,
+            ..
         } => *round == of && *slot == at && same_value(value, wanted),
         _ => false,
     }
@@ -35,19 +38,13 @@ fn is_vote_of(acceptor: u16, of: Round, at: u64, wanted: &Value, kept: &KeptReco
 fn has_vote(kept: &[KeptRecord], acceptor: u16, of: Round, at: u64, wanted: &Value) -> bool
     ensures { result ≡ has_vote kept.now acceptor of at wanted.now }
 {
-    kept.iter().any(|one| is_vote_of(acceptor, of, at, wanted, one))
+    kept.iter()
+        .any(|one| is_vote_of(acceptor, of, at, wanted, one))
 }
 
 // Whether each member of a column voted for the value in the round.
 #[tactic(auto, using(cx_grid::proofs::Crossing::numbers_more))]
-fn has_column(
-    kept: &[KeptRecord],
-    grid: &Grid,
-    col: u8,
-    of: Round,
-    at: u64,
-    wanted: &Value,
-) -> bool
+fn has_column(kept: &[KeptRecord], grid: &Grid, col: u8, of: Round, at: u64, wanted: &Value) -> bool
     requires { col < grid.now.cols }
     ensures { result ≡ list_all (λ a. has_vote kept.now a of at wanted.now) (column_of grid.now col) }
 {
@@ -86,7 +83,8 @@ fn is_chosen_by(kept: &[KeptRecord], at: u64, wanted: &Value, what: &Record) -> 
 fn is_chosen(kept: &[KeptRecord], at: u64, wanted: &Value) -> bool
     ensures { result ≡ is_chosen kept.now at wanted.now }
 {
-    kept.iter().any(|one| is_chosen_by(kept, at, wanted, &one.what))
+    kept.iter()
+        .any(|one| is_chosen_by(kept, at, wanted, &one.what))
 }
 
 // The value of a vote in this slot, where it is chosen.

@@ -29,9 +29,13 @@ fn same_request(event: &Event, other: &Event) -> bool
     ensures { result ≡ same_request event.now other.now }
 {
     match (event, other) {
-        (Event::Write { command, .. }, Event::Write { command: earlier, .. }) => {
-            same_op(&command.op, &earlier.op)
-        }
+        (
+            Event::Write { command, .. },
+            Event::Write {
+                command: earlier,
+                ..
+            },
+        ) => { same_op(&command.op, &earlier.op) }
         (Event::Read { key, .. }, Event::Read { key: earlier, .. }) => {
             key.as_bytes() == earlier.as_bytes()
         }
@@ -74,7 +78,9 @@ fn asks_other(token: Token, event: &Event, happened: &Happened) -> bool
 fn asked_other(token: Token, event: &Event, events: &[Happened]) -> bool
     ensures { result ≡ list_any (λ (h : Happened). was_sent h && same_token token (token_of h.event) && not (same_request event.now h.event)) events.now }
 {
-    events.iter().any(|happened| asks_other(token, event, happened))
+    events
+        .iter()
+        .any(|happened| asks_other(token, event, happened))
 }
 
 fn asked(token: Token, events: &[Happened]) -> bool
