@@ -13,7 +13,7 @@ use cx_world::World;
 use std::alloc::Global;
 
 /// Makes the step of an event, and puts its lines at the end of a text.
-#[tactic(auto, unfolding(crate::specs::Replay::step_text))]
+#[tactic(auto, unfolding(crate::specs::Replay::step_text, cx_model::specs::World::step))]
 pub fn step_into(
     alloc: Global,
     world: &mut World,
@@ -31,6 +31,7 @@ pub fn step_into(
 }
 
 // What each replica's kept values leave, the replicas in order.
+#[tactic(auto, using(crate::proofs::Numbers::numbers_more))]
 fn folds(alloc: Global, world: &World) -> Result<Vec<Folded>, NoMemory>
     ensures { IfOk result (λ folds. folds.items ≡ map (λ p. folded_of p world.now.world.kept) (below world.now.world.cluster.replicas)) }
 {

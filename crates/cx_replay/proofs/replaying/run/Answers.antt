@@ -1,10 +1,10 @@
-use Rattle.std.proofs.Common.{◌≡◌, ◌≤◌, ◌++◌, List, [], ℕ, Option, length, drop, ap, arith, rules, append-nil}
+use Rattle.std.proofs.Common.{◌≡◌, ◌≤◌, ◌∙◌, ◌++◌, refl, List, [], ℕ, Option, length, drop, ap, arith, rules, append-nil}
 use Rattle.std.proofs.lemmas.Grind.{common_steps}
 use Rattle.cx_base.specs.declared.event.Event.{Event}
 use Rattle.cx_model.specs.World.{World, start, step}
 use Rattle.cx_world.specs.World.{WorldState}
 use Rattle.cx_replay.specs.Replay.{output, summary, step_text}
-use Rattle.cx_replay.proofs.OnTrack.{OnTrack, rest_of, begins_on_track, goes_on_track, stops_on_track, fails_on_track, rest_of_next}
+use Rattle.cx_replay.proofs.OnTrack.{OnTrack, rest_of, begins_on_track, goes_on_track, stops_on_track, fails_on_track, rest_of_next, ends_on_track}
 use Rattle.cx_replay.proofs.replaying.run.Goals as goal
 
 abbrev world_of : WorldState → World
@@ -17,7 +17,7 @@ loop-event-init g c =
     record {
       running = search rules;
       on_track = rw (e, c.one_of_each.ensures) (begins_on_track (g.W.Sink.taken c.args.out.now) (output c.args.events.now));
-      later = omega arith;
+      still = refl;
     }
 
 pub returns-in-Err-step_into-clause-part : goal.returns-in-Err-step_into-clause-part
@@ -46,7 +46,7 @@ loop-event-preserved g c =
     record {
       running = search rules;
       on_track = rw world (goes_on_track _ _ _ _ _ _ (rw next at c.loop-event.invariant.on_track) (rw text at c.if-not-write_all.ensures.bytes));
-      later = omega (arith, c.loop-event.invariant.later, c.if-not-write_all.ensures.later);
+      still = c.if-not-write_all.ensures.still refl ∙ c.loop-event.invariant.still;
     }
 
 -- after the last event only the summary is to come
@@ -71,3 +71,13 @@ returns-clause-part g c =
     let t = ended _ _ _ w c.args.events.now c.loop-event.event-index c.loop-event-test.false c.loop-event.invariant.on_track in
     let text : c.deref-2.result.now ≡ summary w = search rules in
     stops_on_track _ _ _ [] (goes_on_track _ _ _ _ _ _ t (rw text at c.if-not-write_all-2.ensures.bytes))
+
+pub returns-clause-done : goal.returns-clause-done
+returns-clause-done g c =
+    let w = c.loop-event.world.world in
+    let t = ended _ _ _ w c.args.events.now c.loop-event.event-index c.loop-event-test.false c.loop-event.invariant.on_track in
+    let text : c.deref-2.result.now ≡ summary w = search rules in
+    λ _. ends_on_track _ _ _ (goes_on_track _ _ _ _ _ _ t (rw text at c.if-not-write_all-2.ensures.bytes))
+
+pub returns-clause-still : goal.returns-clause-still
+returns-clause-still g c = λ _. c.if-not-write_all-2.ensures.still refl ∙ c.loop-event.invariant.still

@@ -1,4 +1,4 @@
-use Rattle.std.proofs.Common.{◌≡◌, ◌≤◌, drop, false}
+use Rattle.std.proofs.Common.{◌≡◌, drop, false}
 use Rattle.cx_replay.specs.Replay.{output}
 use Rattle.cx_replay.proofs.OnTrack.{OnTrack, rest_of}
 use Rattle.cx_replay.proofs.replaying.run.Given as goal
@@ -7,5 +7,5 @@ abbrev pub invariant-loop-event : goal.invariant-loop-event
 invariant-loop-event g l = record {
   running : l.world.spent ≡ false;
   on_track : OnTrack (g.W.Sink.taken l.fn.out) (g.W.Sink.taken l.out) (output l.events) (rest_of l.world.world (drop l.event-index l.events));
-  later : g.W.Sink.faults l.fn.out ≤ g.W.Sink.faults l.out;
+  still : g.W.Sink.faults l.out ≡ g.W.Sink.faults l.fn.out;
 }
