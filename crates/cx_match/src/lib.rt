@@ -9,5 +9,7 @@ mod entries;
 mod matchmaker;
 mod records;
 mod rows;
+#[cfg(test)]
+mod tests;
 
 pub use matchmaker::Matchmaker;
