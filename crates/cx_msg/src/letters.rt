@@ -1,4 +1,5 @@
-//! The datagrams that roles send, each with the ranges of its parts, which its sender owes. None takes memory.
+//! The datagrams that roles send, but for those of reads, each with the ranges of its parts, which its sender owes. None
+//! takes memory.
 
 ghost use Rattle.std.specs.Prelude.{◌≡◌, ◌≤◌, IsTrue};
 ghost use Rattle.cx_base.specs.Role.{role};
@@ -11,9 +12,6 @@ ghost use Rattle.cx_msg.specs.Messages.{in_window};
 use crate::datagram::Datagram;
 use crate::message::{Answers, Entries, Msg, Votes};
 use crate::ranges::{grid_fits, op_fits};
-pub use crate::read_letters::{
-    match_read, match_read_ack, pre_read, pre_read_ack, read, read_answer, read_req,
-};
 use cx_base::{Command, Commands, Grid, Kind, Reply, RoleId, Round, Value};
 
 /// A client's command, handed to a batcher.

@@ -16,7 +16,7 @@ mod header;
 mod input;
 mod items;
 mod kept;
-pub mod letters;
+mod letters;
 mod lists;
 mod message;
 mod put;
@@ -33,8 +33,16 @@ pub use encoding::{body_into, encode_into};
 pub use fault::WireFault;
 pub use input::{Act, Input, KeptRecord};
 pub use kept::{LogValues, Record};
+pub use letters::{
+    answer, batch, chosen, chosen_in, fetch, fetched, garbage_a, garbage_b, held, inform, informed,
+    leads, match_a, match_b, match_nack, nack, phase1a, phase1b, phase2a, phase2b, propose,
+    results, submit,
+};
 pub use message::{Answers, Entries, Entry, Msg, Token, Vote, Votes};
 pub use ranges::{found_fits, grid_fits, name_fits, op_fits, reply_fits};
+pub use read_letters::{
+    match_read, match_read_ack, pre_read, pre_read_ack, read, read_answer, read_req,
+};
 pub use records::{record_from, record_into};
 
 #[cfg(test)]

@@ -1,9 +1,8 @@
 ghost use Rattle.std.specs.Prelude.{◌≡◌, IfSome};
 
-use crate::letters::phase2b;
 use crate::{
-    Datagram, KeptRecord, Msg, Record, WireFault, body_into, decode, encode_into, record_from,
-    record_into,
+    Datagram, KeptRecord, Msg, Record, WireFault, body_into, decode, encode_into, phase2b,
+    record_from, record_into,
 };
 use cx_base::{Duplicate, Kind, RoleId};
 use std::test::Fail;
