@@ -1,5 +1,5 @@
 -- The lists of messages: what their values are where they fit, and when they fit.
-use Rattle.std.proofs.Common.{◌≡◌, ℕ, ◌≤◌, Bool, true, false, ◌&&◌, eqb, List, [], ◌∷◌, ◌++◌, length, refl, sym, ap, ◌∙◌, ◌<◌, IsTrue, arith}
+use Rattle.std.proofs.Common.{◌≡◌, ℕ, ◌≤◌, Bool, true, false, ◌&&◌, eqb, List, [], ◌∷◌, ◌++◌, length, refl, ◌∙◌, ◌<◌, IsTrue, arith}
 use Rattle.std.specs.Prelude.{nat_le, nat_lt, filter}
 use Rattle.std.specs.List.{list_all}
 use Rattle.std.proofs.lemmas.Bool.{lt-ltb, eq-eqb}
@@ -11,7 +11,7 @@ use Rattle.cx_base.specs.declared.command.Answered.{Answered}
 use Rattle.cx_base.specs.declared.command.Command.{Command}
 use Rattle.cx_base.specs.declared.command.Value.{Value}
 use Rattle.cx_base.specs.declared.round.Round.{Round}
-use Rattle.cx_wire.specs.Format.{Format, u8, only, each_fits}
+use Rattle.cx_wire.specs.Format.{u8, each_fits}
 use Rattle.cx_wire.proofs.Laws.{both}
 use Rattle.cx_msg.specs.Fields.{slot, round, grid, command, commands, value}
 use Rattle.cx_msg.specs.Messages.{last_passes, in_window, entry, entries, vote, votes, answered, answers}

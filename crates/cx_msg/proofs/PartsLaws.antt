@@ -9,10 +9,10 @@ use Rattle.cx_base.specs.declared.role.Kind.TheVariants.{Client, Batcher, Leader
 use Rattle.cx_base.specs.declared.role.RoleId.{RoleId}
 use Rattle.cx_wire.specs.Format.{u16}
 use Rattle.cx_wire.proofs.Laws.{both}
-use Rattle.cx_msg.specs.Fields.{slot, mark, at, seq, round, round0, grid, name, command, commands, value, reply}
+use Rattle.cx_msg.specs.Fields.{slot, mark, at, seq, round, round0, grid, name, commands, value, reply}
 use Rattle.cx_msg.specs.Messages.{body_shape, in_window, entries, votes, answers, found, reason, token, answer, match_b, match_nack, match_read_ack, nack, phase1b, phase2a, pre_read, pre_read_ack, propose, read_answer, read_key, read_req, results, round_grid, round_mark, round_slot, slot_value}
-use Rattle.cx_msg.specs.Letter.{Letter, letter, senders, receivers, is_listed, msg_fits, fits}
-use Rattle.cx_msg.specs.LetterParts.{Goes, PartsFit}
+use Rattle.cx_msg.specs.Letter.{Letter, letter, senders, receivers, is_listed, fits}
+use Rattle.cx_msg.specs.LetterParts.{PartsFit}
 use Rattle.cx_msg.specs.Records.{values, fits as record_fits}
 use Rattle.cx_msg.specs.declared.kept.Record.{Record}
 use Rattle.cx_msg.specs.declared.kept.Record.TheVariants as kept

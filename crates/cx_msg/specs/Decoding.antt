@@ -27,6 +27,7 @@ after_header all h body =
     else if not (is_listed receivers h.kind h.to) then Err (faults.Field h.kind 7)
     else finished all h (by_tag body_cases h.kind (length body) body)
 
+-- the tests of the header, and those after it
 unfoldable pub with_header : ℕ → Result (Header × List ℕ) ℕ → Result Letter WireFault
 with_header all (Err left) = Err (faults.Short 12 all)
 with_header all (Ok (h, body)) = after_header all h body
@@ -35,7 +36,7 @@ with_header all (Ok (h, body)) = after_header all h body
 abbrev pub decoded : List ℕ → Result Letter WireFault
 decoded bytes = with_header (length bytes) (header.read bytes)
 
--- the fault is this one, unless memory ran out
+-- what was answered is this fault, unless memory ran out
 abbrev pub Faults : WireFault → Result Letter WireFault → Type 0
 Faults faults.NoMemory is = Unit {0}
 Faults e is = is ≡ Err e

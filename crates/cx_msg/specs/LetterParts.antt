@@ -1,5 +1,5 @@
 -- What is known of the parts of a datagram, by its kind.
-use Rattle.std.specs.Prelude.{◌≡◌, ℕ, List, IsTrue}
+use Rattle.std.specs.Prelude.{◌≡◌, IsTrue}
 use Rattle.cx_base.specs.Role.{role}
 use Rattle.cx_base.specs.declared.role.Kind.{Kind}
 use Rattle.cx_base.specs.declared.role.Kind.TheVariants.{Client, Batcher, Leader, Proxy, Acceptor, Matchmaker, Replica, Unbatcher, Reader}
@@ -10,12 +10,12 @@ use Rattle.cx_msg.specs.Messages.{in_window, entries, votes, answers, found, rea
 use Rattle.cx_msg.specs.declared.message.Msg.{Msg}
 use Rattle.cx_msg.specs.declared.message.Msg.TheVariants.{Submit, Batch, Leads, MatchA, MatchB, MatchNack, Phase1A, Phase1B, Nack, Propose, Phase2A, Phase2B, Chosen, ChosenIn, Results, Answer, Held, Fetch, Inform, Informed, GarbageA, GarbageB, ReadReq, MatchRead, MatchReadAck, PreRead, PreReadAck, Read, ReadAnswer}
 
--- who sends and who gets it
+-- it is sent by a role of one kind, and got by one of another
 pub record Goes (from to : RoleId) (sender receiver : Kind) : Type 0 where
   pub sent : from ≡ role sender from.index
   pub received : to ≡ role receiver to.index
 
--- each part of a datagram that fits
+-- what each part of a datagram that fits is known to be: its roles, and the ranges of its fields in their order
 abbrev pub PartsFit : RoleId → RoleId → Msg → Type 0
 PartsFit from to (Submit c) = Goes from to Client Batcher × IsTrue (command.fits c)
 PartsFit from to (Batch cs) = Goes from to Batcher Leader × IsTrue (commands.fits cs)

@@ -27,6 +27,7 @@ in_window cw s = nat_le cw s && nat_lt s (cw + 32)
 unfoldable pub entry : List Entry → Format Entry
 entry before = shaped (λ x. record { round = x.0; grid = x.1 }) (λ e. (e.round, e.grid)) (only (λ r. last_passes (λ e. is_before e.round r) before) round ▷ grid)
 
+-- at most 17 entries
 unfoldable pub entries : Format (List Entry)
 entries = counted (only (λ n. nat_le n 17) u8) entry
 
@@ -35,22 +36,28 @@ unfoldable pub vote : ℕ → List Vote → Format Vote
 vote cw before = shaped (λ x. record { round = x.0; slot = x.1.0; value = x.1.1 }) (λ v. (v.round, (v.slot, v.value)))
     (round ▷ only (λ s. in_window cw s && last_passes (λ v. nat_lt v.slot s) before) slot ▷ value)
 
+-- at most 32 votes
 unfoldable pub votes : ℕ → Format (List Vote)
 votes cw = counted (only (λ n. nat_le n 32) u8) (vote cw)
 
+-- a command's answer: its client, its number, one more than its slot, and the reply
 unfoldable pub answered : Format Answered
 answered = shaped (λ x. record { client = x.0; seq = x.1.0; at = x.1.1.0; reply = x.1.1.1 }) (λ a. (a.client, (a.seq, (a.at, a.reply)))) (u16 ▷ seq ▷ at ▷ reply)
 
+-- one to eight answers
 unfoldable pub answers : Format (List Answered)
 answers = counted (only (λ n. nat_le 1 n && nat_le n 8) u8) (λ _. answered)
 
+-- what a read found: 0 nothing, 1 a text
 abbrev pub found_shape : Option (List ℕ) → Shape
 found_shape None = shape 0 nothing tt
 found_shape (Some text) = shape 1 (name 64) text
 
+-- how each is read
 abbrev pub found_cases : List (Case (Option (List ℕ)))
 found_cases = case 0 nothing (λ _. None) ∷ case 1 (name 64) (λ x. Some x) ∷ []
 
+-- what a read found
 unfoldable pub found : Format (Option (List ℕ))
 found = tagged found_shape found_cases
 
@@ -58,60 +65,79 @@ found = tagged found_shape found_cases
 unfoldable pub reason : Format ℕ
 reason = only (λ n. nat_le n 2) u8
 
+-- a read: its client and its number
 unfoldable pub token : Format Token
 token = shaped (λ x. record { client = x.0; seq = x.1 }) (λ t. (t.client, t.seq)) (u16 ▷ seq)
 
+-- a round, a slot of the window that begins at cw, cw itself, and a value
 unfoldable pub phase2a : Format (Round × (ℕ × (ℕ × Value)))
 phase2a = round ▷ then_by slot (λ s. only (λ cw. in_window cw s) mark ▷ value)
 
+-- a round and a grid
 unfoldable pub round_grid : Format (Round × GridShape)
 round_grid = round ▷ grid
 
+-- a round, why it is refused, and another round
 unfoldable pub match_nack : Format (Round × (ℕ × Round))
 match_nack = round ▷ reason ▷ round
 
+-- a round, and the round that was promised
 unfoldable pub nack : Format (Round × Round)
 nack = round ▷ round
 
+-- a round and a slot
 unfoldable pub round_slot : Format (Round × ℕ)
 round_slot = round ▷ slot
 
+-- a slot and a value
 unfoldable pub slot_value : Format (ℕ × Value)
 slot_value = slot ▷ value
 
+-- a round and a number of slots
 unfoldable pub round_mark : Format (Round × ℕ)
 round_mark = round ▷ mark
 
+-- a read's number, the replica that is to answer, and a key
 unfoldable pub read_req : Format (ℕ × (ℕ × List ℕ))
 read_req = seq ▷ u16 ▷ name 32
 
+-- a read, a watermark and entries
 unfoldable pub match_read_ack : Format (Token × (Round × List Entry))
 match_read_ack = token ▷ round0 ▷ entries
 
+-- a read and a watermark
 unfoldable pub pre_read : Format (Token × Round)
 pre_read = token ▷ round0
 
+-- a read, a watermark and a number of slots
 unfoldable pub pre_read_ack : Format (Token × (Round × ℕ))
 pre_read_ack = token ▷ round0 ▷ mark
 
+-- a read, a number of slots and a key
 unfoldable pub read_key : Format (Token × (ℕ × List ℕ))
 read_key = token ▷ mark ▷ name 32
 
+-- a round, a watermark and entries
 unfoldable pub match_b : Format (Round × (Round × List Entry))
 match_b = round ▷ round0 ▷ entries
 
+-- a round, the number of slots below the window, and votes
 unfoldable pub phase1b : Format (Round × (ℕ × List Vote))
 phase1b = round ▷ then_by mark votes
 
+-- a round, its grid, a slot of the window that begins at cw, cw itself, and a value
 unfoldable pub propose : Format (Round × (GridShape × (ℕ × (ℕ × Value))))
 propose = round ▷ grid ▷ then_by slot (λ s. only (λ cw. in_window cw s) mark ▷ value)
 
+-- a slot and the answers to its commands
 unfoldable pub results : Format (ℕ × List Answered)
 results = slot ▷ answers
 
+-- a command's number, one more than its slot, and the reply
 unfoldable pub answer : Format (ℕ × (ℕ × Reply))
 answer = seq ▷ at ▷ reply
 
+-- a read's number, a number of slots, and what was found
 unfoldable pub read_answer : Format (ℕ × (ℕ × Option (List ℕ)))
 read_answer = seq ▷ mark ▷ found
 

@@ -10,15 +10,19 @@ use Rattle.cx_msg.specs.declared.kept.Record.TheVariants as kept
 use Rattle.cx_msg.specs.declared.fault.WireFault.{WireFault}
 use Rattle.cx_msg.specs.declared.fault.WireFault.TheVariants as faults
 
+-- one to 32 values
 unfoldable pub values : Format (List Value)
 values = counted (only (λ n. nat_le 1 n && nat_le n 32) u8) (λ _. value)
 
+-- a vote: a round, a slot, the number of slots below the window, and a value
 abbrev pub vote : Format (Round × (ℕ × (ℕ × Value)))
 vote = round ▷ slot ▷ mark ▷ value
 
+-- a round and a number of slots
 abbrev pub round_mark : Format (Round × ℕ)
 round_mark = round ▷ mark
 
+-- a round and its grid
 abbrev pub round_grid : Format (Round × GridShape)
 round_grid = round ▷ grid
 
@@ -43,6 +47,7 @@ record_cases =
     case 6 round_grid (λ x. kept.Round x.0 x.1) ∷
     case 7 values (λ x. kept.Log x) ∷ []
 
+-- a record: its tag in one byte, and its fields
 unfoldable pub kept_record : Format Record
 kept_record = tagged record_shape record_cases
 
@@ -60,6 +65,7 @@ ended all tag (Err left) = Err (faults.Field tag (all - left))
 ended all tag (Ok (r, [])) = Ok r
 ended all tag (Ok (r, b ∷ bytes)) = Err (faults.Trailing (all - length (b ∷ bytes)))
 
+-- the test of the tag, and the fields after it
 unfoldable pub with_tag : ℕ → Result (ℕ × List ℕ) ℕ → Result Record WireFault
 with_tag all (Err left) = Err (faults.Short 1 0)
 with_tag all (Ok (tag, body)) =

@@ -121,7 +121,11 @@ fn read(alloc: Global, bytes: &[u8]) -> Result<Parts, WireFault>
     }
 }
 
-/// The datagram that the bytes spell, all of the bytes; or the first test that they fail.
+/// The datagram that the bytes spell, all of the bytes; or the first test that they fail, in this order: fewer than 12
+/// bytes (`Short`), the letters CX (`Magic`), the version (`Version`), the kind, 1 to 29 (`Kind`), fewer bytes after the
+/// header than it says (`Length`), or more (`Trailing`), the roles of the kind (`Field` at 4 or 7), the body's fields in
+/// their order (`Field` at the first byte of the first bad one), and bytes after the last field (`Trailing`). The format is
+/// this project's own; its numbers have the highest byte first.
 pub fn decode(alloc: Global, bytes: &[u8]) -> Result<Datagram, WireFault>
     // What is read is spelled so, and has a spelling.
     ensures found { IfOk result (λ d. (bytes.now ≡ spelling d) × IsTrue (fits d)) }

@@ -113,7 +113,9 @@ fn read(alloc: Global, bytes: &[u8]) -> Result<Record, WireFault>
     }
 }
 
-/// The record that the bytes spell, all of the bytes; or the first test that they fail.
+/// The record that the bytes spell, all of the bytes; or the first test that they fail, in this order: no byte (`Short`), the
+/// tag, 1 to 7 (`Kind`), the fields in their order (`Field` at the first byte of the first bad one), and bytes after the
+/// last field (`Trailing`). The format is this project's own.
 pub fn record_from(alloc: Global, bytes: &[u8]) -> Result<Record, WireFault>
     // What is read is spelled so, and has a spelling.
     ensures found { IfOk result (λ r. (bytes.now ≡ records.spelling r) × IsTrue (records.fits r)) }
@@ -194,7 +196,7 @@ fn put_record(out: &mut Vec<u8>, kept: &Record) -> Result<(), NoMemory>
     }
 }
 
-/// Appends the bytes of a record, at most 27,970; an `Err` appends nothing.
+/// Appends the bytes of a record, at most 27,970. Want of memory appends nothing.
 #[tactic(auto, unfolding(crate::specs::Records::kept_record))]
 pub fn record_into(alloc: Global, kept: &Record, out: &mut Vec<u8>) -> Result<(), NoMemory>
     ensures bytes { OnOk result (out.new.items ≡ out.old.items ++ records.spelling kept.now) }
