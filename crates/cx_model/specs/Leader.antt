@@ -10,7 +10,6 @@ use Rattle.cx_base.specs.declared.event.Order.TheVariants.{Lead, Change, Collect
 use Rattle.cx_base.specs.declared.role.RoleId.{RoleId}
 use Rattle.cx_base.specs.declared.role.Kind.TheVariants.{Acceptor, Batcher, Leader, Matchmaker, Proxy}
 use Rattle.cx_base.specs.declared.round.Round.{Round}
-use Rattle.cx_base.specs.declared.why.Why.{Why}
 use Rattle.cx_base.specs.declared.why.Why.TheVariants as why
 use Rattle.cx_base.specs.Grid.{Shape, is_in}
 use Rattle.cx_base.specs.Lists.{below}

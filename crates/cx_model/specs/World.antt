@@ -20,12 +20,12 @@ use Rattle.cx_msg.specs.declared.input.Input.TheVariants as input
 use Rattle.cx_msg.specs.declared.input.KeptRecord.{KeptRecord}
 use Rattle.cx_msg.specs.declared.kept.Record.{Record}
 use Rattle.cx_msg.specs.declared.message.Token.{Token}
-use Rattle.cx_model.specs.Acceptor.{AcceptorDurable, acceptor_rules}
+use Rattle.cx_model.specs.Acceptor.{acceptor_rules}
 use Rattle.cx_model.specs.Batcher.{BatcherVolatile, batcher_rules}
-use Rattle.cx_model.specs.Leader.{LeaderDurable, LeaderVolatile, leader_rules}
-use Rattle.cx_model.specs.Matchmaker.{MatchmakerDurable, matchmaker_rules}
+use Rattle.cx_model.specs.Leader.{LeaderVolatile, leader_rules}
+use Rattle.cx_model.specs.Matchmaker.{matchmaker_rules}
 use Rattle.cx_model.specs.Proxy.{ProxyVolatile, proxy_rules}
-use Rattle.cx_model.specs.Replica.{ReplicaDurable, ReplicaVolatile, replica_rules}
+use Rattle.cx_model.specs.Replica.{ReplicaVolatile, replica_rules}
 use Rattle.cx_model.specs.Request.{token_of, is_stale, request}
 use Rattle.cx_model.specs.Rules.{Rules, folded}
 use Rattle.cx_model.specs.Turn.{Turn, turn}

@@ -1,5 +1,5 @@
 -- What an event does, told of every world.
-use Rattle.std.proofs.Common.{◌≡◌, true, false, List, [], Option, None, Some, ap, sym, ◌∙◌, subst, append-nil, refl, if◌then◌else◌}
+use Rattle.std.proofs.Common.{◌≡◌, true, false, List, [], Option, None, Some, sym, subst, append-nil, refl}
 use Rattle.cx_base.specs.declared.event.Event.{Event}
 use Rattle.cx_base.specs.declared.event.Happened.{Happened}
 use Rattle.cx_base.specs.declared.role.Kind.TheVariants as kind

@@ -1,10 +1,8 @@
 use Rattle.std.proofs.Common.{◌≡◌, ℕ, None, ap, ◌∙◌, subst, refl}
 use Rattle.std.specs.Prelude.{IfSome}
-use Rattle.std.specs.Io.KnownBytes.{Keeps}
-use Rattle.cx_base.specs.declared.status.Status.{Status}
 use Rattle.cx_base.specs.declared.status.Status.TheVariants as status
 use Rattle.cx_replay.specs.Input.{input_of}
-use Rattle.cx_replay.specs.Replay.{Prints, PrintsPart, PrintsPartOrNothing, ComesOfReplay, Replayed}
+use Rattle.cx_replay.specs.Replay.{Prints, PrintsPart, PrintsPartOrNothing, ComesOfReplay}
 use Rattle.cx_replay.proofs.Ends.{carry, long_has_none, nothing_of, none_completes, completes}
 use Rattle.cx_replay.proofs.replaying.replay.Goals as goal
 

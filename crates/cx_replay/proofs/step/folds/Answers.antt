@@ -1,6 +1,5 @@
-use Rattle.std.proofs.Common.{◌≡◌, append_assoc, ap, map, rules}
+use Rattle.std.proofs.Common.{append_assoc, ap, map}
 use Rattle.cx_base.specs.declared.cluster.Cluster.{Cluster}
-use Rattle.cx_base.specs.Lists.{numbers}
 use Rattle.cx_world.specs.Folded.{folded_of}
 use Rattle.cx_replay.proofs.Numbers.{numbers_more}
 use Rattle.cx_replay.proofs.step.folds.Goals as goal

@@ -1,5 +1,5 @@
 use Rattle.std.proofs.Common.{◌≡◌, false, ap, sym, ◌∙◌}
-use Rattle.cx_model.specs.World.{World, change}
+use Rattle.cx_model.specs.World.{World}
 use Rattle.cx_world.specs.World.{WorldState, roles_of, lists_of}
 use Rattle.cx_world.proofs.Steps.{held_after}
 use Rattle.cx_world.proofs.world.World.step.Goals as goal
