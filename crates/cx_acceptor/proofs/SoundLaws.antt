@@ -18,7 +18,7 @@ use Rattle.cx_msg.specs.declared.kept.Record.TheVariants as kept
 use Rattle.cx_msg.specs.declared.message.Vote.{Vote}
 use Rattle.cx_msg.specs.Fields.{mark, round, round0, slot, value}
 use Rattle.cx_msg.specs.Messages.{in_window}
-use Rattle.cx_msg.specs.Records.{fits, kept_record, vote as vote_record, round_mark}
+use Rattle.cx_msg.specs.Records.{fits, kept_record}
 use Rattle.cx_model.specs.Acceptor.{AcceptorDurable, acceptor_after, acceptor_fits, other_votes, votes_from, vote_at, is_of}
 use Rattle.cx_model.specs.Names.{names_round, names_value}
 use Rattle.cx_acceptor.specs.Sound.{is_kept, has_slot, are_single, IsSound}
@@ -166,7 +166,7 @@ fourth_and_fifth a b c d e f h = grind (arith, nat_tests)
 
 -- a record that fits leaves a sound acceptor sound
 pub after_sound : (c : Cluster) (me : RoleId) (d : AcceptorDurable) (r : Record) → IsSound me d → fits r ≡ true → acceptor_fits c me d r ≡ true → IsSound me (acceptor_after d r)
-unfolding kept_record vote_record round_mark
+unfolding kept_record
 after_sound c me d (kept.Promise i) sound fit takes = sound_promise me d i sound fit
 after_sound c me d (kept.Vote i s cw v) sound fit takes =
     let a = and_parts (round.fits i) (slot.fits s && (mark.fits cw && value.fits v)) fit in
@@ -189,14 +189,14 @@ unfolding slot u64
 slot_small s fit = grind (arith, nat_tests)
 
 pub vote_slot : (i : Round) (s cw : ℕ) (v : Value) → fits (kept.Vote i s cw v) ≡ true → slot.fits s ≡ true
-unfolding kept_record vote_record
+unfolding kept_record
 vote_slot i s cw v fit =
     let a = and_parts (round.fits i) (slot.fits s && (mark.fits cw && value.fits v)) fit in
     (and_parts (slot.fits s) (mark.fits cw && value.fits v) a.1).0
 
 -- a vote's record with each field in its range
 pub vote_fits : (i : Round) (s cw : ℕ) (v : Value) → round.fits i ≡ true → slot.fits s ≡ true → mark.fits cw ≡ true → value.fits v ≡ true → fits (kept.Vote i s cw v) ≡ true
-unfolding kept_record vote_record
+unfolding kept_record
 vote_fits i s cw v real in_slots in_marks fit = rw (real, in_slots, in_marks, fit) refl
 
 -- a promise above a round is a round

@@ -74,7 +74,7 @@ fn told(out: &Outbox) -> Option<(RoleId, Round)> {
 }
 
 // The last is below the watermark.
-#[tactic(auto, unfolding(cx_msg::specs::Records::kept_record, cx_msg::specs::Records::vote, cx_msg::specs::Records::round_mark, cx_msg::specs::Fields::round, cx_msg::specs::Fields::slot, cx_msg::specs::Fields::mark, cx_msg::specs::Fields::value, cx_wire::specs::Format::u16, cx_wire::specs::Format::u32, cx_wire::specs::Format::u64))]
+#[tactic(auto, unfolding(cx_msg::specs::Records::kept_record, cx_msg::specs::Fields::round, cx_msg::specs::Fields::slot, cx_msg::specs::Fields::mark, cx_msg::specs::Fields::value, cx_wire::specs::Format::u16, cx_wire::specs::Format::u32, cx_wire::specs::Format::u64))]
 fn records(alloc: Global) -> Result<Vec<Record>, NoMemory>
     ensures { IfOk result (λ list. IsTrue (all_fit list.items)) }
 {

@@ -16,7 +16,7 @@ use Rattle.cx_msg.specs.declared.kept.Record.{Record}
 use Rattle.cx_msg.specs.declared.kept.Record.TheVariants as kept
 use Rattle.cx_msg.specs.declared.message.Entry.{Entry}
 use Rattle.cx_msg.specs.Fields.{grid, round, round0}
-use Rattle.cx_msg.specs.Records.{fits, kept_record, round_grid}
+use Rattle.cx_msg.specs.Records.{fits, kept_record}
 use Rattle.cx_model.specs.Matchmaker.{MatchmakerDurable, matchmaker_after, matchmaker_fits, entry, entries_from, has_round, with_own}
 use Rattle.cx_model.specs.Names.{names_grid, names_round}
 use Rattle.cx_match.specs.Sound.{IsSound}
@@ -89,7 +89,7 @@ is_below n k h = grind (arith, nat_tests)
 
 -- a record that fits leaves a sound matchmaker sound
 pub after_sound : (c : Cluster) (me : RoleId) (d : MatchmakerDurable) (r : Record) → IsSound me d → fits r ≡ true → matchmaker_fits c me d r ≡ true → IsSound me (matchmaker_after d r)
-unfolding kept_record round_grid
+unfolding kept_record
 after_sound c me d (kept.Match i g) sound fit takes =
     let a = and_parts (round.fits i) (grid.fits g) fit in
     let t = fourth_and_fifth (names_round c i) (names_grid c g) (not (is_before i d.watermark)) (list_all (λ (e : Entry). is_before e.round i) d.entries) (nat_lt (length d.entries) 16) takes in
@@ -105,7 +105,7 @@ after_sound c me d (kept.Log vs) sound fit takes = cc
 
 -- the record of a round and its grid with each in its range
 pub match_fits : (i : Round) (g : Shape) → round.fits i ≡ true → grid.fits g ≡ true → fits (kept.Match i g) ≡ true
-unfolding kept_record round_grid
+unfolding kept_record
 match_fits i g real fit = rw (real, fit) refl
 
 pub empty_sound : (me : RoleId) → me ≡ role Matchmaker me.index → IsSound me (record { watermark = no_round; entries = [] })

@@ -78,7 +78,7 @@ fn told(out: &Outbox) -> Option<(RoleId, usize, Round)> {
 }
 
 // The last is refused where it isn't above the retired round.
-#[tactic(auto, unfolding(cx_msg::specs::Records::kept_record, cx_msg::specs::Records::round_grid, cx_msg::specs::Fields::round, cx_wire::specs::Format::u16, cx_wire::specs::Format::u32))]
+#[tactic(auto, unfolding(cx_msg::specs::Records::kept_record, cx_msg::specs::Fields::round, cx_wire::specs::Format::u16, cx_wire::specs::Format::u32))]
 fn records(alloc: Global, grid: Grid, last: u32) -> Result<Vec<Record>, NoMemory>
     requires { 1 ≤ last }
     ensures { IfOk result (λ list. IsTrue (all_fit list.items)) }
