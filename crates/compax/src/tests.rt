@@ -62,15 +62,6 @@ chosen 1
 replica:0 held 0
 ";
 
-// A schedule, what it prints, how it ends, and the line on the error sink.
-struct Case {
-    events: [&'static str; 3],
-    printed: [&'static str; 2],
-    status: Status,
-    line: &'static str,
-    failing: bool,
-}
-
 fn words(alloc: Global, all: &[&str]) -> Result<Vec<String>, Fail> {
     let mut words = Vec::new(alloc);
     for word in all {
@@ -79,87 +70,117 @@ fn words(alloc: Global, all: &[&str]) -> Result<Vec<String>, Fail> {
     Ok(words)
 }
 
-fn cases() -> [Case; 5] {
-    [
-        Case {
-            events: ["", "", ""],
-            printed: ["chosen 0\nreplica:0 held 0\n", ""],
-            status: Status::Done,
-            line: "",
-            failing: false,
-        },
-        Case {
-            events: [VOTED, ANSWERED, ""],
-            printed: [VOTED_TRACE, ANSWERED_TRACE],
-            status: Status::Done,
-            line: "",
-            failing: false,
-        },
-        Case {
-            events: [VOTED, REPEATED, ""],
-            printed: [VOTED_TRACE, REPEATED_TRACE],
-            status: Status::Done,
-            line: "",
-            failing: false,
-        },
-        Case {
-            events: [VOTED, ANSWERED, "deliver x\n"],
-            printed: ["", ""],
-            status: Status::BadInput { line: 0 },
-            line: "bad input at line 0\n",
-            failing: false,
-        },
-        Case {
-            events: [VOTED, ANSWERED, ""],
-            printed: ["", ""],
-            status: Status::WriteFault,
-            line: "write failed\n",
-            failing: true,
-        },
-    ]
+fn joined(alloc: Global, parts: &[&str]) -> Result<Vec<u8>, Fail> {
+    let mut bytes = Vec::new(alloc);
+    for part in parts {
+        bytes.extend_from_slice(part.as_bytes())?;
+    }
+    Ok(bytes)
+}
+
+// What a run is to come to: its status, what it prints, and the line on the error sink.
+#[derive(Clone, Copy)]
+struct Wanted<'a> {
+    status: Status,
+    printed: &'a [&'a str],
+    line: &'a str,
+}
+
+// Whether these words over this input, with a sink that fails at these writes, come to what is wanted.
+fn comes_to(
+    alloc: Global,
+    all: &[&str],
+    input: &[&str],
+    failing: Vec<u64>,
+    wanted: &Wanted<'_>,
+) -> Result<bool, Fail> {
+    let words = words(alloc, all)?;
+    let printed = joined(alloc, wanted.printed)?;
+    let mut input = MemSource::new(joined(alloc, input)?, Vec::new(alloc));
+    let mut out = MemSink::new(alloc, 10_000, failing)?;
+    let mut err = MemSink::new(alloc, 100, Vec::new(alloc))?;
+    let status = top(alloc, &words, &mut input, &mut out, &mut err);
+    Ok(
+        status == wanted.status
+            && out.as_slice() == printed.as_slice()
+            && err.as_slice() == wanted.line.as_bytes(),
+    )
 }
 
 #[test]
 fn runs_the_worked_schedules(rt: HostRuntime) -> Result<(), Fail> {
     let alloc = rt.alloc();
-    let replay = words(alloc, &["compax", "replay"])?;
-    for case in cases() {
-        let mut bytes = HEADER.as_bytes().to_vec(alloc)?;
-        for part in case.events {
-            bytes.extend_from_slice(part.as_bytes())?;
-        }
-        let mut printed = Vec::new(alloc);
-        for part in case.printed {
-            printed.extend_from_slice(part.as_bytes())?;
-        }
-        let failing = if case.failing {
-            vec![in alloc; 0u64]?
-        } else {
-            Vec::new(alloc)
-        };
-        let mut input = MemSource::new(bytes, Vec::new(alloc));
-        let mut out = MemSink::new(alloc, 10_000, failing)?;
-        let mut err = MemSink::new(alloc, 100, Vec::new(alloc))?;
-        let status = top(alloc, &replay, &mut input, &mut out, &mut err);
-        assert_eq!(rt; status, case.status);
-        assert_eq!(rt; out.as_slice(), printed.as_slice());
-        assert_eq!(rt; err.as_slice(), case.line.as_bytes());
-    }
+    let replay = ["compax", "replay"];
+    let empty = Wanted {
+        status: Status::Done,
+        printed: &["chosen 0\nreplica:0 held 0\n"],
+        line: "",
+    };
+    assert!(rt; comes_to(alloc, &replay, &[HEADER], Vec::new(alloc), &empty)?);
+    let answered = Wanted {
+        status: Status::Done,
+        printed: &[VOTED_TRACE, ANSWERED_TRACE],
+        line: "",
+    };
+    assert!(rt;
+        comes_to(
+            alloc,
+            &replay,
+            &[HEADER, VOTED, ANSWERED],
+            Vec::new(alloc),
+            &answered
+        )?
+    );
+    let repeated = Wanted {
+        status: Status::Done,
+        printed: &[VOTED_TRACE, REPEATED_TRACE],
+        line: "",
+    };
+    assert!(rt;
+        comes_to(
+            alloc,
+            &replay,
+            &[HEADER, VOTED, REPEATED],
+            Vec::new(alloc),
+            &repeated
+        )?
+    );
     Ok(())
 }
 
 #[test]
-fn refuses_other_words(rt: HostRuntime) -> Result<(), Fail> {
+fn tells_why_it_stopped(rt: HostRuntime) -> Result<(), Fail> {
     let alloc = rt.alloc();
-    for all in [["compax"].as_slice(), ["compax", "replay", "x"].as_slice()] {
-        let words = words(alloc, all)?;
-        let mut input = MemSource::new(Vec::new(alloc), Vec::new(alloc));
-        let mut out = MemSink::new(alloc, 100, Vec::new(alloc))?;
-        let mut err = MemSink::new(alloc, 100, Vec::new(alloc))?;
-        let status = top(alloc, &words, &mut input, &mut out, &mut err);
-        assert_eq!(rt; status, Status::BadWords);
-        assert!(rt; out.as_slice().is_empty());
-        assert_eq!(rt; err.as_slice(), b"bad words\n".as_slice());
-    }
+    let replay = ["compax", "replay"];
+    let bad_input = Wanted {
+        status: Status::BadInput { line: 0 },
+        printed: &[],
+        line: "bad input at line 0\n",
+    };
+    let input = [HEADER, VOTED, ANSWERED, "deliver x\n"];
+    assert!(rt; comes_to(alloc, &replay, &input, Vec::new(alloc), &bad_input)?);
+    let write_fault = Wanted {
+        status: Status::WriteFault,
+        printed: &[],
+        line: "write failed\n",
+    };
+    let failing = vec![in alloc; 0u64]?;
+    assert!(rt;
+        comes_to(
+            alloc,
+            &replay,
+            &[HEADER, VOTED, ANSWERED],
+            failing,
+            &write_fault
+        )?
+    );
+    let bad_words = Wanted {
+        status: Status::BadWords,
+        printed: &[],
+        line: "bad words\n",
+    };
+    assert!(rt; comes_to(alloc, &["compax"], &[], Vec::new(alloc), &bad_words)?);
+    let more = ["compax", "replay", "x"];
+    assert!(rt; comes_to(alloc, &more, &[], Vec::new(alloc), &bad_words)?);
     Ok(())
 }
