@@ -11,7 +11,7 @@ use Rattle.cx_base.specs.Role.{same_role}
 use Rattle.cx_base.specs.Round.{is_before}
 use Rattle.cx_msg.specs.Letter.{Letter}
 use Rattle.cx_msg.specs.LetterParts.{PartsFit}
-use Rattle.cx_msg.specs.Messages.{in_window}
+use Rattle.cx_field.specs.Fields.{in_window}
 use Rattle.cx_msg.specs.declared.input.Input.TheVariants.{Take}
 use Rattle.cx_msg.specs.declared.message.Msg.{Msg}
 use Rattle.cx_msg.specs.declared.message.Msg.TheVariants as msg

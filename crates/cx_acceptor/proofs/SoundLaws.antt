@@ -15,9 +15,8 @@ use Rattle.cx_base.specs.Round.{is_before, no_round}
 use Rattle.cx_wire.specs.Format.{u16, u32, u64}
 use Rattle.cx_msg.specs.declared.kept.Record.{Record}
 use Rattle.cx_msg.specs.declared.kept.Record.TheVariants as kept
-use Rattle.cx_msg.specs.declared.message.Vote.{Vote}
-use Rattle.cx_msg.specs.Fields.{mark, round, round0, slot, value}
-use Rattle.cx_msg.specs.Messages.{in_window}
+use Rattle.cx_field.specs.declared.parts.Vote.{Vote}
+use Rattle.cx_field.specs.Fields.{mark, round, round0, slot, value, in_window}
 use Rattle.cx_msg.specs.Records.{fits, kept_record}
 use Rattle.cx_model.specs.Acceptor.{AcceptorDurable, acceptor_after, acceptor_fits, other_votes, votes_from, vote_at, is_of}
 use Rattle.cx_model.specs.Names.{names_round, names_value}

@@ -4,9 +4,8 @@ use Rattle.std.specs.List.{list_all, list_any}
 use Rattle.cx_base.specs.declared.role.Kind.TheVariants.{Acceptor}
 use Rattle.cx_base.specs.declared.role.RoleId.{RoleId}
 use Rattle.cx_base.specs.Role.{role}
-use Rattle.cx_msg.specs.declared.message.Vote.{Vote}
-use Rattle.cx_msg.specs.Fields.{mark, round, round0, slot, value}
-use Rattle.cx_msg.specs.Messages.{in_window}
+use Rattle.cx_field.specs.declared.parts.Vote.{Vote}
+use Rattle.cx_field.specs.Fields.{mark, round, round0, slot, value, in_window}
 use Rattle.cx_model.specs.Acceptor.{AcceptorDurable}
 
 -- whether a vote's fields are in their ranges, and its slot in the window from the watermark on

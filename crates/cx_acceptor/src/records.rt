@@ -9,7 +9,8 @@ ghost use Rattle.cx_msg.specs.Records.{fits as record_fits};
 use crate::Acceptor;
 use crate::votes::{has_vote, is_in_window, keep_from, place};
 use cx_base::{Cluster, Duplicate, NoMemory, RoleId, Round};
-use cx_msg::{Record, Vote};
+use cx_field::Vote;
+use cx_msg::Record;
 use cx_role::{names_round, names_value};
 use std::alloc::Global;
 

@@ -4,16 +4,17 @@ ghost use Rattle.std.specs.Prelude.{◌≡◌, [], true, IfOk, IsErrOf, IsTrue};
 ghost use Rattle.cx_base.specs.declared.role.Kind.{Kind};
 ghost use Rattle.cx_base.specs.Role.{role};
 ghost use Rattle.cx_model.specs.Acceptor.{acceptor_rules, phase2a_row};
-ghost use Rattle.cx_msg.specs.Fields as field;
-ghost use Rattle.cx_msg.specs.Messages.{in_window};
+ghost use Rattle.cx_field.specs.Fields as field;
+ghost use Rattle.cx_field.specs.Fields.{in_window};
 ghost use Rattle.cx_role.specs.declared.role.StepFault.TheVariants as fault;
 ghost use Rattle.cx_role.specs.Role.{Steps, StaysAt, FailsAt};
 
 use crate::Acceptor;
 use crate::votes::{has_vote, place};
 use cx_base::{Duplicate, RoleId, Round, Value, Why};
+use cx_field::Vote;
 use cx_keeper::{KeepFault, Keeper};
-use cx_msg::{Record, Vote, nack, phase2b};
+use cx_msg::{Record, nack, phase2b};
 use cx_role::{Outbox, StepFault};
 
 impl Acceptor {

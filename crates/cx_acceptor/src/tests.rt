@@ -41,7 +41,7 @@ fn opened(alloc: Global, records: &[Record]) -> Result<Acceptor, WakeFault>
 }
 
 // Proxy 1 asks for a vote for nothing to do.
-#[tactic(auto, unfolding(cx_msg::specs::Fields::round, cx_msg::specs::Fields::slot, cx_msg::specs::Fields::mark, cx_msg::specs::Fields::value, cx_wire::specs::Format::u16, cx_wire::specs::Format::u32, cx_wire::specs::Format::u64))]
+#[tactic(auto, unfolding(cx_field::specs::Fields::round, cx_field::specs::Fields::slot, cx_field::specs::Fields::mark, cx_field::specs::Fields::value, cx_wire::specs::Format::u16, cx_wire::specs::Format::u32, cx_wire::specs::Format::u64))]
 fn ask(acceptor: u16, r: u32, slot: u64, cw: u64) -> Option<Datagram> {
     if r < 1 || slot >= 1 << 40 || slot < cw || slot - cw >= 32 {
         return None;
@@ -74,7 +74,7 @@ fn told(out: &Outbox) -> Option<(RoleId, Round)> {
 }
 
 // The last is below the watermark.
-#[tactic(auto, unfolding(cx_msg::specs::Records::kept_record, cx_msg::specs::Fields::round, cx_msg::specs::Fields::slot, cx_msg::specs::Fields::mark, cx_msg::specs::Fields::value, cx_wire::specs::Format::u16, cx_wire::specs::Format::u32, cx_wire::specs::Format::u64))]
+#[tactic(auto, unfolding(cx_msg::specs::Records::kept_record, cx_field::specs::Fields::round, cx_field::specs::Fields::slot, cx_field::specs::Fields::mark, cx_field::specs::Fields::value, cx_wire::specs::Format::u16, cx_wire::specs::Format::u32, cx_wire::specs::Format::u64))]
 fn records(alloc: Global) -> Result<Vec<Record>, NoMemory>
     ensures { IfOk result (λ list. IsTrue (all_fit list.items)) }
 {

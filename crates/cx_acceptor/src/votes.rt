@@ -2,10 +2,10 @@
 
 ghost use Rattle.std.specs.Prelude.{◌≡◌, ◌≤◌, ◌<◌, ◌∷◌, ◌++◌, [], vec_len, vec_capacity};
 ghost use Rattle.cx_model.specs.Acceptor.{other_votes, votes_from, vote_at, is_of};
-ghost use Rattle.cx_msg.specs.Messages.{in_window};
+ghost use Rattle.cx_field.specs.Fields.{in_window};
 
 use cx_base::Round;
-use cx_msg::Vote;
+use cx_field::Vote;
 
 /// Whether a slot lies in the window that begins at a watermark. It takes no memory.
 pub fn is_in_window(cw: u64, slot: u64) -> bool

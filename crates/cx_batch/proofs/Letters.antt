@@ -5,8 +5,7 @@ use Rattle.std.proofs.lemmas.Bool.{and_parts}
 use Rattle.std.proofs.lemmas.Bool.Decides.{nat_tests}
 use Rattle.cx_base.specs.declared.command.Answered.{Answered}
 use Rattle.cx_base.specs.declared.command.Command.{Command}
-use Rattle.cx_msg.specs.Fields.{command, commands}
-use Rattle.cx_msg.specs.Messages.{answered, answers}
+use Rattle.cx_field.specs.Fields.{command, commands, answered, answers}
 use Rattle.cx_wire.specs.Format.{Format, u8, each_fits}
 
 each_fits-same : {A : Type 0} (f : Format A) (before xs : List A) → each_fits (λ _. f) before xs ≡ list_all (λ (x : A). f.fits x) xs

@@ -4,7 +4,7 @@ use Rattle.std.specs.List.{list_all}
 use Rattle.cx_base.specs.declared.command.Command.{Command}
 use Rattle.cx_base.specs.declared.role.Kind.TheVariants.{Batcher}
 use Rattle.cx_base.specs.declared.role.RoleId.{RoleId}
-use Rattle.cx_msg.specs.Fields.{command}
+use Rattle.cx_field.specs.Fields.{command}
 
 -- a batcher, and fewer commands than a batch, each in its ranges
 pub record CanWait (batch : ℕ) (me : RoleId) (waiting : List Command) : Type 0 where

@@ -54,7 +54,7 @@ mod tests {
 
     // Two commands make a batch, which goes to the leader that was told last; an answer goes to its client.
     #[test]
-    #[tactic(auto, unfolding(cx_msg::specs::Fields::seq, cx_msg::specs::Fields::round, cx_wire::specs::Format::u16, cx_wire::specs::Format::u32, cx_wire::specs::Format::u64))]
+    #[tactic(auto, unfolding(cx_field::specs::Fields::seq, cx_field::specs::Fields::round, cx_wire::specs::Format::u16, cx_wire::specs::Format::u32, cx_wire::specs::Format::u64))]
     fn gathers_and_answers(rt: HostRuntime) -> Result<(), Fail> {
         let alloc = rt.alloc();
         let mut keeper = MemKeeper::new(alloc);

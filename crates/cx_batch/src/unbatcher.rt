@@ -4,7 +4,7 @@ ghost use Rattle.std.specs.Prelude.{◌≡◌, ◌≤◌, ◌++◌, [], length, 
 ghost use Rattle.std.specs.List.{list_all};
 ghost use Rattle.cx_base.specs.declared.command.Answered.{Answered};
 ghost use Rattle.cx_base.specs.declared.role.Kind.TheVariants as kind;
-ghost use Rattle.cx_msg.specs.Messages as message;
+ghost use Rattle.cx_field.specs.Fields as field;
 ghost use Rattle.cx_model.specs.Rules.{Running};
 ghost use Rattle.cx_model.specs.Unbatcher.{unbatcher_rules, answer_to};
 
@@ -102,7 +102,7 @@ impl Role for Unbatcher {
 // To each client its answer, in order.
 fn answer_all(me: RoleId, answers: &[Answered], out: &mut Outbox)
     requires kind { me.kind ≡ kind.Unbatcher }
-    requires fit { IsTrue (list_all (λ (a : Answered). message.answered.fits a) answers.now) }
+    requires fit { IsTrue (list_all (λ (a : Answered). field.answered.fits a) answers.now) }
     requires spare { length answers.now ≤ out.old.spare }
     ensures { out.new.list ≡ out.old.list ++ map (answer_to me) answers.now }
 {
@@ -112,10 +112,10 @@ fn answer_all(me: RoleId, answers: &[Answered], out: &mut Outbox)
 }
 
 // A client's answer.
-#[tactic(auto, unfolding(cx_msg::specs::Messages::answered))]
+#[tactic(auto, unfolding(cx_field::specs::Fields::answered))]
 fn answer_to(me: RoleId, answer: &Answered) -> Datagram
     requires kind { me.kind ≡ kind.Unbatcher }
-    requires fits { IsTrue (message.answered.fits answer.now) }
+    requires fits { IsTrue (field.answered.fits answer.now) }
     ensures { result ≡ answer_to me answer.now }
 {
     cx_msg::answer(me.index, answer.client, answer.seq, answer.at, answer.reply)

@@ -6,7 +6,7 @@ use Rattle.std.proofs.lemmas.List.Folds.{list_any-append}
 use Rattle.cx_base.specs.declared.round.Round.{Round}
 use Rattle.cx_base.specs.Grid.{is_in}
 use Rattle.cx_base.specs.Round.{is_before}
-use Rattle.cx_msg.specs.declared.message.Entry.{Entry}
+use Rattle.cx_field.specs.declared.parts.Entry.{Entry}
 use Rattle.cx_model.specs.declared.states.MatchAnswer.{MatchAnswer}
 use Rattle.cx_model.specs.Leader.{entries_told}
 use Rattle.cx_model.specs.Matchmaker.{entries_from}

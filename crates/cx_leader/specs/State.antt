@@ -3,8 +3,8 @@ use Rattle.std.specs.Prelude.{◌≤◌, ◌<◌, ◌+◌, ◌^◌, ℕ, Bool, t
 use Rattle.std.specs.List.{All}
 use Rattle.cx_base.specs.declared.cluster.Cluster.{Cluster}
 use Rattle.cx_base.specs.declared.command.Placed.{Placed}
-use Rattle.cx_msg.specs.Fields.{round, value as placed_value}
-use Rattle.cx_msg.specs.declared.message.Entry.{Entry}
+use Rattle.cx_field.specs.Fields.{round, value as placed_value}
+use Rattle.cx_field.specs.declared.parts.Entry.{Entry}
 use Rattle.cx_model.specs.declared.states.Mode.{Mode}
 use Rattle.cx_model.specs.declared.states.Mode.TheVariants.{Idle, Matching, Phase1, Leading}
 use Rattle.cx_model.specs.Leader.{LeaderDurable, LeaderVolatile, is_matching}

@@ -9,9 +9,10 @@ ghost use Rattle.cx_leader.specs.State.{is_idle, own_fits};
 
 use crate::rounds::{may_begin, round_of};
 use cx_base::{Cluster, Kind, NoMemory, Order, Placed, RoleId, Round, Why};
+use cx_field::Entry;
 use cx_keeper::Keeper;
 use cx_model::{MatchAnswer, Mode};
-use cx_msg::{Datagram, Entry, Msg, Record};
+use cx_msg::{Datagram, Msg, Record};
 use cx_role::{Outbox, Role, StepFault, WakeFault, is_for};
 use std::alloc::Global;
 use std::marker::Model;

@@ -3,7 +3,7 @@
 ghost use Rattle.std.specs.Prelude.{◌≡◌, ◌≤◌, ◌+◌, ◌++◌, ◌∷◌, [], map, filter, not, length, IsTrue, IfOk, OnOk, OnErr};
 ghost use Rattle.cx_base.specs.Grid.{is_in};
 ghost use Rattle.cx_base.specs.declared.command.Placed.{Placed as PlacedOf};
-ghost use Rattle.cx_msg.specs.Fields as field;
+ghost use Rattle.cx_field.specs.Fields as field;
 ghost use Rattle.cx_model.specs.Leader.{propose_to, open_values, batch_row, chosen_in_row, leader_rules};
 ghost use Rattle.cx_role.specs.Role.{Replies};
 ghost use Rattle.cx_leader.specs.State.{IsProposal};
@@ -12,8 +12,8 @@ use crate::Leader;
 use crate::rounds::{is_same, round_of};
 use crate::sending::proposal;
 use cx_base::{Commands, Duplicate, NoMemory, Placed, Round, Value, Why};
+use cx_field::Entry;
 use cx_model::Mode;
-use cx_msg::Entry;
 use cx_role::Outbox;
 
 fn contains(slots: &[u64], slot: u64) -> bool
@@ -24,7 +24,7 @@ fn contains(slots: &[u64], slot: u64) -> bool
 
 impl Leader {
     /// A batcher's commands get the next slot of the window.
-    #[tactic(auto, unfolding(cx_msg::specs::Fields::value))]
+    #[tactic(auto, unfolding(cx_field::specs::Fields::value))]
     pub(crate) fn batch(&mut self, commands: &Commands, out: &mut Outbox) -> Result<Why, NoMemory>
         requires empty { out.old.list ≡ [] }
         requires commands { IsTrue (field.commands.fits commands.now) }

@@ -7,8 +7,8 @@ ghost use Rattle.cx_base.specs.Round.{is_before};
 ghost use Rattle.cx_model.specs.declared.states.MatchAnswer.{MatchAnswer as AnswerOf};
 ghost use Rattle.cx_model.specs.declared.states.Mode.TheVariants as mode;
 ghost use Rattle.cx_model.specs.Leader.{later_round, greatest_watermark, live_entries, finish, matched_by, match_counted, match_b_row, leader_rules};
-ghost use Rattle.cx_msg.specs.Fields as field;
-ghost use Rattle.cx_msg.specs.declared.message.Entry.{Entry as EntryOf};
+ghost use Rattle.cx_field.specs.Fields as field;
+ghost use Rattle.cx_field.specs.declared.parts.Entry.{Entry as EntryOf};
 ghost use Rattle.cx_role.specs.Role.{Replies};
 ghost use Rattle.cx_leader.specs.Matching.{has_some};
 
@@ -16,9 +16,9 @@ use crate::Leader;
 use crate::rounds::{is_same, round_of};
 use crate::sending::{ask_members, tell_batchers};
 use cx_base::{Duplicate, NoMemory, RoleId, Round, Why};
+use cx_field::{Entries, Entry};
 use cx_grid::is_member;
 use cx_model::{MatchAnswer, Mode};
-use cx_msg::{Entries, Entry};
 use cx_role::Outbox;
 
 fn later(a: Round, b: Round) -> Round

@@ -5,16 +5,17 @@ ghost use Rattle.cx_base.specs.Round.{same_round};
 ghost use Rattle.cx_model.specs.Leader.{round_of, follows, lead_in, lead_row, leader_rules};
 ghost use Rattle.cx_model.specs.Names.{names_round, names_grid};
 ghost use Rattle.cx_model.specs.Rules.{IsFit};
-ghost use Rattle.cx_msg.specs.Fields as field;
+ghost use Rattle.cx_field.specs.Fields as field;
 ghost use Rattle.cx_role.specs.declared.role.StepFault.TheVariants as fault;
 ghost use Rattle.cx_role.specs.Role.{Steps, StaysAt, FailsAt};
 
 use crate::Leader;
 use crate::sending::ask_matchmakers;
 use cx_base::{Cluster, Grid, Round, Why};
+use cx_field::{Entry, grid_fits};
 use cx_keeper::{KeepFault, Keeper};
 use cx_model::Mode;
-use cx_msg::{Entry, Record, grid_fits};
+use cx_msg::Record;
 use cx_role::{Outbox, StepFault, names_grid, names_round};
 
 /// Whether two rounds are the same.
@@ -101,7 +102,7 @@ impl Leader {
     }
 
     /// The order to lead: a round above all that it has seen, kept before the matchmakers are asked to record it.
-    #[tactic(auto, using(crate::proofs::Fits::lead_fits), unfolding(cx_msg::specs::Fields::round, cx_wire::specs::Format::u16, cx_wire::specs::Format::u32))]
+    #[tactic(auto, using(crate::proofs::Fits::lead_fits), unfolding(cx_field::specs::Fields::round, cx_wire::specs::Format::u16, cx_wire::specs::Format::u32))]
     pub(crate) fn lead<K: Keeper>(
         &mut self,
         keeper: &mut K,

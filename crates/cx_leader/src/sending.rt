@@ -4,13 +4,14 @@ ghost use Rattle.std.specs.Prelude.{◌≡◌, ◌≤◌, ◌<◌, ◌+◌, ◌^
 ghost use Rattle.cx_base.specs.declared.role.Kind.{Kind as KindOf};
 ghost use Rattle.cx_base.specs.Lists.{below};
 ghost use Rattle.cx_base.specs.Role.{role};
-ghost use Rattle.cx_msg.specs.Fields as field;
+ghost use Rattle.cx_field.specs.Fields as field;
 ghost use Rattle.cx_model.specs.Leader.{match_a_to, phase1a_to, leads_to, propose_to, members_of, live_entries, matchmakers};
 
 use crate::matching::is_live_member;
 use cx_base::{Cluster, Grid, Kind, Round, Value};
+use cx_field::Entry;
 use cx_model::MatchAnswer;
-use cx_msg::{Datagram, Entry, leads, match_a, phase1a, propose};
+use cx_msg::{Datagram, leads, match_a, phase1a, propose};
 use cx_role::Outbox;
 
 /// Asks so many matchmakers to record the round and its grid.
@@ -55,7 +56,7 @@ pub fn tell_batchers(leader: u16, round: Round, count: u16, out: &mut Outbox)
 }
 
 /// The value of a slot, for the slot's proxy.
-#[tactic(auto, unfolding(cx_msg::specs::Fields::slot, cx_msg::specs::Fields::mark, cx_wire::specs::Format::u64))]
+#[tactic(auto, unfolding(cx_field::specs::Fields::slot, cx_field::specs::Fields::mark, cx_wire::specs::Format::u64))]
 pub fn proposal(
     cluster: &Cluster,
     leader: u16,

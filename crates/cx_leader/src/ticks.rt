@@ -3,14 +3,14 @@
 ghost use Rattle.std.specs.Prelude.{◌≡◌, [], Some, IfOk, IsTrue, OnErr};
 ghost use Rattle.cx_model.specs.declared.states.Mode.TheVariants as mode;
 ghost use Rattle.cx_model.specs.Leader.{tick_in, leader_rules};
-ghost use Rattle.cx_msg.specs.Fields as field;
+ghost use Rattle.cx_field.specs.Fields as field;
 ghost use Rattle.cx_role.specs.Role.{Replies};
 
 use crate::Leader;
 use crate::rounds::matchmakers;
 use crate::sending::{ask_matchmakers, ask_members, tell_batchers};
 use cx_base::{NoMemory, Why};
-use cx_msg::Entry;
+use cx_field::Entry;
 use cx_role::Outbox;
 
 impl Leader {

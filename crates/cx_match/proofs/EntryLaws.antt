@@ -10,9 +10,8 @@ use Rattle.cx_base.specs.declared.round.Round.{Round}
 use Rattle.cx_base.specs.Grid.{Shape}
 use Rattle.cx_base.specs.Round.{is_before, same_round, no_round}
 use Rattle.cx_wire.specs.Format.{u8, each_fits}
-use Rattle.cx_msg.specs.declared.message.Entry.{Entry}
-use Rattle.cx_msg.specs.Fields.{grid, round}
-use Rattle.cx_msg.specs.Messages.{last_passes, entry as entry_format, entries as entries_format}
+use Rattle.cx_field.specs.declared.parts.Entry.{Entry}
+use Rattle.cx_field.specs.Fields.{grid, round, last_passes, entry as entry_format, entries as entries_format}
 use Rattle.cx_model.specs.Matchmaker.{entry, entries_before, entries_from, has_round, greatest, with_own}
 use Rattle.cx_match.specs.Sound.{is_entry, all_above, are_rising}
 

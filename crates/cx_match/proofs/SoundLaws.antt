@@ -14,8 +14,8 @@ use Rattle.cx_base.specs.Round.{is_before, no_round}
 use Rattle.cx_wire.specs.Format.{u16, u32}
 use Rattle.cx_msg.specs.declared.kept.Record.{Record}
 use Rattle.cx_msg.specs.declared.kept.Record.TheVariants as kept
-use Rattle.cx_msg.specs.declared.message.Entry.{Entry}
-use Rattle.cx_msg.specs.Fields.{grid, round, round0}
+use Rattle.cx_field.specs.declared.parts.Entry.{Entry}
+use Rattle.cx_field.specs.Fields.{grid, round, round0}
 use Rattle.cx_msg.specs.Records.{fits, kept_record}
 use Rattle.cx_model.specs.Matchmaker.{MatchmakerDurable, matchmaker_after, matchmaker_fits, entry, entries_from, has_round, with_own}
 use Rattle.cx_model.specs.Names.{names_grid, names_round}

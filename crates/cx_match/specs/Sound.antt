@@ -6,8 +6,8 @@ use Rattle.cx_base.specs.declared.role.RoleId.{RoleId}
 use Rattle.cx_base.specs.declared.round.Round.{Round}
 use Rattle.cx_base.specs.Role.{role}
 use Rattle.cx_base.specs.Round.{is_before}
-use Rattle.cx_msg.specs.declared.message.Entry.{Entry}
-use Rattle.cx_msg.specs.Fields.{grid, round, round0}
+use Rattle.cx_field.specs.declared.parts.Entry.{Entry}
+use Rattle.cx_field.specs.Fields.{grid, round, round0}
 use Rattle.cx_model.specs.Matchmaker.{MatchmakerDurable, has_round}
 
 -- whether each entry's fields are in their ranges

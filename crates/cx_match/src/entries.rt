@@ -4,10 +4,10 @@ ghost use Rattle.std.specs.Prelude.{◌≡◌, ◌<◌, ◌≤◌, ◌∷◌, le
 ghost use Rattle.std.specs.List.{list_all, list_any};
 ghost use Rattle.cx_base.specs.Round.{is_before};
 ghost use Rattle.cx_model.specs.Matchmaker.{entries_before, entries_from, entry, greatest, has_round, with_own};
-ghost use Rattle.cx_msg.specs.declared.message.Entry.{Entry};
+ghost use Rattle.cx_field.specs.declared.parts.Entry.{Entry};
 
 use cx_base::{Few, Grid, NoMemory, Round};
-use cx_msg::{Entries, Entry};
+use cx_field::{Entries, Entry};
 use std::alloc::Global;
 
 /// Whether some entry is of a later round. It takes no memory.

@@ -3,8 +3,9 @@
 ghost use Rattle.cx_model.specs.Matchmaker.{MatchmakerDurable, matchmaker_rules};
 
 use cx_base::{Cluster, NoMemory, Order, RoleId, Round, Why};
+use cx_field::Entry;
 use cx_keeper::Keeper;
-use cx_msg::{Datagram, Entry, Msg, Record};
+use cx_msg::{Datagram, Msg, Record};
 use cx_role::{Outbox, Role, StepFault, WakeFault, is_for};
 use std::alloc::Global;
 use std::marker::Model;

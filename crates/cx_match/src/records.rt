@@ -9,7 +9,8 @@ ghost use Rattle.cx_msg.specs.Records.{fits as record_fits};
 use crate::Matchmaker;
 use crate::entries::{are_before, retire};
 use cx_base::{Cluster, NoMemory, RoleId, Round};
-use cx_msg::{Entry, Record};
+use cx_field::Entry;
+use cx_msg::Record;
 use cx_role::{names_grid, names_round};
 use std::alloc::Global;
 

@@ -4,15 +4,16 @@ ghost use Rattle.std.specs.Prelude.{◌≡◌, [], true, IfOk, IsErrOf, IsTrue};
 ghost use Rattle.cx_base.specs.declared.role.Kind.{Kind};
 ghost use Rattle.cx_base.specs.Role.{role};
 ghost use Rattle.cx_model.specs.Matchmaker.{matchmaker_rules, match_a_row};
-ghost use Rattle.cx_msg.specs.Fields as field;
+ghost use Rattle.cx_field.specs.Fields as field;
 ghost use Rattle.cx_role.specs.declared.role.StepFault.TheVariants as fault;
 ghost use Rattle.cx_role.specs.Role.{Steps, StaysAt, FailsAt};
 
 use crate::Matchmaker;
 use crate::entries::{earlier, has_entry, has_later, last_round};
 use cx_base::{Grid, RoleId, Round, Why};
+use cx_field::Entry;
 use cx_keeper::{KeepFault, Keeper};
-use cx_msg::{Entry, Record, match_b, match_nack};
+use cx_msg::{Record, match_b, match_nack};
 use cx_role::{Outbox, StepFault};
 
 impl Matchmaker {

@@ -5,8 +5,9 @@ ghost use Rattle.cx_keeper.specs.Keeper.{all_fit};
 
 use crate::Matchmaker;
 use cx_base::{Cluster, Cut, Grid, Kind, NoMemory, Order, RoleId, Round, Why};
+use cx_field::grid_fits;
 use cx_keeper::{Keeper, MemKeeper};
-use cx_msg::{Datagram, Msg, Record, grid_fits, match_a};
+use cx_msg::{Datagram, Msg, Record, match_a};
 use cx_role::{Outbox, Role, WakeFault};
 use std::alloc::Global;
 use std::test::Fail;
@@ -41,7 +42,7 @@ fn opened(alloc: Global, records: &[Record]) -> Result<Matchmaker, WakeFault>
 }
 
 // Leader 1 asks that its round be recorded.
-#[tactic(auto, unfolding(cx_msg::specs::Fields::round, cx_wire::specs::Format::u16, cx_wire::specs::Format::u32))]
+#[tactic(auto, unfolding(cx_field::specs::Fields::round, cx_wire::specs::Format::u16, cx_wire::specs::Format::u32))]
 fn ask(matchmaker: u16, r: u32, grid: Grid) -> Option<Datagram> {
     if r < 1 {
         return None;
@@ -78,7 +79,7 @@ fn told(out: &Outbox) -> Option<(RoleId, usize, Round)> {
 }
 
 // The last is refused where it isn't above the retired round.
-#[tactic(auto, unfolding(cx_msg::specs::Records::kept_record, cx_msg::specs::Fields::round, cx_wire::specs::Format::u16, cx_wire::specs::Format::u32))]
+#[tactic(auto, unfolding(cx_msg::specs::Records::kept_record, cx_field::specs::Fields::round, cx_wire::specs::Format::u16, cx_wire::specs::Format::u32))]
 fn records(alloc: Global, grid: Grid, last: u32) -> Result<Vec<Record>, NoMemory>
     requires { 1 ≤ last }
     ensures { IfOk result (λ list. IsTrue (all_fit list.items)) }

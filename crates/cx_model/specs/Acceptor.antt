@@ -9,10 +9,10 @@ use Rattle.cx_base.specs.declared.why.Why.TheVariants.{Idle, Nack, Past, Same, S
 use Rattle.cx_base.specs.Role.{same_role, role}
 use Rattle.cx_base.specs.Round.{is_before, same_round, no_round}
 use Rattle.cx_msg.specs.Letter.{Letter, letter}
-use Rattle.cx_msg.specs.Messages.{in_window}
+use Rattle.cx_field.specs.Fields.{in_window}
 use Rattle.cx_msg.specs.declared.input.Input.{Input}
 use Rattle.cx_msg.specs.declared.input.Input.TheVariants.{Take, Tick, Order}
-use Rattle.cx_msg.specs.declared.message.Vote.{Vote}
+use Rattle.cx_field.specs.declared.parts.Vote.{Vote}
 use Rattle.cx_msg.specs.declared.message.Msg.{Msg}
 use Rattle.cx_msg.specs.declared.message.Msg.TheVariants as msg
 use Rattle.cx_msg.specs.declared.kept.Record.{Record}

@@ -13,7 +13,7 @@ use Rattle.cx_base.specs.Round.{is_before, same_round, no_round}
 use Rattle.cx_msg.specs.Letter.{Letter, letter}
 use Rattle.cx_msg.specs.declared.input.Input.{Input}
 use Rattle.cx_msg.specs.declared.input.Input.TheVariants.{Take, Tick, Order}
-use Rattle.cx_msg.specs.declared.message.Entry.{Entry}
+use Rattle.cx_field.specs.declared.parts.Entry.{Entry}
 use Rattle.cx_msg.specs.declared.message.Msg.{Msg}
 use Rattle.cx_msg.specs.declared.message.Msg.TheVariants as msg
 use Rattle.cx_msg.specs.declared.kept.Record.{Record}

@@ -12,9 +12,9 @@ use Rattle.cx_base.specs.declared.round.Round.{Round}
 use Rattle.cx_base.specs.Fold.{commands_of}
 use Rattle.cx_base.specs.Grid.{Shape}
 use Rattle.cx_msg.specs.Letter.{Letter}
-use Rattle.cx_msg.specs.declared.message.Entry.{Entry}
-use Rattle.cx_msg.specs.declared.message.Token.{Token}
-use Rattle.cx_msg.specs.declared.message.Vote.{Vote}
+use Rattle.cx_field.specs.declared.parts.Entry.{Entry}
+use Rattle.cx_field.specs.declared.parts.Token.{Token}
+use Rattle.cx_field.specs.declared.parts.Vote.{Vote}
 use Rattle.cx_msg.specs.declared.message.Msg.{Msg}
 use Rattle.cx_msg.specs.declared.message.Msg.TheVariants as msg
 

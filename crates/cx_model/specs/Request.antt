@@ -11,7 +11,7 @@ use Rattle.cx_base.specs.declared.why.Why.TheVariants as why
 use Rattle.cx_base.specs.Role.{role}
 use Rattle.cx_base.specs.Same.{same_op}
 use Rattle.cx_msg.specs.Letter.{Letter, letter}
-use Rattle.cx_msg.specs.declared.message.Token.{Token}
+use Rattle.cx_field.specs.declared.parts.Token.{Token}
 use Rattle.cx_msg.specs.declared.message.Msg.TheVariants as msg
 
 -- the client and the number of a request

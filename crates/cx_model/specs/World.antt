@@ -19,7 +19,7 @@ use Rattle.cx_msg.specs.declared.input.Act.TheVariants.{Give, Stop, Wake}
 use Rattle.cx_msg.specs.declared.input.Input.TheVariants as input
 use Rattle.cx_msg.specs.declared.input.KeptRecord.{KeptRecord}
 use Rattle.cx_msg.specs.declared.kept.Record.{Record}
-use Rattle.cx_msg.specs.declared.message.Token.{Token}
+use Rattle.cx_field.specs.declared.parts.Token.{Token}
 use Rattle.cx_model.specs.Acceptor.{acceptor_rules}
 use Rattle.cx_model.specs.Batcher.{BatcherVolatile, batcher_rules}
 use Rattle.cx_model.specs.Leader.{LeaderVolatile, leader_rules}

@@ -3,8 +3,8 @@
 ghost use Rattle.std.specs.Prelude.{◌≡◌, IfOk};
 
 use cx_base::{Grid, Round, Value};
+use cx_field::Entries;
 use cx_grid::Marks;
-use cx_msg::Entries;
 
 /// What a leader is doing (JSys 2021).
 #[derive(Clone, Copy, Debug, PartialEq, Eq)]

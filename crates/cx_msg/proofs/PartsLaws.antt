@@ -2,18 +2,16 @@
 use Rattle.std.proofs.Common.{◌≡◌, ℕ, Bool, true, false, ◌&&◌, ◌||◌, eqb, List, refl, sym, ap, ◌∙◌, IsTrue}
 use Rattle.std.proofs.lemmas.Bool.{eqb-true}
 use Rattle.cx_base.specs.Role.{role, code_of, kind_of}
-use Rattle.cx_base.specs.declared.command.Command.{Command}
-use Rattle.cx_base.specs.declared.command.Value.TheVariants as choice
 use Rattle.cx_base.specs.declared.role.Kind.{Kind}
 use Rattle.cx_base.specs.declared.role.Kind.TheVariants.{Client, Batcher, Leader, Proxy, Acceptor, Matchmaker, Replica, Unbatcher, Reader}
 use Rattle.cx_base.specs.declared.role.RoleId.{RoleId}
 use Rattle.cx_wire.specs.Format.{u16}
 use Rattle.cx_wire.proofs.Laws.{both}
-use Rattle.cx_msg.specs.Fields.{slot, mark, at, seq, round, round0, grid, name, commands, value, reply}
-use Rattle.cx_msg.specs.Messages.{body_shape, in_window, entries, votes, answers, found, reason, token, answer, match_b, match_nack, match_read_ack, nack, phase1b, phase2a, pre_read, pre_read_ack, propose, read_answer, read_key, read_req, results, round_grid, round_mark, round_slot, slot_value}
+use Rattle.cx_field.specs.Fields.{slot, mark, at, seq, round, round0, grid, name, commands, value, reply, in_window, entries, votes, answers, found, reason, token, values}
+use Rattle.cx_msg.specs.Messages.{body_shape, answer, match_b, match_nack, match_read_ack, nack, phase1b, phase2a, pre_read, pre_read_ack, propose, read_answer, read_key, read_req, results, round_grid, round_mark, round_slot, slot_value}
 use Rattle.cx_msg.specs.Letter.{Letter, letter, senders, receivers, is_listed, fits}
 use Rattle.cx_msg.specs.LetterParts.{PartsFit}
-use Rattle.cx_msg.specs.Records.{values, fits as record_fits}
+use Rattle.cx_msg.specs.Records.{fits as record_fits}
 use Rattle.cx_msg.specs.declared.kept.Record.{Record}
 use Rattle.cx_msg.specs.declared.kept.Record.TheVariants as kept
 use Rattle.cx_msg.specs.declared.message.Msg.{Msg}
@@ -210,16 +208,3 @@ record_parts (kept.Match r g) h = both (round.fits r) (grid.fits g) h
 record_parts (kept.Garbage r g) h = both (round.fits r) (grid.fits g) h
 record_parts (kept.Round r g) h = both (round.fits r) (grid.fits g) h
 record_parts (kept.Log vs) h = h
-
--- a value fits where its commands do
-pub noop_fits : IsTrue (value.fits choice.Noop)
-unfolding value
-noop_fits = refl
-
-pub batch_fits : (cs : List Command) → IsTrue (commands.fits cs) → IsTrue (value.fits (choice.Batch cs))
-unfolding value
-batch_fits cs h = h
-
-pub commands_of_value : (cs : List Command) → IsTrue (value.fits (choice.Batch cs)) → IsTrue (commands.fits cs)
-unfolding value
-commands_of_value cs h = h

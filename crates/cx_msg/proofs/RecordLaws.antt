@@ -4,17 +4,13 @@ use Rattle.std.specs.Prelude.{IfOk, IsTrue, nat_le}
 use Rattle.std.proofs.lemmas.List.{append-nil}
 use Rattle.cx_wire.specs.Format.{u8, only, ◌▷◌, by_tag}
 use Rattle.cx_wire.proofs.Laws.{IsBytes, IsExact, Takes-then, u8-exact, only-exact, ▷-exact, counted-exact, case-sound, case-again, AllSound, ReadsAgain, by_tag-takes, tag_fits}
-use Rattle.cx_msg.specs.Fields.{slot, mark, round, grid, value}
-use Rattle.cx_msg.specs.Records.{values, vote, round_mark, round_grid, record_shape, record_cases, kept_record, fits, spelling, ended, with_tag, recorded, Decodes}
+use Rattle.cx_field.specs.Fields.{slot, mark, round, grid, value, values}
+use Rattle.cx_msg.specs.Records.{vote, round_mark, round_grid, record_shape, record_cases, kept_record, fits, spelling, ended, with_tag, recorded, Decodes}
 use Rattle.cx_msg.specs.declared.kept.Record.{Record}
 use Rattle.cx_msg.specs.declared.kept.Record.TheVariants as kept
 use Rattle.cx_msg.specs.declared.fault.WireFault.{WireFault}
 use Rattle.cx_msg.specs.declared.fault.WireFault.TheVariants as faults
-use Rattle.cx_msg.proofs.FieldLaws.{slot-exact, mark-exact, round-exact, grid-exact, value-exact}
-
-values-exact : IsExact values
-unfolding values
-values-exact = counted-exact (only (λ n. nat_le 1 n && nat_le n 32) u8) (λ _. value) (only-exact (λ n. nat_le 1 n && nat_le n 32) u8 u8-exact) (λ _. value-exact)
+use Rattle.cx_field.proofs.FieldLaws.{slot-exact, mark-exact, round-exact, grid-exact, value-exact, values-exact}
 
 vote-exact : IsExact vote
 vote-exact = ▷-exact round (slot ▷ (mark ▷ value)) round-exact (▷-exact slot (mark ▷ value) slot-exact (▷-exact mark value mark-exact value-exact))

@@ -3,16 +3,12 @@ use Rattle.std.specs.Prelude.{◌≡◌, ℕ, ◌-◌, Bool, ◌&&◌, not, nat_
 use Rattle.cx_base.specs.Grid.{Shape as GridShape}
 use Rattle.cx_base.specs.declared.round.Round.{Round}
 use Rattle.cx_base.specs.declared.command.Value.{Value}
-use Rattle.cx_wire.specs.Format.{Format, u8, only, ◌▷◌, counted, by_tag, Shape, shape, Case, case, tagged}
-use Rattle.cx_msg.specs.Fields.{slot, mark, round, grid, value}
+use Rattle.cx_wire.specs.Format.{Format, u8, ◌▷◌, by_tag, Shape, shape, Case, case, tagged}
+use Rattle.cx_field.specs.Fields.{slot, mark, round, grid, value, values}
 use Rattle.cx_msg.specs.declared.kept.Record.{Record}
 use Rattle.cx_msg.specs.declared.kept.Record.TheVariants as kept
 use Rattle.cx_msg.specs.declared.fault.WireFault.{WireFault}
 use Rattle.cx_msg.specs.declared.fault.WireFault.TheVariants as faults
-
--- one to 32 values
-unfoldable pub values : Format (List Value)
-values = counted (only (λ n. nat_le 1 n && nat_le n 32) u8) (λ _. value)
 
 -- a vote: a round, a slot, the number of slots below the window, and a value
 abbrev pub vote : Format (Round × (ℕ × (ℕ × Value)))

@@ -2,18 +2,16 @@
 
 ghost use Rattle.std.specs.Prelude.{◌≡◌, length};
 ghost use Rattle.cx_wire.specs.Format as wire;
-ghost use Rattle.cx_msg.specs.Fields as field;
+ghost use Rattle.cx_field.specs.Fields as field;
 ghost use Rattle.cx_msg.specs.Messages as message;
-ghost use Rattle.cx_msg.specs.Reading.{Gives};
+ghost use Rattle.cx_field.specs.Reading.{Gives};
 
-use crate::fault::ReadFault;
-use crate::fields::{
-    answers_from, at_from, command_from, commands_from, entries_from, found_from, grid_from,
-    mark_from, name_from, reason_from, reply_from, round_from, round0_from, seq_from, slot_from,
-    token_from, value_from, votes_from,
-};
 use crate::message::Msg;
-use crate::reader::Reader;
+use cx_field::{
+    ReadFault, Reader, answers_from, at_from, command_from, commands_from, entries_from,
+    found_from, grid_from, mark_from, name_from, reason_from, reply_from, round_from, round0_from,
+    seq_from, slot_from, token_from, value_from, votes_from,
+};
 use std::alloc::Global;
 
 /// Reads the body of a message of this kind.
@@ -288,7 +286,7 @@ fn read_req_from(reader: &mut Reader<'_>) -> Result<Msg, ReadFault>
 }
 
 fn match_read_from(reader: &mut Reader<'_>) -> Result<Msg, ReadFault>
-    ensures { Gives (λ m. m) result ((wire.case 24 message.token (λ x. Msg.MatchRead x)).read reader.old) reader.new }
+    ensures { Gives (λ m. m) result ((wire.case 24 field.token (λ x. Msg.MatchRead x)).read reader.old) reader.new }
 {
     let token = token_from(reader)?;
     Ok(Msg::MatchRead { token })

@@ -1,21 +1,20 @@
 //! Datagrams from bytes.
 
 ghost use Rattle.std.specs.Prelude.{◌≡◌, ◌≤◌, ◌++◌, ℕ, List, [], IfOk, IsTrue, length};
-ghost use Rattle.cx_msg.specs.Letter.{Letter};
+ghost use Rattle.cx_msg.specs.Letter.{Letter, spelling, fits};
 ghost use Rattle.cx_msg.specs.Parts.{DecodesParts};
-ghost use Rattle.cx_msg.specs.Letter.{spelling, fits};
 ghost use Rattle.cx_msg.specs.Decoding.{decoded, Decodes, finished, after_header};
 ghost use Rattle.cx_msg.specs.Messages.{body_cases};
 ghost use Rattle.cx_wire.specs.Format.{by_tag};
 
 use crate::bodies::body_from;
 use crate::datagram::Datagram;
-use crate::fault::{ReadFault, WireFault};
+use crate::fault::WireFault;
 use crate::header::{Header, MAGIC, header_from};
 use crate::message::Msg;
-use crate::reader::Reader;
 use crate::roles::{is_kind, may_receive, may_send};
 use cx_base::{Kind, RoleId};
+use cx_field::{ReadFault, Reader};
 use std::alloc::Global;
 
 /// The parts of a datagram.

@@ -2,13 +2,12 @@
 
 ghost use Rattle.std.specs.Prelude.{◌≡◌, ◌≤◌, ◌+◌, ◌++◌, length, OnOk};
 ghost use Rattle.cx_msg.specs.Letter.{header as header_format};
-ghost use Rattle.cx_msg.specs.Reading.{Reads};
+ghost use Rattle.cx_field.specs.Reading.{Reads};
 ghost use Rattle.cx_wire.specs.Format as wire;
 ghost use Rattle.cx_wire.specs.Format.{◌▷◌, Appends};
 
-use crate::fault::ReadFault;
-use crate::reader::Reader;
 use cx_base::NoMemory;
+use cx_field::{ReadFault, Reader};
 use cx_wire::{put_u8, put_u16};
 
 /// The letters CX.

@@ -1,10 +1,8 @@
 //! Records that roles keep.
 
-use cx_base::{Duplicate, Few, Grid, NoMemory, Round, Value};
+use cx_base::{Duplicate, Grid, NoMemory, Round, Value};
+use cx_field::LogValues;
 use std::alloc::Global;
-
-/// Values of slots that follow one another, one to 32.
-pub type LogValues = Few<Value, 1, 32>;
 
 /// What a role keeps. A stored record's fields are in their ranges, which whoever stores it owes: rounds are real ones,
 /// slots are below 2^40, `cw` and `mark` are numbers of slots, at most 2^40.

@@ -4,18 +4,17 @@
 ghost use Rattle.std.specs.Prelude.{◌≡◌, ◌≤◌, IsTrue};
 ghost use Rattle.cx_base.specs.Role.{role};
 ghost use Rattle.cx_base.specs.declared.role.Kind.{Kind};
-ghost use Rattle.cx_msg.specs.Fields as field;
+ghost use Rattle.cx_field.specs.Fields as field;
+ghost use Rattle.cx_field.specs.Fields.{in_window};
 ghost use Rattle.cx_msg.specs.Letter.{letter};
-ghost use Rattle.cx_msg.specs.Messages as message;
-ghost use Rattle.cx_msg.specs.Messages.{in_window};
 
 use crate::datagram::Datagram;
-use crate::message::{Answers, Entries, Msg, Votes};
-use crate::ranges::{grid_fits, op_fits};
+use crate::message::Msg;
 use cx_base::{Command, Commands, Grid, Kind, Reply, RoleId, Round, Value};
+use cx_field::{Answers, Entries, Votes, grid_fits, op_fits};
 
 /// A client's command, handed to a batcher.
-#[tactic(auto, unfolding(crate::specs::Fields::command, cx_wire::specs::Format::u16))]
+#[tactic(auto, unfolding(cx_field::specs::Fields::command, cx_wire::specs::Format::u16))]
 pub fn submit(client: u16, batcher: u16, command: Command) -> Datagram
     requires seq { IsTrue (field.seq.fits command.seq) }
     ensures { result ≡ letter (role Kind.Client client) (role Kind.Batcher batcher) (Msg.Submit command) }
@@ -71,7 +70,7 @@ pub fn match_b(
 ) -> Datagram
     requires round { IsTrue (field.round.fits round) }
     requires watermark { IsTrue (field.round0.fits watermark) }
-    requires entries { IsTrue (message.entries.fits entries) }
+    requires entries { IsTrue (field.entries.fits entries) }
     ensures { result ≡ letter (role Kind.Matchmaker matchmaker) (role Kind.Leader leader) (Msg.MatchB round watermark entries) }
 {
     let from = RoleId::new(Kind::Matchmaker, matchmaker);
@@ -89,7 +88,7 @@ pub fn match_b(
 
 /// A matchmaker's word that it does not record the round: it is collected (0), a later one is recorded (1), or there is
 /// no room (2).
-#[tactic(auto, unfolding(crate::specs::Messages::match_nack, crate::specs::Messages::reason, cx_wire::specs::Format::u8, cx_wire::specs::Format::u16))]
+#[tactic(auto, unfolding(crate::specs::Messages::match_nack, cx_field::specs::Fields::reason, cx_wire::specs::Format::u8, cx_wire::specs::Format::u16))]
 pub fn match_nack(matchmaker: u16, leader: u16, round: Round, reason: u8, other: Round) -> Datagram
     requires round { IsTrue (field.round.fits round) }
     requires reason { reason ≤ 2 }
@@ -125,7 +124,7 @@ pub fn phase1a(leader: u16, acceptor: u16, round: Round) -> Datagram
 pub fn phase1b(acceptor: u16, leader: u16, round: Round, cw: u64, votes: Votes) -> Datagram
     requires round { IsTrue (field.round.fits round) }
     requires cw { IsTrue (field.mark.fits cw) }
-    requires votes { IsTrue ((message.votes cw).fits votes) }
+    requires votes { IsTrue ((field.votes cw).fits votes) }
     ensures { result ≡ letter (role Kind.Acceptor acceptor) (role Kind.Leader leader) (Msg.Phase1B round cw votes) }
 {
     let from = RoleId::new(Kind::Acceptor, acceptor);
@@ -262,7 +261,7 @@ pub fn chosen_in(proxy: u16, leader: u16, round: Round, slot: u64) -> Datagram
 #[tactic(auto, unfolding(crate::specs::Messages::results, cx_wire::specs::Format::u16))]
 pub fn results(replica: u16, unbatcher: u16, slot: u64, answers: Answers) -> Datagram
     requires slot { IsTrue (field.slot.fits slot) }
-    requires answers { IsTrue (message.answers.fits answers) }
+    requires answers { IsTrue (field.answers.fits answers) }
     ensures { result ≡ letter (role Kind.Replica replica) (role Kind.Unbatcher unbatcher) (Msg.Results slot answers) }
 {
     let from = RoleId::new(Kind::Replica, replica);

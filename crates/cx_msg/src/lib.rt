@@ -1,6 +1,6 @@
 //! Datagrams and records, and their bytes.
 //!
-//! Stands on the base types and on the formats of cx_wire; roles, keepers, the world and the node stand on it. Its theorem:
+//! Stands on the base types and on the fields of cx_field; roles, keepers, the world and the node stand on it. Its theorem:
 //! what `decode` answers is the one datagram that the bytes spell, or the first test that they fail, and what `encode_into`
 //! appends is that spelling, which no other datagram has; likewise for records.
 #![tactic(auto)]
@@ -11,19 +11,13 @@ mod datagram;
 mod decoding;
 mod encoding;
 mod fault;
-mod fields;
 mod header;
 mod input;
-mod items;
 mod kept;
 mod letters;
-mod lists;
 mod message;
-mod put;
 mod put_bodies;
-mod ranges;
 mod read_letters;
-mod reader;
 mod records;
 mod roles;
 
@@ -32,14 +26,13 @@ pub use decoding::{decode, one_spelling};
 pub use encoding::{body_into, encode_into};
 pub use fault::WireFault;
 pub use input::{Act, Input, KeptRecord};
-pub use kept::{LogValues, Record};
+pub use kept::Record;
 pub use letters::{
     answer, batch, chosen, chosen_in, fetch, fetched, garbage_a, garbage_b, held, inform, informed,
     leads, match_a, match_b, match_nack, nack, phase1a, phase1b, phase2a, phase2b, propose,
     results, submit,
 };
-pub use message::{Answers, Entries, Entry, Msg, Token, Vote, Votes};
-pub use ranges::{found_fits, grid_fits, name_fits, op_fits, reply_fits};
+pub use message::Msg;
 pub use read_letters::{
     match_read, match_read_ack, pre_read, pre_read_ack, read, read_answer, read_req,
 };

@@ -4,12 +4,13 @@ ghost use Rattle.std.specs.Prelude.{◌≡◌, ◌≤◌, ◌+◌, ◌++◌, len
 ghost use Rattle.cx_msg.specs.Messages as message;
 ghost use Rattle.cx_wire.specs.Format.{Appends};
 
-use crate::message::{Answers, Entries, Msg, Token, Votes};
-use crate::put::{
-    put_answers, put_at, put_command, put_commands, put_entries, put_found, put_grid, put_mark,
-    put_name, put_reason, put_reply, put_round, put_seq, put_slot, put_token, put_value, put_votes,
-};
+use crate::message::Msg;
 use cx_base::{Grid, Key, NoMemory, Reply, Round, Text, Value};
+use cx_field::{
+    Answers, Entries, Token, Votes, put_answers, put_at, put_command, put_commands, put_entries,
+    put_found, put_grid, put_mark, put_name, put_reason, put_reply, put_round, put_seq, put_slot,
+    put_token, put_value, put_votes,
+};
 use cx_wire::put_u16;
 
 /// A message's number on the wire.

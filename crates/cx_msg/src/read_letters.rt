@@ -3,14 +3,13 @@
 ghost use Rattle.std.specs.Prelude.{◌≡◌, IsTrue};
 ghost use Rattle.cx_base.specs.Role.{role};
 ghost use Rattle.cx_base.specs.declared.role.Kind.{Kind};
-ghost use Rattle.cx_msg.specs.Fields as field;
+ghost use Rattle.cx_field.specs.Fields as field;
 ghost use Rattle.cx_msg.specs.Letter.{letter};
-ghost use Rattle.cx_msg.specs.Messages as message;
 
 use crate::datagram::Datagram;
-use crate::message::{Entries, Msg, Token};
-use crate::ranges::{found_fits, name_fits};
+use crate::message::Msg;
 use cx_base::{Key, Kind, RoleId, Round, Text};
+use cx_field::{Entries, Token, found_fits, name_fits};
 
 /// A client's read of a key, for a reader; a replica is to answer it.
 #[tactic(auto, unfolding(crate::specs::Messages::read_req, cx_wire::specs::Format::u16))]
@@ -27,7 +26,7 @@ pub fn read_req(client: u16, reader: u16, seq: u64, replica: u16, key: Key) -> D
 /// A reader's question for a matchmaker's entries.
 #[tactic(auto, unfolding(cx_wire::specs::Format::u16))]
 pub fn match_read(reader: u16, matchmaker: u16, token: Token) -> Datagram
-    requires token { IsTrue (message.token.fits token) }
+    requires token { IsTrue (field.token.fits token) }
     ensures { result ≡ letter (role Kind.Reader reader) (role Kind.Matchmaker matchmaker) (Msg.MatchRead token) }
 {
     let from = RoleId::new(Kind::Reader, reader);
@@ -44,9 +43,9 @@ pub fn match_read_ack(
     watermark: Round,
     entries: Entries,
 ) -> Datagram
-    requires token { IsTrue (message.token.fits token) }
+    requires token { IsTrue (field.token.fits token) }
     requires watermark { IsTrue (field.round0.fits watermark) }
-    requires entries { IsTrue (message.entries.fits entries) }
+    requires entries { IsTrue (field.entries.fits entries) }
     ensures { result ≡ letter (role Kind.Matchmaker matchmaker) (role Kind.Reader reader) (Msg.MatchReadAck token watermark entries) }
 {
     let from = RoleId::new(Kind::Matchmaker, matchmaker);
@@ -65,7 +64,7 @@ pub fn match_read_ack(
 /// A reader's question how far an acceptor voted.
 #[tactic(auto, unfolding(crate::specs::Messages::pre_read, cx_wire::specs::Format::u16))]
 pub fn pre_read(reader: u16, acceptor: u16, token: Token, watermark: Round) -> Datagram
-    requires token { IsTrue (message.token.fits token) }
+    requires token { IsTrue (field.token.fits token) }
     requires watermark { IsTrue (field.round0.fits watermark) }
     ensures { result ≡ letter (role Kind.Reader reader) (role Kind.Acceptor acceptor) (Msg.PreRead token watermark) }
 {
@@ -83,7 +82,7 @@ pub fn pre_read_ack(
     watermark: Round,
     mark: u64,
 ) -> Datagram
-    requires token { IsTrue (message.token.fits token) }
+    requires token { IsTrue (field.token.fits token) }
     requires watermark { IsTrue (field.round0.fits watermark) }
     requires mark { IsTrue (field.mark.fits mark) }
     ensures { result ≡ letter (role Kind.Acceptor acceptor) (role Kind.Reader reader) (Msg.PreReadAck token watermark mark) }
@@ -104,7 +103,7 @@ pub fn pre_read_ack(
 /// A reader's question for a key, for a replica that holds so many slots.
 #[tactic(auto, unfolding(crate::specs::Messages::read_key, cx_wire::specs::Format::u16))]
 pub fn read(reader: u16, replica: u16, token: Token, mark: u64, key: Key) -> Datagram
-    requires token { IsTrue (message.token.fits token) }
+    requires token { IsTrue (field.token.fits token) }
     requires mark { IsTrue (field.mark.fits mark) }
     ensures { result ≡ letter (role Kind.Reader reader) (role Kind.Replica replica) (Msg.Read token mark key) }
 {

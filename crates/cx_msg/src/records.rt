@@ -4,32 +4,18 @@ ghost use Rattle.std.specs.Prelude.{◌≡◌, ◌≤◌, ◌+◌, ◌++◌, IfO
 ghost use Rattle.cx_wire.specs.Format as wire;
 ghost use Rattle.cx_wire.specs.Format.{Appends};
 ghost use Rattle.cx_msg.specs.Records as records;
-ghost use Rattle.cx_msg.specs.Reading.{Reads, Gives};
+ghost use Rattle.cx_field.specs.Reading.{Gives};
 ghost use Rattle.cx_msg.specs.declared.kept.Record.{Record as Kept};
 
-use crate::fault::{ReadFault, WireFault};
-use crate::fields::{grid_from, mark_from, round_from, slot_from, value_from};
-use crate::items::{items_from, put_items};
-use crate::kept::{LogValues, Record};
-use crate::lists::ValueItems;
-use crate::put::{put_grid, put_mark, put_round, put_slot, put_value};
-use crate::reader::Reader;
-use cx_base::{Few, NoMemory, Round, Value};
+use crate::fault::WireFault;
+use crate::kept::Record;
+use cx_base::{NoMemory, Round, Value};
+use cx_field::{
+    ReadFault, Reader, grid_from, mark_from, put_grid, put_mark, put_round, put_slot, put_value,
+    put_values, round_from, slot_from, value_from, values_from,
+};
 use cx_wire::put_u8;
 use std::alloc::Global;
-
-#[tactic(auto, unfolding(crate::specs::Records::values))]
-fn values_from(alloc: Global, reader: &mut Reader<'_>) -> Result<LogValues, ReadFault>
-    ensures { Reads records.values reader.old result reader.new }
-{
-    let left = reader.left();
-    let count = reader.u8()?;
-    if count < 1 || count > 32 {
-        return Err(ReadFault::Bad { left });
-    }
-    let list = items_from(alloc, &ValueItems, count as usize, reader)?;
-    Ok(Few::from_vec(list))
-}
 
 #[tactic(auto, unfolding(crate::specs::Records::record_cases))]
 fn fields_from(tag: u8, alloc: Global, reader: &mut Reader<'_>) -> Result<Record, ReadFault>
@@ -125,15 +111,6 @@ pub fn record_from(alloc: Global, bytes: &[u8]) -> Result<Record, WireFault>
     ensures exact { records.Decodes result (records.recorded bytes.now) }
 {
     read(alloc, bytes)
-}
-
-#[tactic(auto, unfolding(crate::specs::Records::values))]
-fn put_values(out: &mut Vec<u8>, values: &LogValues) -> Result<(), NoMemory>
-    ensures { OnOk result (Appends records.values values.now 27969 out.old.items out.new.items) }
-{
-    let list = values.as_slice();
-    put_u8(out, list.len() as u8)?;
-    put_items(&ValueItems, list, out)
 }
 
 fn put_vote(

@@ -6,8 +6,7 @@ use Rattle.std.proofs.lemmas.Bool.Decides.{nat_tests}
 use Rattle.std.proofs.lemmas.List.Elements.{All-nil, All-cons, All-head, All-tail, All-filter, All-set}
 use Rattle.std.proofs.lemmas.Option.{get_or_from_slice_get}
 use Rattle.cx_base.specs.declared.role.RoleId.{RoleId}
-use Rattle.cx_msg.specs.Fields.{mark}
-use Rattle.cx_msg.specs.Messages.{in_window}
+use Rattle.cx_field.specs.Fields.{mark, in_window}
 use Rattle.cx_model.specs.declared.states.Pending.{Pending}
 use Rattle.cx_model.specs.Proxy.{with_pending}
 use Rattle.cx_proxy.specs.Holds.{IsPending, InWindow, Holds}

@@ -3,8 +3,8 @@ use Rattle.std.specs.Prelude.{◌≡◌, ℕ, ◌+◌, ◌<◌, ◌≤◌, ◌^�
 use Rattle.cx_base.specs.declared.role.Kind.TheVariants.{Proxy}
 use Rattle.cx_base.specs.declared.role.RoleId.{RoleId}
 use Rattle.cx_model.specs.declared.states.Pending.{Pending}
-use Rattle.cx_msg.specs.Fields as field
-use Rattle.cx_msg.specs.Messages.{in_window}
+use Rattle.cx_field.specs.Fields as field
+use Rattle.cx_field.specs.Fields.{in_window}
 
 -- a pending value whose parts are in their ranges
 pub record IsPending (p : Pending) : Type 0 where

@@ -2,8 +2,8 @@
 
 ghost use Rattle.std.specs.Prelude.{◌≡◌, ◌<◌, ◌^◌, ◌≤◌, [], Some, max, IfOk, OnErr, IsTrue};
 ghost use Rattle.cx_base.specs.declared.role.Kind.TheVariants as kind;
-ghost use Rattle.cx_msg.specs.Fields as field;
-ghost use Rattle.cx_msg.specs.Messages.{in_window};
+ghost use Rattle.cx_field.specs.Fields as field;
+ghost use Rattle.cx_field.specs.Fields.{in_window};
 ghost use Rattle.cx_msg.specs.declared.input.Input.TheVariants as input;
 ghost use Rattle.cx_model.specs.declared.states.Pending.{Pending};
 ghost use Rattle.cx_model.specs.Rules.{Running, outcome_of};

@@ -16,9 +16,8 @@ use Rattle.cx_base.specs.declared.command.Reply.TheVariants.{Len, Full}
 use Rattle.cx_base.specs.Fold.{reply_of, reply_removed, reply_appended, text_at}
 use Rattle.cx_base.specs.Noted.{noted_for, with_answer}
 use Rattle.cx_wire.specs.Format.{u8, u16, u64}
-use Rattle.cx_msg.specs.Fields.{at, slot, seq, name, op, command, reply}
-use Rattle.cx_msg.specs.Messages.{answered}
-use Rattle.cx_msg.specs.Ranges.{is_text_len}
+use Rattle.cx_field.specs.Fields.{at, slot, seq, name, op, command, reply, answered}
+use Rattle.cx_field.specs.Ranges.{is_text_len}
 use Rattle.cx_model.specs.Replica.{Machine, execute, execute_behind, execute_all}
 use Rattle.cx_table.specs.Judged.{judged, judge_of}
 use Rattle.cx_table.specs.declared.judge.Judge.TheVariants as judge

@@ -6,7 +6,7 @@ use Rattle.cx_base.specs.declared.command.Command.{Command}
 use Rattle.cx_base.specs.declared.cluster.Cluster.{Cluster}
 use Rattle.cx_base.specs.declared.command.Value.{Value}
 use Rattle.cx_base.specs.declared.role.RoleId.{RoleId}
-use Rattle.cx_msg.specs.Messages.{answered}
+use Rattle.cx_field.specs.Fields.{answered}
 use Rattle.cx_model.specs.Replica.{Machine, execute_all, machine_from, results_from}
 use Rattle.cx_role.specs.Outbox.{Outgoing}
 

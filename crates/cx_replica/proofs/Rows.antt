@@ -10,7 +10,7 @@ use Rattle.cx_base.specs.declared.command.Placed.{Placed}
 use Rattle.cx_base.specs.declared.command.Value.{Value}
 use Rattle.cx_base.specs.declared.role.RoleId.{RoleId}
 use Rattle.cx_base.specs.Log.{value_for, before_following, following, ready_values, still_early}
-use Rattle.cx_msg.specs.Fields.{value}
+use Rattle.cx_field.specs.Fields.{value}
 use Rattle.cx_msg.specs.Records.{kept_record, fits as record_fits}
 use Rattle.cx_msg.specs.declared.kept.Record.TheVariants as kept
 use Rattle.cx_model.specs.Names.{names_value}

@@ -8,9 +8,7 @@ use Rattle.cx_base.specs.declared.command.Command.{Command}
 use Rattle.cx_base.specs.declared.command.Value.{Value}
 use Rattle.cx_base.specs.declared.command.Value.TheVariants.{Batch}
 use Rattle.cx_wire.specs.Format.{Format, u8, u64, each_fits}
-use Rattle.cx_msg.specs.Fields.{slot, mark, command, commands, value}
-use Rattle.cx_msg.specs.Messages.{answered, answers}
-use Rattle.cx_msg.specs.Records.{values}
+use Rattle.cx_field.specs.Fields.{slot, mark, command, commands, value, answered, answers, values}
 
 each_fits-same : {A : Type 0} (f : Format A) (before xs : List A) → each_fits (λ _. f) before xs ≡ list_all (λ (x : A). f.fits x) xs
 unfolding each_fits

@@ -6,7 +6,7 @@ use Rattle.cx_base.specs.declared.command.Placed.{Placed}
 use Rattle.cx_base.specs.declared.command.Value.{Value}
 use Rattle.cx_base.specs.declared.role.Kind.TheVariants.{Replica}
 use Rattle.cx_base.specs.declared.role.RoleId.{RoleId}
-use Rattle.cx_msg.specs.Fields.{value}
+use Rattle.cx_field.specs.Fields.{value}
 use Rattle.cx_model.specs.Names.{names_value}
 use Rattle.cx_model.specs.Replica.{Machine, machine_of}
 use Rattle.cx_rlog.specs.State.{LogState}

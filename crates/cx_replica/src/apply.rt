@@ -6,7 +6,7 @@ ghost use Rattle.cx_base.specs.declared.command.Value.{Value};
 ghost use Rattle.cx_base.specs.Log.{ready_values};
 ghost use Rattle.cx_model.specs.Replica.{replica_rules, apply, chosen_row, machine_from, machine_of, results_from};
 ghost use Rattle.cx_model.specs.Rules.{IsFit};
-ghost use Rattle.cx_msg.specs.Fields as field;
+ghost use Rattle.cx_field.specs.Fields as field;
 ghost use Rattle.cx_replica.specs.Sound.{is_own};
 ghost use Rattle.cx_role.specs.declared.role.StepFault.TheVariants as fault;
 ghost use Rattle.cx_role.specs.Role.{Steps, StaysAt, FailsAt};

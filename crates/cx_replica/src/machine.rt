@@ -6,16 +6,15 @@ ghost use Rattle.cx_base.specs.declared.command.Answered.{Answered};
 ghost use Rattle.cx_base.specs.declared.command.Command.{Command};
 ghost use Rattle.cx_base.specs.declared.command.Value.{Value};
 ghost use Rattle.cx_base.specs.declared.role.Kind.TheVariants as kind;
-ghost use Rattle.cx_msg.specs.Fields as field;
-ghost use Rattle.cx_msg.specs.Messages as message;
+ghost use Rattle.cx_field.specs.Fields as field;
 ghost use Rattle.cx_model.specs.Replica.{new_machine, acting, execute, execute_all, execute_value, machine_from, results_from};
 ghost use Rattle.cx_table.specs.Judged.{judge_of};
 ghost use Rattle.cx_table.specs.declared.judge.Judge.TheVariants as judge;
 
 use crate::sending::send_results;
 use cx_base::{Answered, Cluster, Command, Duplicate, NoMemory, RoleId, Value};
+use cx_field::reply_fits;
 use cx_kv::Store;
-use cx_msg::reply_fits;
 use cx_role::Outbox;
 use cx_table::{Judge, Table};
 use std::alloc::Global;
@@ -34,7 +33,7 @@ impl Model for Machine {
     ghost use Rattle.std.specs.List.{list_all};
     ghost use Rattle.cx_base.specs.declared.command.Answered.{Answered};
     ghost use Rattle.cx_model.specs.Replica.{Machine as Left};
-    ghost use Rattle.cx_msg.specs.Messages.{answered};
+    ghost use Rattle.cx_field.specs.Fields.{answered};
 
     ghost Value = { Left };
 
@@ -76,10 +75,10 @@ impl Machine {
         requires at { IsTrue (field.at.fits at) }
         requires command { IsTrue (field.command.fits command.now) }
         requires new { judge_of self.old.notes command.now.client command.now.seq ≡ judge.New }
-        requires fit { IsTrue (list_all (λ (a : Answered). message.answered.fits a) answers.old.items) }
+        requires fit { IsTrue (list_all (λ (a : Answered). field.answered.fits a) answers.old.items) }
         ensures machine { OnOk result (self.new ≡ (acting at self.old command.now).machine) }
         ensures answers { OnOk result (answers.new.items ≡ answers.old.items ++ (acting at self.old command.now).answers) }
-        ensures fit { OnOk result (IsTrue (list_all (λ (a : Answered). message.answered.fits a) answers.new.items)) }
+        ensures fit { OnOk result (IsTrue (list_all (λ (a : Answered). field.answered.fits a) answers.new.items)) }
     {
         let reply = self.store.apply(command)?;
         reply_fits(&reply);
@@ -102,10 +101,10 @@ impl Machine {
     ) -> Result<(), NoMemory>
         requires at { IsTrue (field.at.fits at) }
         requires command { IsTrue (field.command.fits command.now) }
-        requires fit { IsTrue (list_all (λ (a : Answered). message.answered.fits a) answers.old.items) }
+        requires fit { IsTrue (list_all (λ (a : Answered). field.answered.fits a) answers.old.items) }
         ensures machine { OnOk result (self.new ≡ (execute at self.old command.now).machine) }
         ensures answers { OnOk result (answers.new.items ≡ answers.old.items ++ (execute at self.old command.now).answers) }
-        ensures fit { OnOk result (IsTrue (list_all (λ (a : Answered). message.answered.fits a) answers.new.items)) }
+        ensures fit { OnOk result (IsTrue (list_all (λ (a : Answered). field.answered.fits a) answers.new.items)) }
     {
         let client = command.client;
         let seq = command.seq;
@@ -130,7 +129,7 @@ impl Machine {
         requires commands { IsTrue (list_all (λ (c : Command). field.command.fits c) commands.now) }
         ensures machine { OnOk result (self.new ≡ (execute_all at self.old commands.now).machine) }
         ensures answers { IfOk result (λ answers. answers.items ≡ (execute_all at self.old commands.now).answers) }
-        ensures fit { IfOk result (λ answers. IsTrue (list_all (λ (a : Answered). message.answered.fits a) answers.items)) }
+        ensures fit { IfOk result (λ answers. IsTrue (list_all (λ (a : Answered). field.answered.fits a) answers.items)) }
     {
         let mut answers = Vec::new(self.alloc);
         for command in commands {
@@ -145,7 +144,7 @@ impl Machine {
         requires value { IsTrue (field.value.fits value.now) }
         ensures machine { OnOk result (self.new ≡ (execute_value slot self.old value.now).machine) }
         ensures answers { IfOk result (λ answers. answers.items ≡ (execute_value slot self.old value.now).answers) }
-        ensures fit { IfOk result (λ answers. IsTrue (list_all (λ (a : Answered). message.answered.fits a) answers.items)) }
+        ensures fit { IfOk result (λ answers. IsTrue (list_all (λ (a : Answered). field.answered.fits a) answers.items)) }
         ensures room { IfOk result (λ answers. length answers.items ≤ 8) }
     {
         match value {

@@ -5,8 +5,7 @@ ghost use Rattle.std.specs.List.{list_all};
 ghost use Rattle.cx_base.specs.Lists.{below};
 ghost use Rattle.cx_base.specs.declared.command.Answered.{Answered};
 ghost use Rattle.cx_base.specs.declared.role.Kind.TheVariants as kind;
-ghost use Rattle.cx_msg.specs.Fields as field;
-ghost use Rattle.cx_msg.specs.Messages as message;
+ghost use Rattle.cx_field.specs.Fields as field;
 ghost use Rattle.cx_model.specs.Replica.{fetch_to, held_to, results_at};
 
 use cx_base::{Answered, Cluster, Few, RoleId};
@@ -24,7 +23,7 @@ pub fn send_results(
 )
     requires kind { me.kind ≡ kind.Replica }
     requires slot { IsTrue (field.slot.fits slot) }
-    requires fit { IsTrue (list_all (λ (a : Answered). message.answered.fits a) answers.items) }
+    requires fit { IsTrue (list_all (λ (a : Answered). field.answered.fits a) answers.items) }
     requires few { length answers.items ≤ 8 }
     requires spare { 0 < out.old.spare }
     ensures list { out.new.list ≡ out.old.list ++ results_at cluster.now me slot answers.items }

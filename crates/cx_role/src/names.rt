@@ -6,11 +6,12 @@ ghost use Rattle.cx_base.specs.declared.command.Answered.{Answered};
 ghost use Rattle.cx_base.specs.declared.command.Command.{Command};
 ghost use Rattle.cx_base.specs.Role.{same_role};
 ghost use Rattle.cx_model.specs.Names.{count_of, names_role, names_round, names_grid, names_command, names_value, names_entry, names_vote, names_answer, names_token, names_body, names};
-ghost use Rattle.cx_msg.specs.declared.message.Entry.{Entry};
-ghost use Rattle.cx_msg.specs.declared.message.Vote.{Vote};
+ghost use Rattle.cx_field.specs.declared.parts.Entry.{Entry};
+ghost use Rattle.cx_field.specs.declared.parts.Vote.{Vote};
 
 use cx_base::{Answered, Cluster, Command, Grid, Kind, RoleId, Round, Value};
-use cx_msg::{Datagram, Entry, Msg, Token, Vote};
+use cx_field::{Entry, Token, Vote};
+use cx_msg::{Datagram, Msg};
 
 fn count_of(cluster: &Cluster, kind: Kind) -> u16
     ensures { result ≡ count_of cluster.now kind }

@@ -12,7 +12,7 @@ use Rattle.cx_model.specs.World.{World, Change, nothing, ask, act_at}
 use Rattle.cx_msg.specs.Letter.{Letter}
 use Rattle.cx_msg.specs.declared.input.Act.{Act}
 use Rattle.cx_msg.specs.declared.input.KeptRecord.{KeptRecord}
-use Rattle.cx_msg.specs.declared.message.Token.{Token}
+use Rattle.cx_field.specs.declared.parts.Token.{Token}
 use Rattle.cx_world.specs.World.{SeatLists, HasSeats, IsChange}
 
 -- a change that keeps nothing leaves the seats

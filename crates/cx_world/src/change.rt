@@ -16,9 +16,10 @@ use crate::stale::is_stale;
 use cx_acceptor::Acceptor;
 use cx_base::{Command, Cut, Duplicate, Event, Happened, Kind, NoMemory, Op, RoleId, Why};
 use cx_batch::{Batcher, Unbatcher};
+use cx_field::Token;
 use cx_leader::Leader;
 use cx_match::Matchmaker;
-use cx_msg::{Act, Datagram, Input, KeptRecord, Token, read_req, submit};
+use cx_msg::{Act, Datagram, Input, KeptRecord, read_req, submit};
 use cx_proxy::Proxy;
 use cx_replica::Replica;
 use cx_role::Outbox;
@@ -114,7 +115,7 @@ fn act(
 }
 
 // A command for a batcher; its number is taken by value, so that its range is known.
-#[tactic(auto, unfolding(cx_msg::specs::Fields::seq, cx_wire::specs::Format::u64))]
+#[tactic(auto, unfolding(cx_field::specs::Fields::seq, cx_wire::specs::Format::u64))]
 fn submission(client: u16, seq: u64, op: Op, batcher: u16) -> Datagram
     requires { 1 ≤ seq }
     ensures { result ≡ letter (role Kind.Client client) (role Kind.Batcher batcher) (Msg.Submit (record { client = client; seq = seq; op = op })) }
@@ -123,7 +124,7 @@ fn submission(client: u16, seq: u64, op: Op, batcher: u16) -> Datagram
 }
 
 // The datagram of a request goes out.
-#[tactic(auto, unfolding(cx_msg::specs::Fields::seq, cx_wire::specs::Format::u64))]
+#[tactic(auto, unfolding(cx_field::specs::Fields::seq, cx_wire::specs::Format::u64))]
 fn send(event: &Event, out: &mut Outbox) -> Result<(), NoMemory>
     requires empty { out.old.list ≡ [] }
     requires taken { IsTrue (takes_event event.now) }

@@ -6,7 +6,7 @@ ghost use Rattle.cx_base.specs.declared.event.Happened.{Happened};
 ghost use Rattle.cx_model.specs.Request.{token_of, same_request, same_token, not_below, was_sent, is_stale};
 
 use cx_base::{Event, Happened, Why, same_op};
-use cx_msg::Token;
+use cx_field::Token;
 
 /// The client and the number of a request, of another event none.
 pub fn token_of(event: &Event) -> Option<Token>

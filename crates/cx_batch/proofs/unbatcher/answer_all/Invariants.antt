@@ -2,7 +2,7 @@ use Rattle.std.proofs.Common.{◌≡◌, ◌≤◌, ◌+◌, ◌++◌, true, map
 use Rattle.std.specs.List.{list_all}
 use Rattle.cx_base.specs.declared.command.Answered.{Answered}
 use Rattle.cx_model.specs.Unbatcher.{answer_to}
-use Rattle.cx_msg.specs.Messages.{answered}
+use Rattle.cx_field.specs.Fields.{answered}
 use Rattle.cx_batch.proofs.unbatcher.answer_all.Given as goal
 
 abbrev pub invariant-loop-answer : goal.invariant-loop-answer

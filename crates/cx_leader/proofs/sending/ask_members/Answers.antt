@@ -3,7 +3,7 @@ use Rattle.std.specs.List.{list_any}
 use Rattle.cx_base.specs.Grid.{is_in}
 use Rattle.cx_base.specs.Role.{role}
 use Rattle.cx_base.specs.declared.role.Kind.TheVariants.{Leader}
-use Rattle.cx_msg.specs.declared.message.Entry.{Entry}
+use Rattle.cx_field.specs.declared.parts.Entry.{Entry}
 use Rattle.cx_model.specs.Leader.{phase1a_to, live_entries}
 use Rattle.cx_leader.proofs.Sends.{sent_on_passed, sent_on_failed}
 use Rattle.cx_leader.proofs.sending.ask_members.Goals as goal

@@ -4,7 +4,7 @@ use Rattle.cx_base.specs.Grid.{is_in}
 use Rattle.cx_base.specs.Lists.{numbers}
 use Rattle.cx_base.specs.Role.{role}
 use Rattle.cx_base.specs.declared.role.Kind.TheVariants.{Leader}
-use Rattle.cx_msg.specs.declared.message.Entry.{Entry}
+use Rattle.cx_field.specs.declared.parts.Entry.{Entry}
 use Rattle.cx_model.specs.Leader.{phase1a_to, members_of, live_entries}
 use Rattle.cx_leader.proofs.sending.ask_members.Given as goal
 

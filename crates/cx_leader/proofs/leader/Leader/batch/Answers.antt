@@ -1,7 +1,7 @@
 use Rattle.std.proofs.Common.{◌<◌, ◌+◌, ◌^◌, IsTrue, refl, arith}
 use Rattle.cx_base.specs.declared.command.Placed.{Placed}
 use Rattle.cx_base.specs.declared.command.Value.TheVariants.{Batch}
-use Rattle.cx_msg.specs.Fields.{value}
+use Rattle.cx_field.specs.Fields.{value}
 use Rattle.cx_model.specs.Leader.{LeaderDurable, LeaderVolatile}
 use Rattle.cx_leader.proofs.Proposals.{proposed_next}
 use Rattle.cx_leader.proofs.leader.Leader.batch.Goals as goal

@@ -1,0 +1,218 @@
+-- Each field is read as it is spelled.
+use Rattle.std.proofs.Common.{◌≡◌, ℕ, zero, suc, ◌<◌, true, ◌&&◌, not, cond, List, [], ◌∷◌, ◌++◌, length, Ok, Err, Bool, Option, Some, None, refl, sym, ap, subst, ◌∙◌, lit<}
+use Rattle.std.specs.Prelude.{nat_le, nat_lt, ◌^◌, ◌*◌, ◌||◌, ◌==◌}
+use Rattle.cx_base.specs.Name.{is_name_byte}
+use Rattle.cx_base.specs.Grid.{Shape as GridShape, make_grid, is_in, are_new}
+use Rattle.cx_base.specs.Round.{is_before}
+use Rattle.cx_base.specs.declared.round.Round.{Round}
+use Rattle.cx_base.specs.declared.command.Op.{Op}
+use Rattle.cx_base.specs.declared.command.Op.TheVariants.{Put, Del, App}
+use Rattle.cx_base.specs.declared.command.Value.{Value}
+use Rattle.cx_base.specs.declared.command.Value.TheVariants.{Noop, Batch}
+use Rattle.cx_base.specs.declared.command.Reply.{Reply}
+use Rattle.cx_base.specs.declared.command.Reply.TheVariants.{Okay, Was, Absent, Len, Full}
+use Rattle.cx_wire.specs.Format.{◌>>=◌, u8, u16, u32, u64, only, whole, then_by, ◌▷◌, nothing, each_read, times}
+use Rattle.cx_wire.proofs.Laws.{IsExact, bind_ok, guard_ok, ok_is, u8-exact, u16-exact, u32-exact, u64-exact, only-exact, whole-exact, then_by-exact, ▷-exact, nothing-exact, shaped-exact, times-exact, counted-exact, case-sound, case-again, tagged-exact, ReadsAgain}
+use Rattle.cx_field.specs.declared.parts.Entry.{Entry}
+use Rattle.cx_field.specs.declared.parts.Vote.{Vote}
+use Rattle.cx_field.specs.Fields.{slot, mark, at, seq, round_fields, round, round0, member, grid, name_byte, name, op_shape, op_cases, op, command, commands, value_shape, value_cases, value, reply_len, reply_shape, reply_cases, reply, values, last_passes, in_window, entry, entries, vote, votes, answered, answers, found_shape, found_cases, found, reason, token}
+
+pub slot-exact : IsExact slot
+unfolding slot
+slot-exact = only-exact (λ n. nat_lt n (2 ^ 40)) u64 u64-exact
+
+pub mark-exact : IsExact mark
+unfolding mark
+mark-exact = only-exact (λ n. nat_le n (2 ^ 40)) u64 u64-exact
+
+pub at-exact : IsExact at
+unfolding at
+at-exact = only-exact (λ n. nat_le 1 n && nat_le n (2 ^ 40)) u64 u64-exact
+
+pub seq-exact : IsExact seq
+unfolding seq
+seq-exact = only-exact (λ n. nat_le 1 n) u64 u64-exact
+
+round_fields-exact : IsExact round_fields
+round_fields-exact = shaped-exact {A = ℕ × (ℕ × ℕ)} (λ x. record { r = x.0; id = x.1.0; s = x.1.1 }) (λ r. (r.r, (r.id, r.s))) (u32 ▷ (u16 ▷ u32)) (▷-exact u32 (u16 ▷ u32) u32-exact (▷-exact u16 u32 u16-exact u32-exact)) (λ x _. refl) (λ r. refl)
+
+pub round-exact : IsExact round
+unfolding round
+round-exact = only-exact (λ r. nat_le 1 r.r) (whole round_fields) (whole-exact round_fields round_fields-exact)
+
+pub round0-exact : IsExact round0
+unfolding round0
+round0-exact = only-exact (λ r. nat_le 1 r.r || (r.r == 0 && r.id == 0 && r.s == 0)) (whole round_fields) (whole-exact round_fields round_fields-exact)
+
+pub member-exact : (before : List ℕ) → IsExact (member before)
+unfolding member
+member-exact before = only-exact (λ id. not (is_in id before)) u16 u16-exact
+
+-- members that are read are new
+pub members_new : (n : ℕ) (before : List ℕ) (bytes : List ℕ) (x : List ℕ × List ℕ) → each_read member before n bytes ≡ Ok x → are_new before x.0 ≡ true
+unfolding each_read member
+members_new zero before bytes x e = subst (λ (y : List ℕ × List ℕ). are_new before y.0 ≡ true) (ok_is ([], bytes) x e) refl
+members_new (suc n) before bytes x e =
+    let a = bind_ok ((member before).read bytes) (λ y. each_read member (before ++ y.0 ∷ []) n y.1 >>= λ ys. Ok (y.0 ∷ ys.0, ys.1)) x e in
+    let b = bind_ok (each_read member (before ++ a.0.0 ∷ []) n a.0.1) (λ ys. Ok (a.0.0 ∷ ys.0, ys.1)) x a.2 in
+    let first = bind_ok (u16.read bytes) (λ y. cond (not (is_in y.0 before)) (Ok y) (Err (length bytes))) a.0 a.1 in
+    let test = guard_ok (not (is_in first.0.0 before)) (length bytes) first.0 a.0 first.2 in
+    let new : not (is_in a.0.0 before) ≡ true = ap (λ (y : ℕ × List ℕ). not (is_in y.0 before)) (sym test.1) ∙ test.0 in
+    let others = members_new n (before ++ a.0.0 ∷ []) a.0.1 b.0 b.1 in
+    let made : List ℕ × List ℕ = (a.0.0 ∷ b.0.0, b.0.1) in
+    subst (λ (y : List ℕ × List ℕ). are_new before y.0 ≡ true) (ok_is made x b.2) (rw (new, others) refl)
+
+pub grid-exact : IsExact grid
+unfolding grid
+grid-exact =
+    shaped-exact {A = ℕ × (ℕ × List ℕ)} (λ x. make_grid x.0 x.1.0 x.1.1) (λ g. (g.rows, (g.cols, g.members))) _
+    (then_by-exact (only (λ rows. nat_le 1 rows) u8) (λ rows. then_by (only (λ cols. nat_le 1 cols && nat_le (rows * cols) 16) u8) (λ cols. times (rows * cols) member)) (only-exact (λ rows. nat_le 1 rows) u8 u8-exact)
+    (λ rows _. then_by-exact (only (λ cols. nat_le 1 cols && nat_le (rows * cols) 16) u8) (λ cols. times (rows * cols) member) (only-exact (λ cols. nat_le 1 cols && nat_le (rows * cols) 16) u8 u8-exact)
+    (λ cols _. times-exact (rows * cols) member member-exact)))
+    (λ x _. refl) (λ g. refl)
+
+name_byte-exact : IsExact name_byte
+unfolding name_byte
+name_byte-exact = only-exact is_name_byte u8 u8-exact
+
+pub name-exact : (limit : ℕ) → IsExact (name limit)
+unfolding name
+name-exact limit = counted-exact (only (λ n. nat_le 1 n && nat_le n limit) u8) (λ _. name_byte) (only-exact (λ n. nat_le 1 n && nat_le n limit) u8 u8-exact) (λ _. name_byte-exact)
+
+key_text-exact : IsExact (name 32 ▷ name 64)
+key_text-exact = ▷-exact (name 32) (name 64) (name-exact 32) (name-exact 64)
+
+op-small : (x : Op) → (op_shape x).tag < 256
+op-small (Put key text) = lit< tt
+op-small (Del key) = lit< tt
+op-small (App key text) = lit< tt
+
+op-again : (x : Op) → ReadsAgain op_shape op_cases x
+op-again (Put key text) left rest fits = case-again {A = Op} 1 (name 32 ▷ name 64) (λ x. Put x.0 x.1) (key, text) rest key_text-exact fits
+op-again (Del key) left rest fits = case-again {A = Op} 2 (name 32) (λ x. Del x) key rest (name-exact 32) fits
+op-again (App key text) left rest fits = case-again {A = Op} 3 (name 32 ▷ name 64) (λ x. App x.0 x.1) (key, text) rest key_text-exact fits
+
+pub op-exact : IsExact op
+unfolding op
+op-exact = tagged-exact op_shape op_cases (
+  case-sound op_shape 1 (name 32 ▷ name 64) (λ x. Put x.0 x.1) key_text-exact (λ _. refl),
+  (
+    case-sound op_shape 2 (name 32) (λ x. Del x) (name-exact 32) (λ _. refl),
+    (case-sound op_shape 3 (name 32 ▷ name 64) (λ x. App x.0 x.1) key_text-exact (λ _. refl), tt),
+  ),
+) op-small op-again
+
+pub command-exact : IsExact command
+unfolding command
+command-exact = shaped-exact {A = ℕ × (ℕ × Op)} (λ x. record { client = x.0; seq = x.1.0; op = x.1.1 }) (λ c. (c.client, (c.seq, c.op))) (u16 ▷ (seq ▷ op)) (▷-exact u16 (seq ▷ op) u16-exact (▷-exact seq op seq-exact op-exact)) (λ x _. refl) (λ c. refl)
+
+pub commands-exact : IsExact commands
+unfolding commands
+commands-exact = counted-exact (only (λ n. nat_le 1 n && nat_le n 8) u8) (λ _. command) (only-exact (λ n. nat_le 1 n && nat_le n 8) u8 u8-exact) (λ _. command-exact)
+
+value-small : (x : Value) → (value_shape x).tag < 256
+value-small Noop = lit< tt
+value-small (Batch list) = lit< tt
+
+value-again : (x : Value) → ReadsAgain value_shape value_cases x
+value-again Noop left rest fits = refl
+value-again (Batch list) left rest fits = case-again {A = Value} 1 commands (λ x. Batch x) list rest commands-exact fits
+
+pub value-exact : IsExact value
+unfolding value
+value-exact = tagged-exact value_shape value_cases (
+  case-sound value_shape 0 nothing (λ _. Noop) nothing-exact (λ _. refl),
+  (case-sound value_shape 1 commands (λ x. Batch x) commands-exact (λ _. refl), tt),
+) value-small value-again
+
+reply_len-exact : IsExact reply_len
+unfolding reply_len
+reply_len-exact = only-exact (λ n. nat_le 1 n && nat_le n 64) u8 u8-exact
+
+reply-small : (x : Reply) → (reply_shape x).tag < 256
+reply-small Okay = lit< tt
+reply-small (Was text) = lit< tt
+reply-small Absent = lit< tt
+reply-small (Len n) = lit< tt
+reply-small Full = lit< tt
+
+reply-again : (x : Reply) → ReadsAgain reply_shape reply_cases x
+reply-again Okay left rest fits = refl
+reply-again (Was text) left rest fits = case-again {A = Reply} 1 (name 64) (λ x. Was x) text rest (name-exact 64) fits
+reply-again Absent left rest fits = refl
+reply-again (Len n) left rest fits = case-again {A = Reply} 3 reply_len (λ x. Len x) n rest reply_len-exact fits
+reply-again Full left rest fits = refl
+
+pub reply-exact : IsExact reply
+unfolding reply
+reply-exact = tagged-exact reply_shape reply_cases (
+  case-sound reply_shape 0 nothing (λ _. Okay) nothing-exact (λ _. refl),
+  (
+    case-sound reply_shape 1 (name 64) (λ x. Was x) (name-exact 64) (λ _. refl),
+    (
+      case-sound reply_shape 2 nothing (λ _. Absent) nothing-exact (λ _. refl),
+      (
+        case-sound reply_shape 3 reply_len (λ x. Len x) reply_len-exact (λ _. refl),
+        (case-sound reply_shape 4 nothing (λ _. Full) nothing-exact (λ _. refl), tt),
+      ),
+    ),
+  ),
+) reply-small reply-again
+
+pub values-exact : IsExact values
+unfolding values
+values-exact = counted-exact (only (λ n. nat_le 1 n && nat_le n 32) u8) (λ _. value) (only-exact (λ n. nat_le 1 n && nat_le n 32) u8 u8-exact) (λ _. value-exact)
+
+entry-exact : (before : List Entry) → IsExact (entry before)
+unfolding entry
+entry-exact before =
+    let rises : Round → Bool = λ r. last_passes (λ (e : Entry). is_before e.round r) before in
+    shaped-exact {A = Round × GridShape} (λ x. record { round = x.0; grid = x.1 }) (λ e. (e.round, e.grid)) (only rises round ▷ grid)
+    (▷-exact (only rises round) grid (only-exact rises round round-exact) grid-exact) (λ x _. refl) (λ e. refl)
+
+pub entries-exact : IsExact entries
+unfolding entries
+entries-exact = counted-exact (only (λ n. nat_le n 17) u8) entry (only-exact (λ n. nat_le n 17) u8 u8-exact) entry-exact
+
+vote-exact : (cw : ℕ) (before : List Vote) → IsExact (vote cw before)
+unfolding vote
+vote-exact cw before =
+    let rises : ℕ → Bool = λ s. in_window cw s && last_passes (λ (v : Vote). nat_lt v.slot s) before in
+    shaped-exact {A = Round × (ℕ × Value)} (λ x. record { round = x.0; slot = x.1.0; value = x.1.1 }) (λ v. (v.round, (v.slot, v.value))) (round ▷ (only rises slot ▷ value))
+    (▷-exact round (only rises slot ▷ value) round-exact (▷-exact (only rises slot) value (only-exact rises slot slot-exact) value-exact)) (λ x _. refl) (λ v. refl)
+
+pub votes-exact : (cw : ℕ) → IsExact (votes cw)
+unfolding votes
+votes-exact cw = counted-exact (only (λ n. nat_le n 32) u8) (vote cw) (only-exact (λ n. nat_le n 32) u8 u8-exact) (vote-exact cw)
+
+answered-exact : IsExact answered
+unfolding answered
+answered-exact = shaped-exact {A = ℕ × (ℕ × (ℕ × Reply))} (λ x. record { client = x.0; seq = x.1.0; at = x.1.1.0; reply = x.1.1.1 }) (λ a. (a.client, (a.seq, (a.at, a.reply)))) (u16 ▷ (seq ▷ (at ▷ reply)))
+    (▷-exact u16 (seq ▷ (at ▷ reply)) u16-exact (▷-exact seq (at ▷ reply) seq-exact (▷-exact at reply at-exact reply-exact))) (λ x _. refl) (λ a. refl)
+
+pub answers-exact : IsExact answers
+unfolding answers
+answers-exact = counted-exact (only (λ n. nat_le 1 n && nat_le n 8) u8) (λ _. answered) (only-exact (λ n. nat_le 1 n && nat_le n 8) u8 u8-exact) (λ _. answered-exact)
+
+found-small : (x : Option (List ℕ)) → (found_shape x).tag < 256
+found-small None = lit< tt
+found-small (Some text) = lit< tt
+
+found-again : (x : Option (List ℕ)) → ReadsAgain found_shape found_cases x
+found-again None left rest fits = refl
+found-again (Some text) left rest fits = case-again {A = Option (List ℕ)} 1 (name 64) (λ x. Some x) text rest (name-exact 64) fits
+
+pub found-exact : IsExact found
+unfolding found
+found-exact = tagged-exact found_shape found_cases (
+  case-sound found_shape 0 nothing (λ _. None) nothing-exact (λ _. refl),
+  (case-sound found_shape 1 (name 64) (λ x. Some x) (name-exact 64) (λ _. refl), tt),
+) found-small found-again
+
+pub reason-exact : IsExact reason
+unfolding reason
+reason-exact = only-exact (λ n. nat_le n 2) u8 u8-exact
+
+pub token-exact : IsExact token
+unfolding token
+token-exact = shaped-exact {A = ℕ × ℕ} (λ x. record { client = x.0; seq = x.1 }) (λ t. (t.client, t.seq)) (u16 ▷ seq) (▷-exact u16 seq u16-exact seq-exact) (λ x _. refl) (λ t. refl)

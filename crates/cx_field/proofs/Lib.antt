@@ -1,0 +1,7 @@
+pub mod Exits
+pub mod FieldLaws
+pub mod ListLaws
+pub mod NameBytes
+pub mod RangeLaws
+pub mod Rising
+pub mod Sizes

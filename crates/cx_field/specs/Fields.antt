@@ -1,0 +1,187 @@
+-- The fields of messages and records: what bytes stand for each, and which values each may have.
+use Rattle.std.specs.Prelude.{ℕ, ◌+◌, ◌-◌, ◌*◌, ◌^◌, Bool, true, ◌&&◌, ◌||◌, not, ◌==◌, nat_lt, nat_le, List, [], ◌∷◌, length, Option, Some, None, slice_get}
+use Rattle.std.specs.Option.{option_map_or}
+use Rattle.cx_base.specs.Name.{is_name_byte}
+use Rattle.cx_base.specs.Grid.{Shape as GridShape, make_grid, is_in}
+use Rattle.cx_base.specs.Round.{is_before}
+use Rattle.cx_base.specs.declared.round.Round.{Round}
+use Rattle.cx_base.specs.declared.command.Op.{Op}
+use Rattle.cx_base.specs.declared.command.Op.TheVariants.{Put, Del, App}
+use Rattle.cx_base.specs.declared.command.Command.{Command}
+use Rattle.cx_base.specs.declared.command.Value.{Value}
+use Rattle.cx_base.specs.declared.command.Value.TheVariants.{Noop, Batch}
+use Rattle.cx_base.specs.declared.command.Reply.{Reply}
+use Rattle.cx_base.specs.declared.command.Reply.TheVariants.{Okay, Was, Absent, Len, Full}
+use Rattle.cx_base.specs.declared.command.Answered.{Answered}
+use Rattle.cx_field.specs.declared.parts.Entry.{Entry}
+use Rattle.cx_field.specs.declared.parts.Vote.{Vote}
+use Rattle.cx_field.specs.declared.parts.Token.{Token}
+use Rattle.cx_wire.specs.Format.{Format, u8, u16, u32, u64, only, whole, then_by, ◌▷◌, nothing, shaped, times, counted, Shape, shape, Case, case, tagged}
+
+-- a slot, below 2^40
+unfoldable pub slot : Format ℕ
+slot = only (λ n. nat_lt n (2 ^ 40)) u64
+
+-- a watermark, at most 2^40
+unfoldable pub mark : Format ℕ
+mark = only (λ n. nat_le n (2 ^ 40)) u64
+
+-- a number of slots, at least one
+unfoldable pub at : Format ℕ
+at = only (λ n. nat_le 1 n && nat_le n (2 ^ 40)) u64
+
+-- a client's number of a request
+unfoldable pub seq : Format ℕ
+seq = only (λ n. nat_le 1 n) u64
+
+-- the three numbers of a round
+abbrev pub round_fields : Format Round
+round_fields = shaped (λ x. record { r = x.0; id = x.1.0; s = x.1.1 }) (λ r. (r.r, (r.id, r.s))) (u32 ▷ u16 ▷ u32)
+
+-- a round, whose first number is at least 1
+unfoldable pub round : Format Round
+round = only (λ r. nat_le 1 r.r) (whole round_fields)
+
+-- a round, or none, which is three zeros
+unfoldable pub round0 : Format Round
+round0 = only (λ r. nat_le 1 r.r || (r.r == 0 && r.id == 0 && r.s == 0)) (whole round_fields)
+
+-- a member of a grid, after others: none stands twice
+unfoldable pub member : List ℕ → Format ℕ
+member before = only (λ id. not (is_in id before)) u16
+
+-- a grid: its sides, at least 1 and with at most 16 members, and its members row by row
+unfoldable pub grid : Format GridShape
+grid = shaped (λ x. make_grid x.0 x.1.0 x.1.1) (λ g. (g.rows, (g.cols, g.members)))
+    (then_by (only (λ rows. nat_le 1 rows) u8) (λ rows.
+    then_by (only (λ cols. nat_le 1 cols && nat_le (rows * cols) 16) u8) (λ cols.
+    times (rows * cols) member)))
+
+-- a byte of a key or a text
+unfoldable pub name_byte : Format ℕ
+name_byte = only is_name_byte u8
+
+-- a key or a text of at most so many bytes
+unfoldable pub name : ℕ → Format (List ℕ)
+name limit = counted (only (λ n. nat_le 1 n && nat_le n limit) u8) (λ _. name_byte)
+
+-- an operation: 1 put, 2 del, 3 app
+abbrev pub op_shape : Op → Shape
+op_shape (Put key text) = shape 1 (name 32 ▷ name 64) (key, text)
+op_shape (Del key) = shape 2 (name 32) key
+op_shape (App key text) = shape 3 (name 32 ▷ name 64) (key, text)
+
+-- how each operation is read
+abbrev pub op_cases : List (Case Op)
+op_cases =
+    case 1 (name 32 ▷ name 64) (λ x. Put x.0 x.1) ∷
+    case 2 (name 32) (λ x. Del x) ∷
+    case 3 (name 32 ▷ name 64) (λ x. App x.0 x.1) ∷ []
+
+-- an operation
+unfoldable pub op : Format Op
+op = tagged op_shape op_cases
+
+-- a command: its client, its number and its operation
+unfoldable pub command : Format Command
+command = shaped (λ x. record { client = x.0; seq = x.1.0; op = x.1.1 }) (λ c. (c.client, (c.seq, c.op))) (u16 ▷ seq ▷ op)
+
+-- one to eight commands
+unfoldable pub commands : Format (List Command)
+commands = counted (only (λ n. nat_le 1 n && nat_le n 8) u8) (λ _. command)
+
+-- a value: 0 nothing to do, 1 commands
+abbrev pub value_shape : Value → Shape
+value_shape Noop = shape 0 nothing tt
+value_shape (Batch list) = shape 1 commands list
+
+-- how each value is read
+abbrev pub value_cases : List (Case Value)
+value_cases = case 0 nothing (λ _. Noop) ∷ case 1 commands (λ x. Batch x) ∷ []
+
+-- a value
+unfoldable pub value : Format Value
+value = tagged value_shape value_cases
+
+-- the length of a text in a reply
+unfoldable pub reply_len : Format ℕ
+reply_len = only (λ n. nat_le 1 n && nat_le n 64) u8
+
+-- a reply: 0 okay, 1 the text that was, 2 there was none, 3 a length, 4 no room
+abbrev pub reply_shape : Reply → Shape
+reply_shape Okay = shape 0 nothing tt
+reply_shape (Was text) = shape 1 (name 64) text
+reply_shape Absent = shape 2 nothing tt
+reply_shape (Len n) = shape 3 reply_len n
+reply_shape Full = shape 4 nothing tt
+
+-- how each reply is read
+abbrev pub reply_cases : List (Case Reply)
+reply_cases =
+    case 0 nothing (λ _. Okay) ∷
+    case 1 (name 64) (λ x. Was x) ∷
+    case 2 nothing (λ _. Absent) ∷
+    case 3 reply_len (λ x. Len x) ∷
+    case 4 nothing (λ _. Full) ∷ []
+
+-- a reply
+unfoldable pub reply : Format Reply
+reply = tagged reply_shape reply_cases
+
+-- one to 32 values
+unfoldable pub values : Format (List Value)
+values = counted (only (λ n. nat_le 1 n && nat_le n 32) u8) (λ _. value)
+
+-- whether the last of the values before passes a test, if there is one
+abbrev pub last_passes : {A : Type 0} → (A → Bool) → List A → Bool
+last_passes test before = option_map_or test (slice_get before (length before - 1)) true
+
+-- a slot of the window that begins at cw
+abbrev pub in_window : ℕ → ℕ → Bool
+in_window cw s = nat_le cw s && nat_lt s (cw + 32)
+
+-- an entry after others, of a greater round
+unfoldable pub entry : List Entry → Format Entry
+entry before = shaped (λ x. record { round = x.0; grid = x.1 }) (λ e. (e.round, e.grid)) (only (λ r. last_passes (λ e. is_before e.round r) before) round ▷ grid)
+
+-- at most 17 entries
+unfoldable pub entries : Format (List Entry)
+entries = counted (only (λ n. nat_le n 17) u8) entry
+
+-- a vote after others, at a greater slot of the window
+unfoldable pub vote : ℕ → List Vote → Format Vote
+vote cw before = shaped (λ x. record { round = x.0; slot = x.1.0; value = x.1.1 }) (λ v. (v.round, (v.slot, v.value)))
+    (round ▷ only (λ s. in_window cw s && last_passes (λ v. nat_lt v.slot s) before) slot ▷ value)
+
+-- at most 32 votes
+unfoldable pub votes : ℕ → Format (List Vote)
+votes cw = counted (only (λ n. nat_le n 32) u8) (vote cw)
+
+-- a command's answer: its client, its number, one more than its slot, and the reply
+unfoldable pub answered : Format Answered
+answered = shaped (λ x. record { client = x.0; seq = x.1.0; at = x.1.1.0; reply = x.1.1.1 }) (λ a. (a.client, (a.seq, (a.at, a.reply)))) (u16 ▷ seq ▷ at ▷ reply)
+
+-- one to eight answers
+unfoldable pub answers : Format (List Answered)
+answers = counted (only (λ n. nat_le 1 n && nat_le n 8) u8) (λ _. answered)
+
+-- what a read found: 0 nothing, 1 a text
+abbrev pub found_shape : Option (List ℕ) → Shape
+found_shape None = shape 0 nothing tt
+found_shape (Some text) = shape 1 (name 64) text
+
+-- how each is read
+abbrev pub found_cases : List (Case (Option (List ℕ)))
+found_cases = case 0 nothing (λ _. None) ∷ case 1 (name 64) (λ x. Some x) ∷ []
+
+-- what a read found
+unfoldable pub found : Format (Option (List ℕ))
+found = tagged found_shape found_cases
+
+-- why a matchmaker refuses: 0, 1 or 2
+unfoldable pub reason : Format ℕ
+reason = only (λ n. nat_le n 2) u8
+
+-- a read: its client and its number
+unfoldable pub token : Format Token
+token = shaped (λ x. record { client = x.0; seq = x.1 }) (λ t. (t.client, t.seq)) (u16 ▷ seq)

@@ -1,0 +1,38 @@
+-- The ranges of parts that types do not give, in plain form.
+use Rattle.std.specs.Prelude.{ℕ, Bool, true, ◌&&◌, nat_lt, nat_le, List, [], ◌∷◌}
+use Rattle.std.specs.List.{list_all}
+use Rattle.cx_base.specs.Round.{is_before}
+use Rattle.cx_base.specs.declared.command.Reply.{Reply}
+use Rattle.cx_base.specs.declared.command.Reply.TheVariants.{Okay, Was, Absent, Len, Full}
+use Rattle.cx_field.specs.Fields.{round, grid, slot, value, in_window}
+use Rattle.cx_field.specs.declared.parts.Entry.{Entry}
+use Rattle.cx_field.specs.declared.parts.Vote.{Vote}
+
+-- whether a length in a reply is that of a text
+abbrev pub is_text_len : Reply → Bool
+is_text_len (Len n) = nat_le 1 n && nat_le n 64
+is_text_len Okay = true
+is_text_len (Was text) = true
+is_text_len Absent = true
+is_text_len Full = true
+
+-- whether each value comes before all later ones
+abbrev pub rises : {A : Type 0} → (A → A → Bool) → List A → Bool
+rises comes_before [] = true
+rises comes_before (x ∷ xs) = list_all (λ y. comes_before x y) xs && rises comes_before xs
+
+-- whether an entry's round and grid are in their ranges
+abbrev pub entry_in_range : Entry → Bool
+entry_in_range e = round.fits e.round && grid.fits e.grid
+
+-- whether each entry's round is before those of all later ones
+abbrev pub rounds_rise : List Entry → Bool
+rounds_rise es = rises (λ (e : Entry) (later : Entry). is_before e.round later.round) es
+
+-- whether a vote's parts are in their ranges, and its slot in the window that begins at cw
+abbrev pub vote_in_range : ℕ → Vote → Bool
+vote_in_range cw v = round.fits v.round && (slot.fits v.slot && in_window cw v.slot && value.fits v.value)
+
+-- whether each vote's slot is below those of all later ones
+abbrev pub slots_rise : List Vote → Bool
+slots_rise vs = rises (λ (v : Vote) (later : Vote). nat_lt v.slot later.slot) vs

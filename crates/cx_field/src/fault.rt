@@ -1,0 +1,51 @@
+//! Why fields cannot be read.
+
+ghost use Rattle.std.specs.Prelude.{◌≡◌};
+ghost use Rattle.cx_field.specs.declared.fault.ReadFault.TheVariants as faults;
+
+use cx_base::NoMemory;
+use cx_wire::Short;
+use std::alloc::{AllocError, AllocFailed};
+use thiserror::Error;
+
+/// Why fields could not be read.
+#[derive(Clone, Copy, Debug, PartialEq, Eq, Error)]
+pub enum ReadFault {
+    /// So many bytes are left from the first bad field on.
+    #[error("a bad field, {left} bytes before the end")]
+    Bad { left: usize },
+    #[error("memory is wanting")]
+    NoMemory,
+}
+
+impl From<Short> for ReadFault {
+    ghost from_gives = { λ short e. e ≡ faults.Bad short.have };
+
+    fn from(short: Short) -> ReadFault {
+        ReadFault::Bad { left: short.have }
+    }
+}
+
+impl From<NoMemory> for ReadFault {
+    ghost from_gives = { λ _ e. e ≡ faults.NoMemory };
+
+    fn from(_: NoMemory) -> ReadFault {
+        ReadFault::NoMemory
+    }
+}
+
+impl From<AllocError> for ReadFault {
+    ghost from_gives = { λ _ e. e ≡ faults.NoMemory };
+
+    fn from(_: AllocError) -> ReadFault {
+        ReadFault::NoMemory
+    }
+}
+
+impl<T: Drop> From<AllocFailed<T>> for ReadFault {
+    ghost from_gives = { λ _ e. e ≡ faults.NoMemory };
+
+    fn from(_: AllocFailed<T>) -> ReadFault {
+        ReadFault::NoMemory
+    }
+}

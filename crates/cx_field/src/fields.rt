@@ -1,0 +1,351 @@
+//! The fields of messages and records, read from the front of bytes. Each call takes its field's bytes off the reader, or answers
+//! how many bytes are left from the first bad field on: a value out of its range is bad at the field's first byte, and a number
+//! with too few bytes where it begins. The formats are this project's own.
+
+ghost use Rattle.std.specs.Prelude.{◌≡◌, [], ◌∷◌, ◌≤◌, ◌<◌, length, IfOk, IsTrue};
+ghost use Rattle.std.specs.List.{list_all};
+ghost use Rattle.cx_base.specs.Name.{is_name_byte, IsName};
+ghost use Rattle.cx_base.specs.Grid.{IsGrid};
+ghost use Rattle.cx_wire.specs.Format as wire;
+ghost use Rattle.cx_field.specs.Fields as field;
+ghost use Rattle.cx_field.specs.Reading.{Reads, Gives};
+
+use crate::fault::ReadFault;
+use crate::items::items_from;
+use crate::lists::{AnsweredItems, CommandItems, EntryItems, MemberItems, ValueItems, VoteItems};
+use crate::parts::{Answers, Entries, LogValues, Token, Votes};
+use crate::reader::Reader;
+use cx_base::{
+    Command, Commands, Few, Grid, MEMBERS, Name, Op, Reply, Round, Text, Value, is_name_byte,
+};
+use std::alloc::Global;
+
+/// A slot, below 2^40, in eight bytes.
+#[tactic(auto, unfolding(crate::specs::Fields::slot))]
+pub fn slot_from(reader: &mut Reader<'_>) -> Result<u64, ReadFault>
+    ensures { Reads field.slot reader.old result reader.new }
+{
+    let left = reader.left();
+    let slot = reader.u64()?;
+    if slot >= 1 << 40 {
+        return Err(ReadFault::Bad { left });
+    }
+    Ok(slot)
+}
+
+/// A watermark, a number of slots, at most 2^40, in eight bytes.
+#[tactic(auto, unfolding(crate::specs::Fields::mark))]
+pub fn mark_from(reader: &mut Reader<'_>) -> Result<u64, ReadFault>
+    ensures { Reads field.mark reader.old result reader.new }
+{
+    let left = reader.left();
+    let mark = reader.u64()?;
+    if mark > 1 << 40 {
+        return Err(ReadFault::Bad { left });
+    }
+    Ok(mark)
+}
+
+/// One more than a slot: 1 to 2^40, in eight bytes.
+#[tactic(auto, unfolding(crate::specs::Fields::at))]
+pub fn at_from(reader: &mut Reader<'_>) -> Result<u64, ReadFault>
+    ensures { Reads field.at reader.old result reader.new }
+{
+    let left = reader.left();
+    let at = reader.u64()?;
+    if at < 1 || at > 1 << 40 {
+        return Err(ReadFault::Bad { left });
+    }
+    Ok(at)
+}
+
+/// A client's number of a request, 1 or more, in eight bytes.
+#[tactic(auto, unfolding(crate::specs::Fields::seq))]
+pub fn seq_from(reader: &mut Reader<'_>) -> Result<u64, ReadFault>
+    ensures { Reads field.seq reader.old result reader.new }
+{
+    let left = reader.left();
+    let seq = reader.u64()?;
+    if seq < 1 {
+        return Err(ReadFault::Bad { left });
+    }
+    Ok(seq)
+}
+
+fn round_fields_from(reader: &mut Reader<'_>) -> Result<Round, ReadFault>
+    ensures { Reads field.round_fields reader.old result reader.new }
+{
+    let r = reader.u32()?;
+    let id = reader.u16()?;
+    let s = reader.u32()?;
+    Ok(Round { r, id, s })
+}
+
+/// A round, whose first number is 1 or more, in ten bytes; a fault is at its first byte.
+#[tactic(auto, unfolding(crate::specs::Fields::round))]
+pub fn round_from(reader: &mut Reader<'_>) -> Result<Round, ReadFault>
+    ensures { Reads field.round reader.old result reader.new }
+{
+    let left = reader.left();
+    match round_fields_from(reader) {
+        Ok(round) if round.r >= 1 => Ok(round),
+        Err(ReadFault::NoMemory) => Err(ReadFault::NoMemory),
+        _ => Err(ReadFault::Bad { left }),
+    }
+}
+
+/// A round, or none, which is ten zeros; a fault is at its first byte.
+#[tactic(auto, unfolding(crate::specs::Fields::round0))]
+pub fn round0_from(reader: &mut Reader<'_>) -> Result<Round, ReadFault>
+    ensures { Reads field.round0 reader.old result reader.new }
+{
+    let left = reader.left();
+    match round_fields_from(reader) {
+        Ok(round) if round.r >= 1 || round == Round::ZERO => Ok(round),
+        Err(ReadFault::NoMemory) => Err(ReadFault::NoMemory),
+        _ => Err(ReadFault::Bad { left }),
+    }
+}
+
+#[tactic(auto, unfolding(crate::specs::Fields::name_byte))]
+fn name_byte_from(reader: &mut Reader<'_>) -> Result<u8, ReadFault>
+    ensures read { Reads field.name_byte reader.old result reader.new }
+    ensures front { IfOk result (λ x. reader.old ≡ x ∷ reader.new) }
+    ensures name { IfOk result (λ x. IsTrue (is_name_byte x)) }
+{
+    let left = reader.left();
+    let byte = reader.u8()?;
+    if !is_name_byte(byte) {
+        return Err(ReadFault::Bad { left });
+    }
+    Ok(byte)
+}
+
+/// An operation: a byte, 1 put, 2 del or 3 app, and its key and text.
+#[tactic(auto, unfolding(crate::specs::Fields::op))]
+pub fn op_from(reader: &mut Reader<'_>) -> Result<Op, ReadFault>
+    ensures { Reads field.op reader.old result reader.new }
+{
+    let left = reader.left();
+    match reader.u8()? {
+        1 => {
+            let key = name_from(reader)?;
+            let text = name_from(reader)?;
+            Ok(Op::Put(key, text))
+        }
+        2 => Ok(Op::Del(name_from(reader)?)),
+        3 => {
+            let key = name_from(reader)?;
+            let text = name_from(reader)?;
+            Ok(Op::App(key, text))
+        }
+        _ => Err(ReadFault::Bad { left }),
+    }
+}
+
+/// A key or a text: its length in a byte, 1 to `N`, and its bytes, each one of a name.
+#[tactic(auto, unfolding(crate::specs::Fields::name))]
+pub fn name_from<const N: usize>(reader: &mut Reader<'_>) -> Result<Name<N>, ReadFault>
+    ensures { Reads (field.name N) reader.old result reader.new }
+{
+    let left = reader.left();
+    let len = reader.u8()? as usize;
+    if len < 1 || len > N {
+        return Err(ReadFault::Bad { left });
+    }
+    let name = name_bytes_from(len, reader)?;
+    Ok(Name::new(name))
+}
+
+// The bytes of a name.
+fn name_bytes_from<'a>(count: usize, reader: &mut Reader<'a>) -> Result<&'a [u8], ReadFault>
+    ensures read { Gives (λ x. x.now) result (wire.each_read (λ _. field.name_byte) [] count reader.old) reader.new }
+    ensures len { IfOk result (λ x. length x.now ≡ count) }
+    ensures names { IfOk result (λ x. IsTrue (list_all is_name_byte x.now)) }
+{
+    let bytes = reader.bytes();
+    for _ in 0..count {
+        name_byte_from(reader)?;
+    }
+    Ok(&bytes[..count])
+}
+
+/// A command: its client in two bytes, its number and its operation.
+#[tactic(auto, unfolding(crate::specs::Fields::command))]
+pub fn command_from(reader: &mut Reader<'_>) -> Result<Command, ReadFault>
+    ensures { Reads field.command reader.old result reader.new }
+{
+    let client = reader.u16()?;
+    let seq = seq_from(reader)?;
+    let op = op_from(reader)?;
+    Ok(Command { client, seq, op })
+}
+
+/// Commands: how many in a byte, 1 to 8, and each.
+#[tactic(auto, unfolding(crate::specs::Fields::commands))]
+pub fn commands_from(alloc: Global, reader: &mut Reader<'_>) -> Result<Commands, ReadFault>
+    ensures { Reads field.commands reader.old result reader.new }
+{
+    let left = reader.left();
+    let count = reader.u8()?;
+    if count < 1 || count > 8 {
+        return Err(ReadFault::Bad { left });
+    }
+    let list = items_from(alloc, &CommandItems, count as usize, reader)?;
+    Ok(Few::from_vec(list))
+}
+
+/// A value: a byte, 0 for none to do or 1 before commands.
+#[tactic(auto, unfolding(crate::specs::Fields::value))]
+pub fn value_from(alloc: Global, reader: &mut Reader<'_>) -> Result<Value, ReadFault>
+    ensures { Reads field.value reader.old result reader.new }
+{
+    let left = reader.left();
+    match reader.u8()? {
+        0 => Ok(Value::Noop),
+        1 => Ok(Value::Batch(commands_from(alloc, reader)?)),
+        _ => Err(ReadFault::Bad { left }),
+    }
+}
+
+#[tactic(auto, unfolding(crate::specs::Fields::reply_len))]
+fn reply_len_from(reader: &mut Reader<'_>) -> Result<u8, ReadFault>
+    ensures { Reads field.reply_len reader.old result reader.new }
+{
+    let left = reader.left();
+    let len = reader.u8()?;
+    if len < 1 || len > 64 {
+        return Err(ReadFault::Bad { left });
+    }
+    Ok(len)
+}
+
+/// A reply: a byte, 0 okay, 1 before the text that was, 2 there was none, 3 before a length of 1 to 64, 4 no room.
+#[tactic(auto, unfolding(crate::specs::Fields::reply))]
+pub fn reply_from(reader: &mut Reader<'_>) -> Result<Reply, ReadFault>
+    ensures { Reads field.reply reader.old result reader.new }
+{
+    let left = reader.left();
+    match reader.u8()? {
+        0 => Ok(Reply::Okay),
+        1 => Ok(Reply::Was(name_from(reader)?)),
+        2 => Ok(Reply::Absent),
+        3 => Ok(Reply::Len(reply_len_from(reader)?)),
+        4 => Ok(Reply::Full),
+        _ => Err(ReadFault::Bad { left }),
+    }
+}
+
+/// A grid: its rows and columns in a byte each, 1 or more and at most 16 members, and its members row by row, none
+/// twice.
+#[tactic(auto, unfolding(crate::specs::Fields::grid))]
+pub fn grid_from(alloc: Global, reader: &mut Reader<'_>) -> Result<Grid, ReadFault>
+    ensures { Reads field.grid reader.old result reader.new }
+{
+    let left = reader.left();
+    let rows = reader.u8()?;
+    if rows < 1 {
+        return Err(ReadFault::Bad { left });
+    }
+    let left = reader.left();
+    let cols = reader.u8()?;
+    let count = rows as usize * cols as usize;
+    if cols < 1 || count > MEMBERS {
+        return Err(ReadFault::Bad { left });
+    }
+    let members = items_from(alloc, &MemberItems, count, reader)?;
+    Ok(Grid::from_parts(rows, cols, &members))
+}
+
+/// A client's read: the client in two bytes, and its number.
+#[tactic(auto, unfolding(crate::specs::Fields::token))]
+pub fn token_from(reader: &mut Reader<'_>) -> Result<Token, ReadFault>
+    ensures { Reads field.token reader.old result reader.new }
+{
+    let client = reader.u16()?;
+    let seq = seq_from(reader)?;
+    Ok(Token { client, seq })
+}
+
+/// Why a matchmaker refuses: a byte, 0, 1 or 2.
+#[tactic(auto, unfolding(crate::specs::Fields::reason))]
+pub fn reason_from(reader: &mut Reader<'_>) -> Result<u8, ReadFault>
+    ensures { Reads field.reason reader.old result reader.new }
+{
+    let left = reader.left();
+    let reason = reader.u8()?;
+    if reason > 2 {
+        return Err(ReadFault::Bad { left });
+    }
+    Ok(reason)
+}
+
+/// What a read found: a byte, 0 for nothing or 1 before a text.
+#[tactic(auto, unfolding(crate::specs::Fields::found))]
+pub fn found_from(reader: &mut Reader<'_>) -> Result<Option<Text>, ReadFault>
+    ensures { Reads field.found reader.old result reader.new }
+{
+    let left = reader.left();
+    match reader.u8()? {
+        0 => Ok(None),
+        1 => Ok(Some(name_from(reader)?)),
+        _ => Err(ReadFault::Bad { left }),
+    }
+}
+
+/// Entries of a matchmaker: how many in a byte, at most 17, and each, a round above the one before and its grid.
+#[tactic(auto, unfolding(crate::specs::Fields::entries))]
+pub fn entries_from(alloc: Global, reader: &mut Reader<'_>) -> Result<Entries, ReadFault>
+    ensures { Reads field.entries reader.old result reader.new }
+{
+    let left = reader.left();
+    let count = reader.u8()?;
+    if count > 17 {
+        return Err(ReadFault::Bad { left });
+    }
+    let list = items_from(alloc, &EntryItems, count as usize, reader)?;
+    Ok(Few::from_vec(list))
+}
+
+/// Votes of an acceptor: how many in a byte, at most 32, and each: a round, a slot above the one before, at `cw` to
+/// `cw` + 31, and a value.
+#[tactic(auto, unfolding(crate::specs::Fields::votes))]
+pub fn votes_from(alloc: Global, cw: u64, reader: &mut Reader<'_>) -> Result<Votes, ReadFault>
+    ensures { Reads (field.votes cw) reader.old result reader.new }
+{
+    let left = reader.left();
+    let count = reader.u8()?;
+    if count > 32 {
+        return Err(ReadFault::Bad { left });
+    }
+    let list = items_from(alloc, &VoteItems { cw }, count as usize, reader)?;
+    Ok(Few::from_vec(list))
+}
+
+/// Answers: how many in a byte, 1 to 8, and each: a client, its number, one more than its slot, and the reply.
+#[tactic(auto, unfolding(crate::specs::Fields::answers))]
+pub fn answers_from(alloc: Global, reader: &mut Reader<'_>) -> Result<Answers, ReadFault>
+    ensures { Reads field.answers reader.old result reader.new }
+{
+    let left = reader.left();
+    let count = reader.u8()?;
+    if count < 1 || count > 8 {
+        return Err(ReadFault::Bad { left });
+    }
+    let list = items_from(alloc, &AnsweredItems, count as usize, reader)?;
+    Ok(Few::from_vec(list))
+}
+
+/// Values: how many in a byte, 1 to 32, and each.
+#[tactic(auto, unfolding(crate::specs::Fields::values))]
+pub fn values_from(alloc: Global, reader: &mut Reader<'_>) -> Result<LogValues, ReadFault>
+    ensures { Reads field.values reader.old result reader.new }
+{
+    let left = reader.left();
+    let count = reader.u8()?;
+    if count < 1 || count > 32 {
+        return Err(ReadFault::Bad { left });
+    }
+    let list = items_from(alloc, &ValueItems, count as usize, reader)?;
+    Ok(Few::from_vec(list))
+}

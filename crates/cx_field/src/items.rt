@@ -1,0 +1,66 @@
+//! Lists of fields.
+
+ghost use Rattle.std.specs.Prelude.{◌≡◌, ◌≤◌, ◌+◌, ◌*◌, ◌++◌, ℕ, List, [], length, IfOk, OnOk, vec_len};
+ghost use Rattle.cx_wire.specs.Format.{Format, each_read, each_spell};
+ghost use Rattle.cx_field.specs.Reading.{Reads, Gives};
+
+use crate::fault::ReadFault;
+use crate::reader::Reader;
+use cx_base::NoMemory;
+use std::alloc::Global;
+
+/// What may stand in a list, where the values before it are known.
+pub trait Items {
+    type Item;
+
+    /// How the next value is spelled.
+    ghost format: { Self → List Self.Item → Format Self.Item };
+
+    /// How many bytes a value takes at most.
+    ghost most: { ℕ };
+
+    /// Reads the next value.
+    fn next_from(
+        &self,
+        alloc: Global,
+        before: &[Self::Item],
+        reader: &mut Reader<'_>,
+    ) -> Result<Self::Item, ReadFault>
+        ensures { Reads (format self.now before.now) reader.old result reader.new };
+
+    /// Appends a value, whatever stands before it.
+    fn put_next(&self, item: &Self::Item, out: &mut Vec<u8>) -> Result<(), NoMemory>
+        ensures bytes { OnOk result ((before : List Self.Item) → out.new.items ≡ out.old.items ++ (format self.now before).spell item.now) }
+        ensures room { OnOk result (length out.new.items ≤ length out.old.items + most) };
+}
+
+/// Reads so many values.
+pub fn items_from<I: Items>(
+    alloc: Global,
+    items: &I,
+    count: usize,
+    reader: &mut Reader<'_>,
+) -> Result<Vec<I::Item>, ReadFault>
+where
+    I::Item: Drop,
+    ensures read { Gives (λ v. v.items) result (each_read (I.format items.now) [] count reader.old) reader.new }
+    ensures len { IfOk result (λ v. vec_len v ≡ count) }
+{
+    let mut list = Vec::new(alloc);
+    for _ in 0..count {
+        let item = items.next_from(alloc, list.as_slice(), reader)?;
+        list.push(item)?;
+    }
+    Ok(list)
+}
+
+/// Appends values.
+pub fn put_items<I: Items>(items: &I, list: &[I::Item], out: &mut Vec<u8>) -> Result<(), NoMemory>
+    ensures bytes { OnOk result (out.new.items ≡ out.old.items ++ each_spell (I.format items.now) [] list.now) }
+    ensures room { OnOk result (length out.new.items ≤ length out.old.items + length list.now * I.most) }
+{
+    for item in list {
+        items.put_next(item, out)?;
+    }
+    Ok(())
+}

@@ -1,0 +1,60 @@
+//! What stands in messages and records, beside the types of cx_base.
+
+use cx_base::{Answered, Duplicate, Few, Grid, NoMemory, Round, Value};
+use std::alloc::Global;
+
+/// A round that a matchmaker recorded, and its grid (JSys 2021).
+#[derive(Clone, Copy, Debug, PartialEq, Eq)]
+pub struct Entry {
+    pub round: Round,
+    pub grid: Grid,
+}
+
+impl Duplicate for Entry {
+    fn copy(&self, _alloc: Global) -> Result<Self, NoMemory> {
+        Ok(*self)
+    }
+}
+
+/// A value that an acceptor voted for in a round and a slot. Slots are below 2^40.
+#[derive(Debug, Drop)]
+pub struct Vote {
+    pub round: Round,
+    pub slot: u64,
+    pub value: Value,
+}
+
+impl Duplicate for Vote {
+    fn copy(&self, alloc: Global) -> Result<Self, NoMemory> {
+        Ok(Vote {
+            round: self.round,
+            slot: self.slot,
+            value: self.value.copy(alloc)?,
+        })
+    }
+}
+
+/// A read of a client: the client, and its number, which is 1 or more.
+#[derive(Clone, Copy, Debug, PartialEq, Eq)]
+pub struct Token {
+    pub client: u16,
+    pub seq: u64,
+}
+
+impl Duplicate for Token {
+    fn copy(&self, _alloc: Global) -> Result<Self, NoMemory> {
+        Ok(*self)
+    }
+}
+
+/// Entries of a matchmaker, at most 17, of strictly rising rounds.
+pub type Entries = Few<Entry, 0, 17>;
+
+/// Votes of an acceptor, at most 32, of strictly rising slots.
+pub type Votes = Few<Vote, 0, 32>;
+
+/// Answers to the commands of one slot, one to eight.
+pub type Answers = Few<Answered, 1, 8>;
+
+/// Values of slots that follow one another, one to 32.
+pub type LogValues = Few<Value, 1, 32>;

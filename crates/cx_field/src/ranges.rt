@@ -1,0 +1,66 @@
+//! What the types of fields say of their ranges. These calls do nothing when they run; they tell their caller.
+
+ghost use Rattle.std.specs.Prelude.{◌≡◌, ◌<◌, ◌≤◌, ℕ, slice_index, IsTrue};
+ghost use Rattle.cx_base.specs.Grid.{IsGrid};
+ghost use Rattle.cx_base.specs.Name.{IsName};
+ghost use Rattle.cx_field.specs.Fields as field;
+ghost use Rattle.cx_field.specs.Ranges.{is_text_len};
+
+use cx_base::{Grid, Name, Op, Reply, Text};
+
+// Ids take two bytes.
+fn ids_fit(ids: &[u16])
+    ensures { (i : ℕ) → slice_index ids.now i < 65536 }
+{}
+
+/// Each grid has a spelling.
+pub fn grid_fits(grid: &Grid)
+    ensures { IsTrue (field.grid.fits grid.now) }
+{
+    ids_fit(grid.members());
+}
+
+/// Each key and each text has a spelling.
+pub fn name_fits<const N: usize>(name: &Name<N>)
+    requires { N ≤ 255 }
+    ensures { IsTrue ((field.name N).fits name.now) }
+{
+    let _bytes = name.as_bytes();
+}
+
+/// Each operation has a spelling.
+#[tactic(auto, unfolding(crate::specs::Fields::op))]
+pub fn op_fits(op: &Op)
+    ensures { IsTrue (field.op.fits op.now) }
+{
+    match op {
+        Op::Put(key, text) | Op::App(key, text) => {
+            name_fits(key);
+            name_fits(text);
+        }
+        Op::Del(key) => name_fits(key),
+    }
+}
+
+/// What a read found has a spelling.
+#[tactic(auto, unfolding(crate::specs::Fields::found))]
+pub fn found_fits(found: &Option<Text>)
+    ensures { IsTrue (field.found.fits found.now) }
+{
+    match found {
+        Some(text) => name_fits(text),
+        None => {}
+    }
+}
+
+/// A reply has a spelling, where a length in it is that of a text, 1 to 64.
+#[tactic(auto, unfolding(crate::specs::Fields::reply, crate::specs::Fields::reply_len, cx_wire::specs::Format::u8))]
+pub fn reply_fits(reply: &Reply)
+    requires { IsTrue (is_text_len reply.now) }
+    ensures { IsTrue (field.reply.fits reply.now) }
+{
+    match reply {
+        Reply::Was(text) => name_fits(text),
+        Reply::Okay | Reply::Absent | Reply::Len(_) | Reply::Full => {}
+    }
+}

@@ -1,5 +1,0 @@
-use Rattle.cx_msg.proofs.RangeLaws.{name_in_range}
-use Rattle.cx_msg.proofs.ranges.name_fits.Goals as goal
-
-pub returns : goal.returns
-returns g c = name_in_range g.row.N c.args.name.now c.requires c.as_bytes-bytes.ensures.name
