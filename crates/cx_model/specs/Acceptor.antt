@@ -5,13 +5,14 @@ use Rattle.cx_base.specs.declared.command.Value.{Value}
 use Rattle.cx_base.specs.declared.role.RoleId.{RoleId}
 use Rattle.cx_base.specs.declared.role.Kind.TheVariants.{Acceptor, Leader}
 use Rattle.cx_base.specs.declared.round.Round.{Round}
-use Rattle.cx_base.specs.declared.why.Why.TheVariants.{Idle, Nack, Past, Same, Stranger, Voted}
+use Rattle.cx_base.specs.declared.why.Why.TheVariants.{Asked, Idle, Informed, Nack, Past, Promised, Same, Stranger, Voted}
 use Rattle.cx_base.specs.Role.{same_role, role}
 use Rattle.cx_base.specs.Round.{is_before, same_round, no_round}
 use Rattle.cx_msg.specs.Letter.{Letter, letter}
 use Rattle.cx_field.specs.Fields.{in_window}
 use Rattle.cx_msg.specs.declared.input.Input.{Input}
 use Rattle.cx_msg.specs.declared.input.Input.TheVariants.{Take, Tick, Order}
+use Rattle.cx_field.specs.declared.parts.Token.{Token}
 use Rattle.cx_field.specs.declared.parts.Vote.{Vote}
 use Rattle.cx_msg.specs.declared.message.Msg.{Msg}
 use Rattle.cx_msg.specs.declared.message.Msg.TheVariants as msg
@@ -21,7 +22,8 @@ use Rattle.cx_model.specs.Names.{names, names_round, names_value}
 use Rattle.cx_model.specs.Outcome.{Outcome, answered, replied}
 use Rattle.cx_model.specs.Rules.{Rules}
 
--- the promised round, the chosen watermark, the last vote at each slot from there on, and one more than the greatest slot that was ever voted at
+-- the promised round, the chosen watermark, the last vote at each slot from there on by rising slot, and one more than the greatest slot that was
+-- ever voted at
 pub record AcceptorDurable : Type 0 where
   pub promise : Round
   pub cw : ℕ
@@ -33,13 +35,17 @@ abbrev pub vote_at : ℕ → List Vote → Option Vote
 vote_at s [] = None
 vote_at s (v ∷ vs) = if v.slot == s then Some v else vote_at s vs
 
--- the votes from a slot on, without the one at another slot
-abbrev pub other_votes : ℕ → ℕ → List Vote → List Vote
-other_votes low s vs = filter (λ (v : Vote). nat_le low v.slot && not (v.slot == s)) vs
-
 -- the votes from a slot on
 abbrev pub votes_from : ℕ → List Vote → List Vote
 votes_from low vs = filter (λ (v : Vote). nat_le low v.slot) vs
+
+-- the votes with one more, in the place of that of its slot or where its slot stands
+abbrev pub with_vote : Vote → List Vote → List Vote
+with_vote v [] = v ∷ []
+with_vote v (u ∷ us) =
+    if u.slot == v.slot then v ∷ us
+    else if nat_lt v.slot u.slot then v ∷ u ∷ us
+    else u ∷ with_vote v us
 
 -- whether a vote is of this round
 abbrev pub is_of : Round → Option Vote → Bool
@@ -52,7 +58,7 @@ acceptor_after d (kept.Vote i s cw v) =
     record {
       promise = i;
       cw = max d.cw cw;
-      votes = other_votes (max d.cw cw) s d.votes ++ record { round = i; slot = s; value = v } ∷ [];
+      votes = with_vote (record { round = i; slot = s; value = v }) (votes_from (max d.cw cw) d.votes);
       top = max d.top (s + 1);
     }
 acceptor_after d (kept.Water i cw) = record d { promise = i; cw = max d.cw cw; votes = votes_from (max d.cw cw) d.votes }
@@ -79,6 +85,16 @@ nack_to me i promise = letter me (role Leader i.id) (msg.Nack i promise)
 abbrev pub phase2b_to : RoleId → RoleId → Round → ℕ → Letter
 phase2b_to me proxy i s = letter me proxy (msg.Phase2B i s)
 
+abbrev pub phase1b_to : RoleId → RoleId → Round → AcceptorDurable → Letter
+phase1b_to me leader i d = letter me leader (msg.Phase1B i d.cw d.votes)
+
+-- a leader asks to promise its round, and for what was voted in earlier ones
+abbrev pub phase1a_row : RoleId → AcceptorDurable → RoleId → Round → Outcome (Unit {0})
+phase1a_row me d from i =
+    if is_before i d.promise then replied Nack tt (nack_to me i d.promise ∷ [])
+    else if same_round i d.promise then replied Same tt (phase1b_to me from i d ∷ [])
+    else record { why = Promised; kept = Some (kept.Promise i); volatile = tt; sends = phase1b_to me from i d ∷ [] }
+
 -- a proxy leader asks for a vote
 abbrev pub phase2a_row : RoleId → AcceptorDurable → RoleId → Round → ℕ → ℕ → Value → Outcome (Unit {0})
 phase2a_row me d from i s cw v =
@@ -87,8 +103,25 @@ phase2a_row me d from i s cw v =
     else if is_of i (vote_at s d.votes) then replied Same tt (phase2b_to me from i s ∷ [])
     else record { why = Voted; kept = Some (kept.Vote i s cw v); volatile = tt; sends = phase2b_to me from i s ∷ [] }
 
+abbrev pub informed_to : RoleId → RoleId → Round → ℕ → Letter
+informed_to me leader i cw = letter me leader (msg.Informed i cw)
+
+-- a leader that retires earlier rounds tells that enough replicas hold so many slots (this project's own)
+abbrev pub inform_row : RoleId → AcceptorDurable → RoleId → Round → ℕ → Outcome (Unit {0})
+inform_row me d from i cw =
+    if is_before i d.promise then replied Nack tt (nack_to me i d.promise ∷ [])
+    else if same_round i d.promise && nat_le cw d.cw then replied Same tt (informed_to me from i d.cw ∷ [])
+    else record { why = Informed; kept = Some (kept.Water i cw); volatile = tt; sends = informed_to me from i (max d.cw cw) ∷ [] }
+
+-- a reader asks from which slot on nothing is chosen by its vote (this project's own)
+abbrev pub pre_read_row : RoleId → AcceptorDurable → RoleId → Token → Round → Outcome (Unit {0})
+pre_read_row me d from t w = replied Asked tt (letter me from (msg.PreReadAck t w (max d.cw d.top)) ∷ [])
+
 abbrev pub acceptor_takes : RoleId → AcceptorDurable → RoleId → Msg → Outcome (Unit {0})
+acceptor_takes me d from (msg.Phase1A i) = phase1a_row me d from i
 acceptor_takes me d from (msg.Phase2A i s cw v) = phase2a_row me d from i s cw v
+acceptor_takes me d from (msg.Inform i cw) = inform_row me d from i cw
+acceptor_takes me d from (msg.PreRead t w) = pre_read_row me d from t w
 acceptor_takes me d from other = answered Stranger tt
 
 abbrev pub acceptor_row : Cluster → RoleId → AcceptorDurable → Unit {0} → Input → Outcome (Unit {0})

@@ -1,6 +1,6 @@
--- The leader's rows: it begins rounds (JSys 2021), and gives each batch a slot while it leads (VLDB 2021).
-use Rattle.std.specs.Prelude.{ℕ, ◌+◌, ◌*◌, ◌%◌, ◌==◌, Bool, true, false, not, ◌&&◌, ◌||◌, nat_lt, nat_le, map, filter, if◌then◌else◌, List, [], ◌∷◌, ◌++◌, length, Option, None, Some}
-use Rattle.std.specs.List.{list_any}
+-- The leader's rows: it begins rounds and retires the earlier ones (JSys 2021), and gives each batch a slot while it leads (VLDB 2021).
+use Rattle.std.specs.Prelude.{ℕ, ◌+◌, ◌-◌, ◌%◌, ◌==◌, Bool, true, false, not, ◌&&◌, ◌||◌, nat_lt, nat_le, max, map, filter, if◌then◌else◌, List, [], ◌∷◌, ◌++◌, length, Option, None, Some, slice_index_or, slice_set}
+use Rattle.std.specs.List.{list_all}
 use Rattle.cx_base.specs.declared.cluster.Cluster.{Cluster}
 use Rattle.cx_base.specs.declared.command.Command.{Command}
 use Rattle.cx_base.specs.declared.command.Placed.{Placed}
@@ -12,13 +12,14 @@ use Rattle.cx_base.specs.declared.role.Kind.TheVariants.{Acceptor, Batcher, Lead
 use Rattle.cx_base.specs.declared.round.Round.{Round}
 use Rattle.cx_base.specs.declared.why.Why.TheVariants as why
 use Rattle.cx_base.specs.Grid.{Shape, is_in}
-use Rattle.cx_base.specs.Lists.{below}
+use Rattle.cx_base.specs.Lists.{below, numbers}
 use Rattle.cx_base.specs.Role.{same_role, role}
-use Rattle.cx_base.specs.Round.{is_before, same_round, no_round, lead_after}
+use Rattle.cx_base.specs.Round.{is_before, same_round, no_round, lead_after, change_after}
 use Rattle.cx_msg.specs.Letter.{Letter, letter}
 use Rattle.cx_msg.specs.declared.input.Input.{Input}
 use Rattle.cx_msg.specs.declared.input.Input.TheVariants.{Take, Tick, Order}
 use Rattle.cx_field.specs.declared.parts.Entry.{Entry}
+use Rattle.cx_field.specs.declared.parts.Vote.{Vote}
 use Rattle.cx_msg.specs.declared.message.Msg.{Msg}
 use Rattle.cx_msg.specs.declared.message.Msg.TheVariants as msg
 use Rattle.cx_msg.specs.declared.kept.Record.{Record}
@@ -26,31 +27,53 @@ use Rattle.cx_msg.specs.declared.kept.Record.TheVariants as kept
 use Rattle.cx_model.specs.declared.states.MatchAnswer.{MatchAnswer}
 use Rattle.cx_model.specs.declared.states.Mode.{Mode}
 use Rattle.cx_model.specs.declared.states.Mode.TheVariants.{Idle, Matching, Phase1, Leading}
-use Rattle.cx_model.specs.Matchmaker.{entries_from}
+use Rattle.cx_model.specs.declared.states.Plan.{Plan}
+use Rattle.cx_model.specs.declared.states.Promised.{Promised}
+use Rattle.cx_model.specs.Collection.{Collection, not_collecting, collection_from, with_informed, with_forgotten, is_off, is_informing, is_collecting, is_retired}
+use Rattle.cx_model.specs.Matched.{enough, matchmakers, later_round, is_counted, live_entries, is_member_of, members_of, members_in, rows_whole}
 use Rattle.cx_model.specs.Names.{names, names_round, names_grid}
 use Rattle.cx_model.specs.Outcome.{Outcome, answered, replied}
+use Rattle.cx_model.specs.Plan.{promised_by, has_promised, plan, placed_from}
 use Rattle.cx_model.specs.Rules.{Rules}
 
 -- its last round with its grid
 pub record LeaderDurable : Type 0 where
   pub own : Option Entry
 
--- What it is doing; the greatest round that it was told of; the matchmakers' answers that it counted; the chosen watermark;
--- the next free slot; the values that it proposed, by slot; and the slots from the watermark on that it knows to be chosen.
+-- What it is doing; the greatest round that it was told of; the greatest number of slots that each replica told it to hold; the
+-- matchmakers' and the acceptors' answers that it counted; the chosen watermark and the next free slot; the slot before which it
+-- proposed when its first phase was done; the values that it proposed from the watermark on, by slot, and which of these slots it
+-- knows to be chosen in its round; and how far it is in retiring the earlier rounds.
 pub record LeaderVolatile : Type 0 where
   pub mode : Mode
   pub seen : Round
+  pub held : List ℕ
   pub told : List MatchAnswer
+  pub promises : List Promised
   pub cw : ℕ
   pub next : ℕ
+  pub end : ℕ
   pub proposed : List Placed
   pub chosen : List ℕ
+  pub collection : Collection
+
+abbrev pub is_idle : Mode → Bool
+is_idle Idle = true
+is_idle Matching = false
+is_idle Phase1 = false
+is_idle Leading = false
 
 abbrev pub is_matching : Mode → Bool
 is_matching Idle = false
 is_matching Matching = true
 is_matching Phase1 = false
 is_matching Leading = false
+
+abbrev pub is_promising : Mode → Bool
+is_promising Idle = false
+is_promising Matching = false
+is_promising Phase1 = true
+is_promising Leading = false
 
 abbrev pub is_leading : Mode → Bool
 is_leading Idle = false
@@ -62,32 +85,9 @@ abbrev pub round_of : Option Entry → Round
 round_of None = no_round
 round_of (Some e) = e.round
 
--- how many answers of matchmakers are enough, and the matchmakers
-abbrev pub enough : Cluster → ℕ
-enough c = c.f + 1
-
-abbrev pub matchmakers : Cluster → List ℕ
-matchmakers c = below (2 * c.f + 1)
-
--- the acceptors that stand in one of these grids, by rising index
-abbrev pub members_of : Cluster → List Entry → List ℕ
-members_of c es = filter (λ a. list_any (λ (e : Entry). is_in a e.grid.members) es) (below c.acceptors)
-
-abbrev pub later_round : Round → Round → Round
-later_round a b = if is_before a b then b else a
-
--- the greatest watermark that was told
-abbrev pub greatest_watermark : List MatchAnswer → Round
-greatest_watermark [] = no_round
-greatest_watermark (a ∷ told) = later_round a.watermark (greatest_watermark told)
-
-abbrev pub entries_told : List MatchAnswer → List Entry
-entries_told [] = []
-entries_told (a ∷ told) = a.entries ++ entries_told told
-
--- the entries told that aren't retired
-abbrev pub live_entries : List MatchAnswer → List Entry
-live_entries told = entries_from (greatest_watermark told) (entries_told told)
+-- whether this is the leader's own round
+abbrev pub is_own : LeaderDurable → Round → Bool
+is_own d i = same_round i (round_of d.own)
 
 abbrev pub match_a_to : RoleId → Round → Shape → ℕ → Letter
 match_a_to me i g m = letter me (role Matchmaker m) (msg.MatchA i g)
@@ -101,41 +101,92 @@ leads_to me i b = letter me (role Batcher b) (msg.Leads i)
 abbrev pub propose_to : Cluster → RoleId → Entry → ℕ → Placed → Letter
 propose_to c me own cw p = letter me (role Proxy (p.slot % c.proxies)) (msg.Propose own.round own.grid p.slot cw p.value)
 
--- the order to lead: a round above all that it has seen
-abbrev pub lead_in : Cluster → RoleId → LeaderVolatile → Shape → Option Round → Outcome LeaderVolatile
-lead_in c me v g None = answered why.End v
-lead_in c me v g (Some i) =
+abbrev pub inform_to : RoleId → Round → ℕ → ℕ → Letter
+inform_to me i cw a = letter me (role Acceptor a) (msg.Inform i cw)
+
+abbrev pub garbage_a_to : RoleId → Entry → ℕ → Letter
+garbage_a_to me own m = letter me (role Matchmaker m) (msg.GarbageA own.round own.grid)
+
+-- it begins a round, if there is one: the round is kept before the matchmakers are asked to record it
+abbrev pub begin_in : Cluster → RoleId → LeaderVolatile → Shape → Option Round → Outcome LeaderVolatile
+begin_in c me v g None = answered why.End v
+begin_in c me v g (Some i) =
     record {
       why = why.Started;
       kept = Some (kept.Round i g);
-      volatile = record v { mode = Matching; told = [] };
+      volatile = record v { mode = Matching; told = []; promises = []; collection = not_collecting };
       sends = map (match_a_to me i g) (matchmakers c);
     }
 
+-- the order to lead: a round above all that it has seen
 abbrev pub lead_row : Cluster → RoleId → LeaderDurable → LeaderVolatile → Shape → Outcome LeaderVolatile
 lead_row c me d v g =
-    if names_grid c g then lead_in c me v g (lead_after (round_of d.own) v.seen me.index) else answered why.Stranger v
+    if names_grid c g then begin_in c me v g (lead_after (round_of d.own) v.seen me.index) else answered why.Stranger v
 
--- It leads. Nothing was told of slots, so all from its watermark on are free.
-abbrev pub finish : Cluster → RoleId → Round → LeaderVolatile → Outcome LeaderVolatile
-finish c me i v =
-    replied why.Leads (record v { mode = Leading; next = v.cw; proposed = []; chosen = [] }) (map (leads_to me i) (below c.batchers))
+-- the order to go on with another grid: the next round of its own (JSys 2021)
+abbrev pub change_row : Cluster → RoleId → LeaderDurable → LeaderVolatile → Shape → Outcome LeaderVolatile
+change_row c me d v g =
+    if not (names_grid c g) then answered why.Stranger v
+    else if not (is_leading v.mode) then answered why.Idle v
+    else begin_in c me v g (change_after (round_of d.own))
 
--- enough matchmakers have answered
-abbrev pub matched_by : Cluster → RoleId → Round → LeaderVolatile → List Entry → Outcome LeaderVolatile
-matched_by c me i v [] = finish c me i v
-matched_by c me i v (e ∷ es) = replied why.Phase1 (record v { mode = Phase1 }) (map (phase1a_to me i) (members_of c (e ∷ es)))
+-- its first phase is done: it leads, and proposes what the plan says
+abbrev pub lead_with : Cluster → RoleId → Entry → LeaderVolatile → Plan → Outcome LeaderVolatile
+lead_with c me own v p =
+    replied why.Leads
+    (record v { mode = Leading; promises = []; cw = p.cw; next = p.end; end = p.end; proposed = placed_from p.cw p.values; chosen = [] })
+    (map (propose_to c me own p.cw) (placed_from p.cw p.values) ++ map (leads_to me own.round) (below c.batchers))
 
-abbrev pub match_counted : Cluster → RoleId → Round → LeaderVolatile → Outcome LeaderVolatile
-match_counted c me i v =
-    if nat_lt (length v.told) (enough c) then answered why.Counted v else matched_by c me i v (live_entries v.told)
+abbrev pub finish : Cluster → RoleId → Entry → LeaderVolatile → Outcome LeaderVolatile
+finish c me own v = lead_with c me own v (plan v.cw v.promises)
+
+-- enough matchmakers have answered; where no earlier grid is live there is nobody to ask
+abbrev pub matched_by : Cluster → RoleId → Entry → LeaderVolatile → List Entry → Outcome LeaderVolatile
+matched_by c me own v [] = finish c me own v
+matched_by c me own v (e ∷ es) =
+    replied why.Phase1 (record v { mode = Phase1 }) (map (phase1a_to me own.round) (members_of c (e ∷ es)))
+
+abbrev pub match_counted : Cluster → RoleId → Option Entry → LeaderVolatile → Outcome LeaderVolatile
+match_counted c me None v = answered why.Old v
+match_counted c me (Some own) v =
+    if nat_lt (length v.told) (enough c) then answered why.Counted v else matched_by c me own v (live_entries v.told)
 
 -- a matchmaker answers
 abbrev pub match_b_row : Cluster → RoleId → LeaderDurable → LeaderVolatile → RoleId → Round → Round → List Entry → Outcome LeaderVolatile
 match_b_row c me d v from i w es =
-    if not (is_matching v.mode && same_round i (round_of d.own)) then answered why.Old v
-    else if list_any (λ (a : MatchAnswer). a.matchmaker == from.index) v.told then answered why.Same v
-    else match_counted c me i (record v { told = v.told ++ record { matchmaker = from.index; watermark = w; entries = es } ∷ [] })
+    if not (is_matching v.mode && is_own d i) then answered why.Old v
+    else if is_counted from.index v.told then answered why.Same v
+    else match_counted c me d.own (record v { told = v.told ++ record { matchmaker = from.index; watermark = w; entries = es } ∷ [] })
+
+-- one more acceptor has promised; the phase ends when each live grid has a whole row
+abbrev pub promise_counted : Cluster → RoleId → Option Entry → LeaderVolatile → Outcome LeaderVolatile
+promise_counted c me None v = answered why.Old v
+promise_counted c me (Some own) v =
+    if rows_whole (live_entries v.told) (promised_by v.promises) then finish c me own v else answered why.Counted v
+
+-- an acceptor promises, and tells its votes
+abbrev pub phase1b_row : Cluster → RoleId → LeaderDurable → LeaderVolatile → RoleId → Round → ℕ → List Vote → Outcome LeaderVolatile
+phase1b_row c me d v from i cw votes =
+    if not (is_promising v.mode && is_own d i) then answered why.Old v
+    else if not (is_member_of (live_entries v.told) from.index) then answered why.Unasked v
+    else if has_promised from.index v.promises then answered why.Same v
+    else promise_counted c me d.own (record v { promises = v.promises ++ record { acceptor = from.index; cw = cw; votes = votes } ∷ [] })
+
+abbrev pub with_seen : Round → LeaderVolatile → LeaderVolatile
+with_seen i v = record v { seen = later_round v.seen i }
+
+-- an acceptor has promised a greater round, which is noted whatever the answer
+abbrev pub nack_row : LeaderDurable → LeaderVolatile → Round → Round → Outcome LeaderVolatile
+nack_row d v i promise =
+    if is_idle v.mode || not (is_own d i) then answered why.Old (with_seen promise v)
+    else answered why.Nacked (record (with_seen promise v) { mode = Idle })
+
+-- a matchmaker doesn't record the round, and tells a greater one; where it has no room the leader goes on
+abbrev pub match_nack_row : LeaderDurable → LeaderVolatile → Round → ℕ → Round → Outcome LeaderVolatile
+match_nack_row d v i reason other =
+    if is_idle v.mode || not (is_own d i) then answered why.Old (with_seen other v)
+    else if reason == 2 then answered why.Full (with_seen other v)
+    else answered why.Nacked (record (with_seen other v) { mode = Idle })
 
 -- The slots from cw on that the leader may propose at are a window of 32, and slots end at 2^40.
 abbrev pub is_past_window : LeaderVolatile → Bool
@@ -155,21 +206,109 @@ batch_row c me d v commands = if is_leading v.mode then propose_in c me v comman
 -- a proxy leader tells that a slot is chosen in this round
 abbrev pub chosen_in_row : LeaderDurable → LeaderVolatile → Round → ℕ → Outcome LeaderVolatile
 chosen_in_row d v i s =
-    if not (is_leading v.mode && same_round i (round_of d.own)) then answered why.Old v
+    if not (is_leading v.mode && is_own d i) then answered why.Old v
     else if nat_lt s v.cw then answered why.Past v
     else if nat_le v.next s then answered why.Unasked v
     else if is_in s v.chosen then answered why.Same v
     else answered why.Chosen (record v { chosen = v.chosen ++ s ∷ [] })
 
+-- a greater watermark: the slots below it are forgotten, and none of them is free
+abbrev pub raised_to : ℕ → LeaderVolatile → LeaderVolatile
+raised_to cw v =
+    record v {
+      cw = max v.cw cw;
+      next = max v.next (max v.cw cw);
+      proposed = filter (λ (p : Placed). nat_le (max v.cw cw) p.slot) v.proposed;
+      chosen = filter (λ s. nat_le (max v.cw cw) s) v.chosen;
+    }
+
+-- how many of the numbers reach this one
+abbrev pub reaching : ℕ → List ℕ → ℕ
+reaching n held = length (filter (λ h. nat_le n h) held)
+
+abbrev pub greatest_of : List ℕ → ℕ
+greatest_of [] = 0
+greatest_of (n ∷ ns) = max n (greatest_of ns)
+
+-- the greatest of the numbers that so many of them reach
+abbrev pub held_by : ℕ → List ℕ → ℕ
+held_by count held = greatest_of (filter (λ n. nat_le count (reaching n held)) held)
+
+abbrev pub held_noted : Cluster → LeaderVolatile → List ℕ → Outcome LeaderVolatile
+held_noted c v held = answered why.Held (raised_to (held_by (enough c) held) (record v { held = held }))
+
+-- A replica tells how many slots it holds. What f + 1 replicas hold is never lost, and is the watermark (this project's own).
+abbrev pub held_row : Cluster → LeaderVolatile → RoleId → ℕ → Outcome LeaderVolatile
+held_row c v from n =
+    if nat_le n (slice_index_or v.held from.index 0) then answered why.Same v
+    else held_noted c v (slice_set v.held from.index n)
+
+-- whether all that it proposed when its first phase was done is known to be chosen, or held
+abbrev pub is_settled : LeaderVolatile → Bool
+is_settled v = list_all (λ s. is_in s v.chosen) (numbers v.cw (v.end - v.cw))
+
+abbrev pub collect_in : Cluster → RoleId → LeaderVolatile → Option Entry → Outcome LeaderVolatile
+collect_in c me v None = answered why.Idle v
+collect_in c me v (Some own) =
+    if not (is_off v.collection.stage) then answered why.Same v
+    else if not (is_settled v) then answered why.Waiting v
+    else replied why.Informing (record v { collection = collection_from v.cw }) (map (inform_to me own.round v.cw) (members_in c own.grid))
+
+-- the order to retire all earlier rounds
+abbrev pub collect_row : Cluster → RoleId → LeaderDurable → LeaderVolatile → Outcome LeaderVolatile
+collect_row c me d v = if is_leading v.mode then collect_in c me v d.own else answered why.Idle v
+
+abbrev pub informed_counted : Cluster → RoleId → Entry → LeaderVolatile → Collection → Outcome LeaderVolatile
+informed_counted c me own v k =
+    if is_collecting k.stage
+    then replied why.Collecting (record v { collection = k }) (map (garbage_a_to me own) (matchmakers c))
+    else answered why.Counted (record v { collection = k })
+
+abbrev pub informed_in : Cluster → RoleId → LeaderVolatile → RoleId → Option Entry → Outcome LeaderVolatile
+informed_in c me v from None = answered why.Old v
+informed_in c me v from (Some own) =
+    if not (is_in from.index own.grid.members) then answered why.Unasked v
+    else if is_in from.index v.collection.counted then answered why.Same v
+    else informed_counted c me own v (with_informed own.grid from.index v.collection)
+
+-- an acceptor of its grid knows how many slots are held
+abbrev pub informed_row : Cluster → RoleId → LeaderDurable → LeaderVolatile → RoleId → Round → ℕ → Outcome LeaderVolatile
+informed_row c me d v from i cw =
+    if not (is_leading v.mode && is_own d i && is_informing v.collection.stage && nat_le v.collection.mark cw) then answered why.Old v
+    else informed_in c me v from d.own
+
+abbrev pub forgotten_counted : LeaderVolatile → Collection → Outcome LeaderVolatile
+forgotten_counted v k = answered (if is_retired k.stage then why.Retired else why.Counted) (record v { collection = k })
+
+-- a matchmaker has forgotten the earlier rounds
+abbrev pub garbage_b_row : Cluster → LeaderDurable → LeaderVolatile → RoleId → Round → Outcome LeaderVolatile
+garbage_b_row c d v from i =
+    if not (is_leading v.mode && is_own d i && is_collecting v.collection.stage) then answered why.Old v
+    else if is_in from.index v.collection.counted then answered why.Same v
+    else forgotten_counted v (with_forgotten (enough c) from.index v.collection)
+
 abbrev pub leader_takes : Cluster → RoleId → LeaderDurable → LeaderVolatile → RoleId → Msg → Outcome LeaderVolatile
 leader_takes c me d v from (msg.MatchB i w es) = match_b_row c me d v from i w es
+leader_takes c me d v from (msg.MatchNack i reason other) = match_nack_row d v i reason other
+leader_takes c me d v from (msg.Phase1B i cw votes) = phase1b_row c me d v from i cw votes
+leader_takes c me d v from (msg.Nack i promise) = nack_row d v i promise
 leader_takes c me d v from (msg.Batch commands) = batch_row c me d v commands
 leader_takes c me d v from (msg.ChosenIn i s) = chosen_in_row d v i s
+leader_takes c me d v from (msg.Held n) = held_row c v from n
+leader_takes c me d v from (msg.Informed i cw) = informed_row c me d v from i cw
+leader_takes c me d v from (msg.GarbageB i) = garbage_b_row c d v from i
 leader_takes c me d v from other = answered why.Stranger v
 
 -- the values that aren't known to be chosen
 abbrev pub open_values : LeaderVolatile → List Placed
 open_values v = filter (λ (p : Placed). not (is_in p.slot v.chosen)) v.proposed
+
+-- what the present stage of retiring asks again
+abbrev pub stage_sends : Cluster → RoleId → Entry → Collection → List Letter
+stage_sends c me own k =
+    if is_informing k.stage then map (inform_to me own.round k.mark) (members_in c own.grid)
+    else if is_collecting k.stage then map (garbage_a_to me own) (matchmakers c)
+    else []
 
 -- what is waited for is asked again
 abbrev pub tick_in : Cluster → RoleId → LeaderVolatile → Mode → Option Entry → Outcome LeaderVolatile
@@ -178,12 +317,13 @@ tick_in c me v Idle (Some own) = answered why.Idle v
 tick_in c me v Matching (Some own) = replied why.Resent v (map (match_a_to me own.round own.grid) (matchmakers c))
 tick_in c me v Phase1 (Some own) = replied why.Resent v (map (phase1a_to me own.round) (members_of c (live_entries v.told)))
 tick_in c me v Leading (Some own) =
-    replied why.Resent v (map (propose_to c me own v.cw) (open_values v) ++ map (leads_to me own.round) (below c.batchers))
+    replied why.Resent v
+    (map (propose_to c me own v.cw) (open_values v) ++ map (leads_to me own.round) (below c.batchers) ++ stage_sends c me own v.collection)
 
 abbrev pub order_row : Cluster → RoleId → LeaderDurable → LeaderVolatile → OrderOf → Outcome LeaderVolatile
 order_row c me d v (Lead g) = lead_row c me d v g
-order_row c me d v (Change g) = answered why.Stranger v
-order_row c me d v Collect = answered why.Stranger v
+order_row c me d v (Change g) = change_row c me d v g
+order_row c me d v Collect = collect_row c me d v
 
 abbrev pub leader_row : Cluster → RoleId → LeaderDurable → LeaderVolatile → Input → Outcome LeaderVolatile
 leader_row c me d v (Take letter) =
@@ -214,12 +354,28 @@ leader_fits c me d (kept.Match i g) = false
 leader_fits c me d (kept.Garbage i g) = false
 leader_fits c me d (kept.Log vs) = false
 
+abbrev pub idle_leader : Cluster → LeaderVolatile
+idle_leader c =
+    record {
+      mode = Idle;
+      seen = no_round;
+      held = map (λ r. 0) (below c.replicas);
+      told = [];
+      promises = [];
+      cw = 0;
+      next = 0;
+      end = 0;
+      proposed = [];
+      chosen = [];
+      collection = not_collecting;
+    }
+
 abbrev pub leader_rules : Rules LeaderDurable LeaderVolatile
 leader_rules = record {
   kind = Leader;
   empty = record { own = None };
   after = leader_after;
   fits = leader_fits;
-  fresh = λ c. record { mode = Idle; seen = no_round; told = []; cw = 0; next = 0; proposed = []; chosen = [] };
+  fresh = idle_leader;
   row = leader_row;
 }

@@ -1,13 +1,17 @@
 pub mod Acceptor
 pub mod Batcher
 pub mod Chosen
+pub mod Collection
 pub mod Folds
 pub mod Leader
 pub mod Lists
+pub mod Matched
 pub mod Matchmaker
 pub mod Names
 pub mod Outcome
+pub mod Plan
 pub mod Proxy
+pub mod Reader
 pub mod Replica
 pub mod Request
 pub mod Rules

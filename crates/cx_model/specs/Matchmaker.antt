@@ -6,7 +6,7 @@ use Rattle.cx_base.specs.declared.cluster.Cluster.{Cluster}
 use Rattle.cx_base.specs.declared.role.Kind.TheVariants.{Matchmaker}
 use Rattle.cx_base.specs.declared.role.RoleId.{RoleId}
 use Rattle.cx_base.specs.declared.round.Round.{Round}
-use Rattle.cx_base.specs.declared.why.Why.TheVariants.{Collected, Full, Idle, Later, Matched, Same, Stranger}
+use Rattle.cx_base.specs.declared.why.Why.TheVariants.{Asked, Collected, Full, Idle, Later, Matched, Raised, Same, Stranger}
 use Rattle.cx_base.specs.Grid.{Shape}
 use Rattle.cx_base.specs.Role.{same_role}
 use Rattle.cx_base.specs.Round.{is_before, same_round, no_round}
@@ -14,6 +14,7 @@ use Rattle.cx_msg.specs.Letter.{Letter, letter}
 use Rattle.cx_msg.specs.declared.input.Input.{Input}
 use Rattle.cx_msg.specs.declared.input.Input.TheVariants.{Take, Tick, Order}
 use Rattle.cx_field.specs.declared.parts.Entry.{Entry}
+use Rattle.cx_field.specs.declared.parts.Token.{Token}
 use Rattle.cx_msg.specs.declared.message.Msg.{Msg}
 use Rattle.cx_msg.specs.declared.message.Msg.TheVariants as msg
 use Rattle.cx_msg.specs.declared.kept.Record.{Record}
@@ -85,8 +86,24 @@ match_a_row me d from i g =
     else if nat_le 16 (length d.entries) then replied Full tt (match_nack_to me from i 2 (greatest d.entries) ∷ [])
     else record { why = Matched; kept = Some (kept.Match i g); volatile = tt; sends = match_b_to me from i d ∷ [] }
 
+abbrev pub garbage_b_to : RoleId → RoleId → Round → Letter
+garbage_b_to me leader i = letter me leader (msg.GarbageB i)
+
+-- a leader asks to forget the rounds below its own; its own entry stays, or is made (JSys 2021; the entry is this project's own)
+abbrev pub garbage_a_row : RoleId → MatchmakerDurable → RoleId → Round → Shape → Outcome (Unit {0})
+garbage_a_row me d from i g =
+    if is_before d.watermark i
+    then record { why = Raised; kept = Some (kept.Garbage i g); volatile = tt; sends = garbage_b_to me from i ∷ [] }
+    else replied Same tt (garbage_b_to me from i ∷ [])
+
+-- a reader asks for the watermark and all entries (this project's own)
+abbrev pub match_read_row : RoleId → MatchmakerDurable → RoleId → Token → Outcome (Unit {0})
+match_read_row me d from t = replied Asked tt (letter me from (msg.MatchReadAck t d.watermark d.entries) ∷ [])
+
 abbrev pub matchmaker_takes : RoleId → MatchmakerDurable → RoleId → Msg → Outcome (Unit {0})
 matchmaker_takes me d from (msg.MatchA i g) = match_a_row me d from i g
+matchmaker_takes me d from (msg.GarbageA i g) = garbage_a_row me d from i g
+matchmaker_takes me d from (msg.MatchRead t) = match_read_row me d from t
 matchmaker_takes me d from other = answered Stranger tt
 
 abbrev pub matchmaker_row : Cluster → RoleId → MatchmakerDurable → Unit {0} → Input → Outcome (Unit {0})

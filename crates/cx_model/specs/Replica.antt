@@ -1,6 +1,7 @@
--- The replica's rows: it keeps the chosen values in order, executes their commands, and answers (VLDB 2021).
-use Rattle.std.specs.Prelude.{ℕ, ◌+◌, ◌%◌, ◌==◌, Bool, false, ◌&&◌, nat_lt, nat_le, map, if◌then◌else◌, List, [], ◌∷◌, ◌++◌, length, Option, None, Some}
-use Rattle.std.specs.List.{list_all}
+-- The replica's rows: it keeps the chosen values in order, executes their commands, and answers commands and reads (VLDB 2021; deferred
+-- reads are this project's own).
+use Rattle.std.specs.Prelude.{ℕ, ◌+◌, ◌%◌, ◌==◌, Bool, false, ◌&&◌, nat_lt, nat_le, map, filter, if◌then◌else◌, List, [], ◌∷◌, ◌++◌, length, slice_get, Option, None, Some}
+use Rattle.std.specs.List.{list_all, list_any}
 use Rattle.cx_base.specs.declared.cluster.Cluster.{Cluster}
 use Rattle.cx_base.specs.declared.command.Answered.{Answered}
 use Rattle.cx_base.specs.declared.command.Command.{Command}
@@ -8,9 +9,9 @@ use Rattle.cx_base.specs.declared.command.Pair.{Pair}
 use Rattle.cx_base.specs.declared.command.Placed.{Placed}
 use Rattle.cx_base.specs.declared.command.Value.{Value}
 use Rattle.cx_base.specs.declared.role.RoleId.{RoleId}
-use Rattle.cx_base.specs.declared.role.Kind.TheVariants.{Leader, Replica, Unbatcher}
-use Rattle.cx_base.specs.declared.why.Why.TheVariants.{Applied, Early, Past, Resent, Stranger, Window}
-use Rattle.cx_base.specs.Fold.{commands_of, map_after, reply_of}
+use Rattle.cx_base.specs.declared.role.Kind.TheVariants.{Client, Leader, Replica, Unbatcher}
+use Rattle.cx_base.specs.declared.why.Why.TheVariants.{Answered as AnsweredWord, Applied, Deferred as DeferredWord, Early, Fetched, Full, Idle, Past, Resent, Same, Stranger, Window}
+use Rattle.cx_base.specs.Fold.{commands_of, map_after, reply_of, text_at}
 use Rattle.cx_base.specs.Lists.{below}
 use Rattle.cx_base.specs.Log.{value_for, ready_values, still_early}
 use Rattle.cx_base.specs.Noted.{noted_for, with_answer}
@@ -18,21 +19,25 @@ use Rattle.cx_base.specs.Role.{same_role, role}
 use Rattle.cx_msg.specs.Letter.{Letter, letter}
 use Rattle.cx_msg.specs.declared.input.Input.{Input}
 use Rattle.cx_msg.specs.declared.input.Input.TheVariants.{Take, Tick, Order}
+use Rattle.cx_field.specs.declared.parts.Token.{Token}
 use Rattle.cx_msg.specs.declared.message.Msg.{Msg}
 use Rattle.cx_msg.specs.declared.message.Msg.TheVariants as msg
 use Rattle.cx_msg.specs.declared.kept.Record.{Record}
 use Rattle.cx_msg.specs.declared.kept.Record.TheVariants as kept
+use Rattle.cx_model.specs.declared.states.Deferred.{Deferred}
 use Rattle.cx_model.specs.Names.{names, names_value}
 use Rattle.cx_model.specs.Outcome.{Outcome, answered, replied}
+use Rattle.cx_model.specs.Request.{same_read}
 use Rattle.cx_model.specs.Rules.{Rules}
 
 -- the chosen values that it kept, in slot order
 pub record ReplicaDurable : Type 0 where
   pub log : List Value
 
--- the values that came before their turn
+-- the values that came before their turn, and the reads that wait for values, in the order in which they came
 pub record ReplicaVolatile : Type 0 where
   pub early : List Placed
+  pub deferred : List Deferred
 
 -- what executing leaves: the map, and the last answer of each client
 pub record Machine : Type 0 where
@@ -102,13 +107,28 @@ abbrev pub with_early : ℕ → Value → List Placed → Option Value → List 
 with_early s v early None = early ++ record { slot = s; value = v } ∷ []
 with_early s v early (Some first) = early
 
+-- a read is answered with the key's text in the map that so many values leave
+abbrev pub read_answer_to : RoleId → List Value → Deferred → Letter
+read_answer_to me log r =
+    letter me (role Client r.token.client) (msg.ReadAnswer r.token.seq (length log) (text_at r.key (machine_of log).map))
+
+-- the answers to the reads that waited for no more than these values
+abbrev pub read_answers : RoleId → List Value → List Deferred → List Letter
+read_answers me log rs = map (read_answer_to me log) (filter (λ (r : Deferred). nat_le r.mark (length log)) rs)
+
+abbrev pub still_deferred : ℕ → List Deferred → List Deferred
+still_deferred held rs = filter (λ (r : Deferred). nat_lt held r.mark) rs
+
 abbrev pub apply : Cluster → RoleId → ReplicaDurable → ReplicaVolatile → List Value → Outcome ReplicaVolatile
 apply c me d v values =
     record {
       why = Applied;
       kept = Some (kept.Log values);
-      volatile = record { early = still_early (length d.log + length values) v.early };
-      sends = results_from c me (length d.log) (machine_of d.log) values;
+      volatile = record {
+        early = still_early (length d.log + length values) v.early;
+        deferred = still_deferred (length d.log + length values) v.deferred;
+      };
+      sends = results_from c me (length d.log) (machine_of d.log) values ++ read_answers me (d.log ++ values) v.deferred;
     }
 
 -- a proxy leader, or another replica, tells a chosen value
@@ -117,12 +137,30 @@ chosen_row c me d v s value =
     let held = length d.log in
     if nat_lt s held then answered Past v
     else if nat_le (held + 32) s then answered Window v
-    else if nat_lt held s then answered Early (record { early = with_early s value v.early (value_for s v.early) })
+    else if nat_lt held s then answered Early (record v { early = with_early s value v.early (value_for s v.early) })
     else apply c me d v (ready_values held v.early value)
 
-abbrev pub replica_takes : Cluster → RoleId → ReplicaDurable → ReplicaVolatile → Msg → Outcome ReplicaVolatile
-replica_takes c me d v (msg.Chosen s value) = chosen_row c me d v s value
-replica_takes c me d v other = answered Stranger v
+-- a reader asks for a key's text, once so many slots are held; at most 64 reads wait
+abbrev pub read_row : RoleId → ReplicaDurable → ReplicaVolatile → Deferred → Outcome ReplicaVolatile
+read_row me d v r =
+    if nat_le r.mark (length d.log) then replied AnsweredWord v (read_answer_to me d.log r ∷ [])
+    else if list_any (λ (other : Deferred). same_read r.token other.token) v.deferred then answered Same v
+    else if nat_le 64 (length v.deferred) then answered Full v
+    else answered DeferredWord (record v { deferred = v.deferred ++ r ∷ [] })
+
+abbrev pub fetch_found : RoleId → ReplicaVolatile → RoleId → ℕ → Option Value → Outcome ReplicaVolatile
+fetch_found me v from s None = answered Idle v
+fetch_found me v from s (Some value) = replied Fetched v (letter me from (msg.Chosen s value) ∷ [])
+
+-- another replica asks for the value of a slot (this project's own)
+abbrev pub fetch_row : RoleId → ReplicaDurable → ReplicaVolatile → RoleId → ℕ → Outcome ReplicaVolatile
+fetch_row me d v from s = fetch_found me v from s (slice_get d.log s)
+
+abbrev pub replica_takes : Cluster → RoleId → ReplicaDurable → ReplicaVolatile → RoleId → Msg → Outcome ReplicaVolatile
+replica_takes c me d v from (msg.Chosen s value) = chosen_row c me d v s value
+replica_takes c me d v from (msg.Read t n key) = read_row me d v (record { token = t; mark = n; key = key })
+replica_takes c me d v from (msg.Fetch s) = fetch_row me d v from s
+replica_takes c me d v from other = answered Stranger v
 
 abbrev pub held_to : RoleId → ℕ → ℕ → Letter
 held_to me held leader = letter me (role Leader leader) (msg.Held held)
@@ -136,7 +174,7 @@ replica_tick c me d v = replied Resent v (map (held_to me (length d.log)) (below
 
 abbrev pub replica_row : Cluster → RoleId → ReplicaDurable → ReplicaVolatile → Input → Outcome ReplicaVolatile
 replica_row c me d v (Take letter) =
-    if same_role letter.to me && names c letter then replica_takes c me d v letter.msg else answered Stranger v
+    if same_role letter.to me && names c letter then replica_takes c me d v letter.from letter.msg else answered Stranger v
 replica_row c me d v Tick = replica_tick c me d v
 replica_row c me d v (Order order) = answered Stranger v
 
@@ -165,6 +203,6 @@ replica_rules = record {
   empty = record { log = [] };
   after = replica_after;
   fits = replica_fits;
-  fresh = λ c. record { early = [] };
+  fresh = λ c. record { early = []; deferred = [] };
   row = replica_row;
 }

@@ -7,4 +7,4 @@
 
 mod states;
 
-pub use states::{MatchAnswer, Mode, Pending};
+pub use states::{Acked, Deferred, MatchAnswer, Mode, Pending, Plan, Promised, Stage};

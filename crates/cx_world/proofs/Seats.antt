@@ -15,11 +15,12 @@ use Rattle.cx_model.specs.Leader.{LeaderDurable, LeaderVolatile, leader_rules}
 use Rattle.cx_model.specs.Lists.{get_set_same, get_set_other, same_number, bool_cases, differ_role, not_both, number_itself, records_own, records_other}
 use Rattle.cx_model.specs.Matchmaker.{MatchmakerDurable, matchmaker_rules}
 use Rattle.cx_model.specs.Proxy.{ProxyVolatile, proxy_rules}
+use Rattle.cx_model.specs.Reader.{ReaderVolatile, reader_rules}
 use Rattle.cx_model.specs.Replica.{ReplicaDurable, ReplicaVolatile, replica_rules}
 use Rattle.cx_model.specs.Rules.{Rules, Running, folded}
 use Rattle.cx_model.specs.Turn.{turn}
 use Rattle.cx_model.specs.Unbatcher.{unbatcher_rules}
-use Rattle.cx_model.specs.World.{World, Roles, Turns, turn_at, turn_found, turn_done, records_of, kept_by, act_of, act_at, of_batcher, of_leader, of_proxy, of_acceptor, of_matchmaker, of_replica, of_unbatcher}
+use Rattle.cx_model.specs.World.{World, Roles, Turns, turn_at, turn_found, turn_done, records_of, kept_by, act_of, act_at, of_batcher, of_leader, of_proxy, of_acceptor, of_matchmaker, of_replica, of_unbatcher, of_reader}
 use Rattle.cx_msg.specs.Letter.{Letter}
 use Rattle.cx_msg.specs.declared.input.Act.{Act}
 use Rattle.cx_msg.specs.declared.input.KeptRecord.{KeptRecord}
@@ -159,6 +160,7 @@ module _ (w : World) (act : Act) (who : RoleId) (olds : SeatLists) (u v : Why) (
           matchmakers = stay kind.Batcher kind.Matchmaker olds.matchmakers model.kept is refl t.record_kept has.matchmakers;
           replicas = stay kind.Batcher kind.Replica olds.replicas model.kept is refl t.record_kept has.replicas;
           unbatchers = stay kind.Batcher kind.Unbatcher olds.unbatchers model.kept is refl t.record_kept has.unbatchers;
+          readers = stay kind.Batcher kind.Reader olds.readers model.kept is refl t.record_kept has.readers;
         };
       } in
       subst (λ ch. IsChange w ch at v more (record olds { batchers = news }) sent) (sym change) done
@@ -183,6 +185,7 @@ module _ (w : World) (act : Act) (who : RoleId) (olds : SeatLists) (u v : Why) (
           matchmakers = stay kind.Leader kind.Matchmaker olds.matchmakers model.kept is refl t.record_kept has.matchmakers;
           replicas = stay kind.Leader kind.Replica olds.replicas model.kept is refl t.record_kept has.replicas;
           unbatchers = stay kind.Leader kind.Unbatcher olds.unbatchers model.kept is refl t.record_kept has.unbatchers;
+          readers = stay kind.Leader kind.Reader olds.readers model.kept is refl t.record_kept has.readers;
         };
       } in
       subst (λ ch. IsChange w ch at v more (record olds { leaders = news }) sent) (sym change) done
@@ -207,6 +210,7 @@ module _ (w : World) (act : Act) (who : RoleId) (olds : SeatLists) (u v : Why) (
           matchmakers = stay kind.Proxy kind.Matchmaker olds.matchmakers model.kept is refl t.record_kept has.matchmakers;
           replicas = stay kind.Proxy kind.Replica olds.replicas model.kept is refl t.record_kept has.replicas;
           unbatchers = stay kind.Proxy kind.Unbatcher olds.unbatchers model.kept is refl t.record_kept has.unbatchers;
+          readers = stay kind.Proxy kind.Reader olds.readers model.kept is refl t.record_kept has.readers;
         };
       } in
       subst (λ ch. IsChange w ch at v more (record olds { proxies = news }) sent) (sym change) done
@@ -231,6 +235,7 @@ module _ (w : World) (act : Act) (who : RoleId) (olds : SeatLists) (u v : Why) (
           matchmakers = stay kind.Acceptor kind.Matchmaker olds.matchmakers model.kept is refl t.record_kept has.matchmakers;
           replicas = stay kind.Acceptor kind.Replica olds.replicas model.kept is refl t.record_kept has.replicas;
           unbatchers = stay kind.Acceptor kind.Unbatcher olds.unbatchers model.kept is refl t.record_kept has.unbatchers;
+          readers = stay kind.Acceptor kind.Reader olds.readers model.kept is refl t.record_kept has.readers;
         };
       } in
       subst (λ ch. IsChange w ch at v more (record olds { acceptors = news }) sent) (sym change) done
@@ -255,6 +260,7 @@ module _ (w : World) (act : Act) (who : RoleId) (olds : SeatLists) (u v : Why) (
           matchmakers = subst (λ l. AreSeats w.cluster kind.Matchmaker (w.kept ++ l) news) t.record_kept t.seats;
           replicas = stay kind.Matchmaker kind.Replica olds.replicas model.kept is refl t.record_kept has.replicas;
           unbatchers = stay kind.Matchmaker kind.Unbatcher olds.unbatchers model.kept is refl t.record_kept has.unbatchers;
+          readers = stay kind.Matchmaker kind.Reader olds.readers model.kept is refl t.record_kept has.readers;
         };
       } in
       subst (λ ch. IsChange w ch at v more (record olds { matchmakers = news }) sent) (sym change) done
@@ -279,6 +285,7 @@ module _ (w : World) (act : Act) (who : RoleId) (olds : SeatLists) (u v : Why) (
           matchmakers = stay kind.Replica kind.Matchmaker olds.matchmakers model.kept is refl t.record_kept has.matchmakers;
           replicas = subst (λ l. AreSeats w.cluster kind.Replica (w.kept ++ l) news) t.record_kept t.seats;
           unbatchers = stay kind.Replica kind.Unbatcher olds.unbatchers model.kept is refl t.record_kept has.unbatchers;
+          readers = stay kind.Replica kind.Reader olds.readers model.kept is refl t.record_kept has.readers;
         };
       } in
       subst (λ ch. IsChange w ch at v more (record olds { replicas = news }) sent) (sym change) done
@@ -303,6 +310,32 @@ module _ (w : World) (act : Act) (who : RoleId) (olds : SeatLists) (u v : Why) (
           matchmakers = stay kind.Unbatcher kind.Matchmaker olds.matchmakers model.kept is refl t.record_kept has.matchmakers;
           replicas = stay kind.Unbatcher kind.Replica olds.replicas model.kept is refl t.record_kept has.replicas;
           unbatchers = subst (λ l. AreSeats w.cluster kind.Unbatcher (w.kept ++ l) news) t.record_kept t.seats;
+          readers = stay kind.Unbatcher kind.Reader olds.readers model.kept is refl t.record_kept has.readers;
         };
       } in
       subst (λ ch. IsChange w ch at v more (record olds { unbatchers = news }) sent) (sym change) done
+
+  pub reader_change : who.kind ≡ kind.Reader → (news : List (Seat (Running (Unit {0}) ReaderVolatile))) → TurnsAt reader_rules (λ s. s) act who.index olds.readers news u r sent → IsChange w (act_at w act who) at v more (record olds { readers = news }) sent
+  reader_change is news turns =
+      let t = turned_at reader_rules w.cluster kind.Reader w.kept who is act olds.readers news u r sent has.readers (slice_get olds.readers who.index) refl turns in
+      let model = turn_at reader_rules w.cluster who w.kept act (volatiles olds.readers) in
+      let change : act_at w act who ≡ of_reader who w.roles model =
+      ap (λ x. act_of w.cluster w.roles w.kept act who x) is ∙ ap (λ (x : Roles). of_reader who w.roles (turn_at reader_rules w.cluster who w.kept act x.readers)) has.roles in
+      let done : IsChange w (of_reader who w.roles model) at v more (record olds { readers = news }) sent = record {
+        who_is = same_who;
+        why = same_why ∙ t.why;
+        kept = same_kept ∙ t.record_kept;
+        sends = t.sends;
+        seats = record {
+          roles = ap (λ (x : Roles). record x { readers = model.roles }) has.roles ∙ ap (λ l. record (roles_of olds) { readers = l }) (sym t.roles);
+          batchers = stay kind.Reader kind.Batcher olds.batchers model.kept is refl t.record_kept has.batchers;
+          leaders = stay kind.Reader kind.Leader olds.leaders model.kept is refl t.record_kept has.leaders;
+          proxies = stay kind.Reader kind.Proxy olds.proxies model.kept is refl t.record_kept has.proxies;
+          acceptors = stay kind.Reader kind.Acceptor olds.acceptors model.kept is refl t.record_kept has.acceptors;
+          matchmakers = stay kind.Reader kind.Matchmaker olds.matchmakers model.kept is refl t.record_kept has.matchmakers;
+          replicas = stay kind.Reader kind.Replica olds.replicas model.kept is refl t.record_kept has.replicas;
+          unbatchers = stay kind.Reader kind.Unbatcher olds.unbatchers model.kept is refl t.record_kept has.unbatchers;
+          readers = subst (λ l. AreSeats w.cluster kind.Reader (w.kept ++ l) news) t.record_kept t.seats;
+        };
+      } in
+      subst (λ ch. IsChange w ch at v more (record olds { readers = news }) sent) (sym change) done

@@ -12,6 +12,7 @@ use Rattle.cx_model.specs.Batcher.{batcher_rules}
 use Rattle.cx_model.specs.Leader.{leader_rules}
 use Rattle.cx_model.specs.Matchmaker.{matchmaker_rules}
 use Rattle.cx_model.specs.Proxy.{proxy_rules}
+use Rattle.cx_model.specs.Reader.{reader_rules}
 use Rattle.cx_model.specs.Replica.{replica_rules}
 use Rattle.cx_model.specs.Unbatcher.{unbatcher_rules}
 use Rattle.cx_model.specs.World.{World, Roles, change, step, start, fresh_roles, run, run_from, event_list}
@@ -58,6 +59,7 @@ held_after w e at u r seats sends ch ran events kept sent out same_events same_k
         matchmakers = subst (λ l. AreSeats w.cluster kind.Matchmaker l seats.matchmakers) (sym all_kept) ch.seats.matchmakers;
         replicas = subst (λ l. AreSeats w.cluster kind.Replica l seats.replicas) (sym all_kept) ch.seats.replicas;
         unbatchers = subst (λ l. AreSeats w.cluster kind.Unbatcher l seats.unbatchers) (sym all_kept) ch.seats.unbatchers;
+        readers = subst (λ l. AreSeats w.cluster kind.Reader l seats.readers) (sym all_kept) ch.seats.readers;
       };
       ran = stepped ∙ ap (λ x. step x e) ran ∙ sym (run_one _ (event_list w.events) e) ∙ ap (λ l. run w.cluster l) (sym listed);
     }
@@ -67,6 +69,6 @@ pub same_start : (c : Cluster) (seats : SeatLists)
     → volatiles seats.batchers ≡ fresh_roles (batcher_rules.fresh c) c.batchers → volatiles seats.leaders ≡ fresh_roles (leader_rules.fresh c) c.leaders
     → volatiles seats.proxies ≡ fresh_roles (proxy_rules.fresh c) c.proxies → volatiles seats.acceptors ≡ fresh_roles (acceptor_rules.fresh c) c.acceptors
     → volatiles seats.matchmakers ≡ fresh_roles (matchmaker_rules.fresh c) (2 * c.f + 1) → volatiles seats.replicas ≡ fresh_roles (replica_rules.fresh c) c.replicas
-    → volatiles seats.unbatchers ≡ fresh_roles (unbatcher_rules.fresh c) c.unbatchers
+    → volatiles seats.unbatchers ≡ fresh_roles (unbatcher_rules.fresh c) c.unbatchers → volatiles seats.readers ≡ fresh_roles (reader_rules.fresh c) c.readers
     → make_world c (roles_of seats) [] [] [] ≡ start c
-same_start c seats p q r s t u v = rw (p, q, r, s, t, u, v) refl
+same_start c seats p q r s t u v x = rw (p, q, r, s, t, u, v, x) refl

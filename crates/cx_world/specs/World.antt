@@ -11,6 +11,7 @@ use Rattle.cx_model.specs.Batcher.{BatcherVolatile}
 use Rattle.cx_model.specs.Leader.{LeaderDurable, LeaderVolatile}
 use Rattle.cx_model.specs.Matchmaker.{MatchmakerDurable}
 use Rattle.cx_model.specs.Proxy.{ProxyVolatile}
+use Rattle.cx_model.specs.Reader.{ReaderVolatile}
 use Rattle.cx_model.specs.Replica.{ReplicaDurable, ReplicaVolatile}
 use Rattle.cx_model.specs.Rules.{Running}
 use Rattle.cx_model.specs.World.{World, Roles, Change, change, step, run, event_list}
@@ -57,6 +58,7 @@ pub record SeatLists : Type 0 where
   pub matchmakers : List (Seat (Running MatchmakerDurable (Unit {0})))
   pub replicas : List (Seat (Running ReplicaDurable ReplicaVolatile))
   pub unbatchers : List (Seat (Running (Unit {0}) (Unit {0})))
+  pub readers : List (Seat (Running (Unit {0}) ReaderVolatile))
 
 abbrev pub lists_of : Seats → SeatLists
 lists_of seats =
@@ -68,6 +70,7 @@ lists_of seats =
       matchmakers = seats.matchmakers.items;
       replicas = seats.replicas.items;
       unbatchers = seats.unbatchers.items;
+      readers = seats.readers.items;
     }
 
 abbrev pub roles_of : SeatLists → Roles
@@ -80,6 +83,7 @@ roles_of seats =
       matchmakers = volatiles seats.matchmakers;
       replicas = volatiles seats.replicas;
       unbatchers = volatiles seats.unbatchers;
+      readers = volatiles seats.readers;
     }
 
 -- the seats of a world: the roles that run, and each role's part of the history of records
@@ -92,6 +96,7 @@ pub record HasSeats (c : Cluster) (r : Roles) (kept : List KeptRecord) (seats : 
   pub matchmakers : AreSeats c kind.Matchmaker kept seats.matchmakers
   pub replicas : AreSeats c kind.Replica kept seats.replicas
   pub unbatchers : AreSeats c kind.Unbatcher kept seats.unbatchers
+  pub readers : AreSeats c kind.Reader kept seats.readers
 
 -- a change was made to the seats
 pub record IsChange (w : World) (ch : Change) (who : Option RoleId) (u : Why) (r : Option KeptRecord) (new : SeatLists) (sent : List Letter) : Type 0 where

@@ -21,6 +21,7 @@ use cx_leader::Leader;
 use cx_match::Matchmaker;
 use cx_msg::{Act, Datagram, Input, KeptRecord, read_req, submit};
 use cx_proxy::Proxy;
+use cx_reader::Reader;
 use cx_replica::Replica;
 use cx_role::Outbox;
 use std::alloc::Global;
@@ -35,6 +36,7 @@ pub struct Seats {
     pub matchmakers: Vec<Seat<Matchmaker>>,
     pub replicas: Vec<Seat<Replica>>,
     pub unbatchers: Vec<Seat<Unbatcher>>,
+    pub readers: Vec<Seat<Reader>>,
 }
 
 /// What an event came to, beside the roles and the outbox: at which role, in which word, and which record was kept.
@@ -69,7 +71,7 @@ fn nothing(who: Option<RoleId>, why: Why) -> Changed
     }
 }
 
-// An act at a role. A client hears whatever it is given, and readers never run.
+// An act at a role. A client hears whatever it is given.
 fn act(
     alloc: Global,
     seats: &mut Seats,
@@ -110,7 +112,10 @@ fn act(
             let turned = act_at(alloc, &mut seats.unbatchers, who.index, act, out)?;
             Ok(of_role(who, turned))
         }
-        Kind::Reader => Ok(nothing(Some(who), Why::Down)),
+        Kind::Reader => {
+            let turned = act_at(alloc, &mut seats.readers, who.index, act, out)?;
+            Ok(of_role(who, turned))
+        }
     }
 }
 

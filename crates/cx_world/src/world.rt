@@ -102,6 +102,7 @@ impl World {
             matchmakers: open_all(alloc, &cluster, Kind::Matchmaker, matchmakers)?,
             replicas: open_all(alloc, &cluster, Kind::Replica, cluster.replicas)?,
             unbatchers: open_all(alloc, &cluster, Kind::Unbatcher, cluster.unbatchers)?,
+            readers: open_all(alloc, &cluster, Kind::Reader, cluster.readers)?,
         };
         Ok(World {
             alloc,

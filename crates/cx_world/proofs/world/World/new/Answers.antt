@@ -13,6 +13,7 @@ invariant_of-result c =
     let matchmakers = c.in_ok-open_all-5.ensures in
     let replicas = c.in_ok-open_all-6.ensures in
     let unbatchers = c.in_ok-open_all-7.ensures in
+    let readers = c.in_ok-open_all-8.ensures in
     let lists : SeatLists = record {
       batchers = c.in_ok-open_all.field-0.items;
       leaders = c.in_ok-open_all-2.field-0.items;
@@ -21,6 +22,7 @@ invariant_of-result c =
       matchmakers = c.in_ok-open_all-5.field-0.items;
       replicas = c.in_ok-open_all-6.field-0.items;
       unbatchers = c.in_ok-open_all-7.field-0.items;
+      readers = c.in_ok-open_all-8.field-0.items;
     } in
     λ _. rw (c.new.ensures.items, c.new-2.ensures.items, c.new-3.ensures.items) (record {
       out = ap (λ (out : Outgoing). out.list) c.new-4.ensures;
@@ -33,6 +35,7 @@ invariant_of-result c =
         matchmakers = matchmakers.seats;
         replicas = replicas.seats;
         unbatchers = unbatchers.seats;
+        readers = readers.seats;
       };
-      ran = same_start c.args.cluster lists batchers.roles leaders.roles proxies.roles acceptors.roles matchmakers.roles replicas.roles unbatchers.roles;
+      ran = same_start c.args.cluster lists batchers.roles leaders.roles proxies.roles acceptors.roles matchmakers.roles replicas.roles unbatchers.roles readers.roles;
     })
