@@ -113,7 +113,7 @@ fn shorter(alloc: Global, bytes: &[u8], cut: usize) -> Result<Vec<u8>, Fail>
     requires within { cut ≤ length bytes.now }
 {
     let mut short = bytes[..10].to_vec(alloc)?;
-    let said = (cut - 12) as u16;
+    let said = u16::try_from(cut - 12)?;
     short.extend_from_slice(&said.to_be_bytes())?;
     short.extend_from_slice(&bytes[12..cut])?;
     Ok(short)
