@@ -11,7 +11,7 @@ ghost use Rattle.cx_field.specs.Fields as field;
 ghost use Rattle.cx_field.specs.Reading.{Reads, Gives};
 
 use crate::fault::ReadFault;
-use crate::items::items_from;
+use crate::items::{items_from, list_from};
 use crate::lists::{AnsweredItems, CommandItems, EntryItems, MemberItems, ValueItems, VoteItems};
 use crate::parts::{Answers, Entries, LogValues, Token, Votes};
 use crate::reader::Reader;
@@ -186,12 +186,7 @@ pub fn command_from(reader: &mut Reader<'_>) -> Result<Command, ReadFault>
 pub fn commands_from(alloc: Global, reader: &mut Reader<'_>) -> Result<Commands, ReadFault>
     ensures { Reads field.commands reader.old result reader.new }
 {
-    let left = reader.left();
-    let count = reader.u8()?;
-    if count < 1 || count > 8 {
-        return Err(ReadFault::Bad { left });
-    }
-    let list = items_from(alloc, &CommandItems, count as usize, reader)?;
+    let list = list_from(alloc, &CommandItems, 1, 8, reader)?;
     Ok(Few::from_vec(list))
 }
 
@@ -298,12 +293,7 @@ pub fn found_from(reader: &mut Reader<'_>) -> Result<Option<Text>, ReadFault>
 pub fn entries_from(alloc: Global, reader: &mut Reader<'_>) -> Result<Entries, ReadFault>
     ensures { Reads field.entries reader.old result reader.new }
 {
-    let left = reader.left();
-    let count = reader.u8()?;
-    if count > 17 {
-        return Err(ReadFault::Bad { left });
-    }
-    let list = items_from(alloc, &EntryItems, count as usize, reader)?;
+    let list = list_from(alloc, &EntryItems, 0, 17, reader)?;
     Ok(Few::from_vec(list))
 }
 
@@ -313,12 +303,7 @@ pub fn entries_from(alloc: Global, reader: &mut Reader<'_>) -> Result<Entries, R
 pub fn votes_from(alloc: Global, cw: u64, reader: &mut Reader<'_>) -> Result<Votes, ReadFault>
     ensures { Reads (field.votes cw) reader.old result reader.new }
 {
-    let left = reader.left();
-    let count = reader.u8()?;
-    if count > 32 {
-        return Err(ReadFault::Bad { left });
-    }
-    let list = items_from(alloc, &VoteItems { cw }, count as usize, reader)?;
+    let list = list_from(alloc, &VoteItems { cw }, 0, 32, reader)?;
     Ok(Few::from_vec(list))
 }
 
@@ -327,12 +312,7 @@ pub fn votes_from(alloc: Global, cw: u64, reader: &mut Reader<'_>) -> Result<Vot
 pub fn answers_from(alloc: Global, reader: &mut Reader<'_>) -> Result<Answers, ReadFault>
     ensures { Reads field.answers reader.old result reader.new }
 {
-    let left = reader.left();
-    let count = reader.u8()?;
-    if count < 1 || count > 8 {
-        return Err(ReadFault::Bad { left });
-    }
-    let list = items_from(alloc, &AnsweredItems, count as usize, reader)?;
+    let list = list_from(alloc, &AnsweredItems, 1, 8, reader)?;
     Ok(Few::from_vec(list))
 }
 
@@ -341,11 +321,6 @@ pub fn answers_from(alloc: Global, reader: &mut Reader<'_>) -> Result<Answers, R
 pub fn values_from(alloc: Global, reader: &mut Reader<'_>) -> Result<LogValues, ReadFault>
     ensures { Reads field.values reader.old result reader.new }
 {
-    let left = reader.left();
-    let count = reader.u8()?;
-    if count < 1 || count > 32 {
-        return Err(ReadFault::Bad { left });
-    }
-    let list = items_from(alloc, &ValueItems, count as usize, reader)?;
+    let list = list_from(alloc, &ValueItems, 1, 32, reader)?;
     Ok(Few::from_vec(list))
 }

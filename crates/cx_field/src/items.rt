@@ -1,7 +1,7 @@
 //! Lists of fields.
 
-ghost use Rattle.std.specs.Prelude.{◌≡◌, ◌≤◌, ◌+◌, ◌*◌, ◌++◌, ℕ, List, [], length, IfOk, OnOk, vec_len};
-ghost use Rattle.cx_wire.specs.Format.{Format, each_read, each_spell};
+ghost use Rattle.std.specs.Prelude.{◌≡◌, ◌≤◌, ◌+◌, ◌*◌, ◌++◌, ◌&&◌, nat_le, ℕ, List, [], length, IfOk, OnOk, vec_len};
+ghost use Rattle.cx_wire.specs.Format.{Format, u8, only, counted, each_read, each_spell};
 ghost use Rattle.cx_field.specs.Reading.{Reads, Gives};
 
 use crate::fault::ReadFault;
@@ -52,6 +52,36 @@ where
         list.push(item)?;
     }
     Ok(list)
+}
+
+// How many values a list has.
+fn count_from(least: u8, most: u8, reader: &mut Reader<'_>) -> Result<usize, ReadFault>
+    ensures { Reads (only (λ n. nat_le least n && nat_le n most) u8) reader.old result reader.new }
+{
+    let left = reader.left();
+    let count = reader.u8()?;
+    if count < least || count > most {
+        return Err(ReadFault::Bad { left });
+    }
+    Ok(count as usize)
+}
+
+/// Reads values, and how many there are before them, in a byte.
+pub fn list_from<I: Items>(
+    alloc: Global,
+    items: &I,
+    least: u8,
+    most: u8,
+    reader: &mut Reader<'_>,
+) -> Result<Vec<I::Item>, ReadFault>
+where
+    I::Item: Drop,
+    ensures read { Gives (λ v. v.items) result ((counted (only (λ n. nat_le least n && nat_le n most) u8) (I.format items.now)).read reader.old) reader.new }
+    ensures least { IfOk result (λ v. least ≤ vec_len v) }
+    ensures most { IfOk result (λ v. vec_len v ≤ most) }
+{
+    let count = count_from(least, most, reader)?;
+    items_from(alloc, items, count, reader)
 }
 
 /// Appends values.

@@ -24,7 +24,7 @@ use Rattle.cx_msg.proofs.Sizes.{body-sizes}
 use Rattle.cx_msg.proofs.BodyLaws.{bodies-sound, body-again}
 use Rattle.cx_msg.proofs.PartsLaws.{Fitting, fitting}
 
-header-exact : IsExact header
+pub header-exact : IsExact header
 unfolding header
 header-exact = shaped-exact {A = ℕ × (ℕ × (ℕ × (ℕ × (ℕ × (ℕ × (ℕ × ℕ))))))} _ _ (u16 ▷ (u8 ▷ (u8 ▷ (u8 ▷ (u16 ▷ (u8 ▷ (u16 ▷ u16)))))))
     (▷-exact u16 (u8 ▷ (u8 ▷ (u8 ▷ (u16 ▷ (u8 ▷ (u16 ▷ u16)))))) u16-exact

@@ -21,7 +21,7 @@ round_mark-exact = ▷-exact round mark round-exact mark-exact
 round_grid-exact : IsExact round_grid
 round_grid-exact = ▷-exact round grid round-exact grid-exact
 
-records-sound : AllSound record_shape record_cases
+pub records-sound : AllSound record_shape record_cases
 unfolding record_cases
 records-sound = (
   case-sound record_shape 1 round (λ x. kept.Promise x) round-exact (λ _. refl),

@@ -3,8 +3,9 @@
 ghost use Rattle.std.specs.Prelude.{◌≡◌, length};
 ghost use Rattle.cx_wire.specs.Format as wire;
 ghost use Rattle.cx_field.specs.Fields as field;
+ghost use Rattle.cx_field.specs.Fields.{in_window};
 ghost use Rattle.cx_msg.specs.Messages as message;
-ghost use Rattle.cx_field.specs.Reading.{Gives};
+ghost use Rattle.cx_field.specs.Reading.{Gives, Reads};
 
 use crate::message::Msg;
 use cx_field::{
@@ -139,6 +140,18 @@ fn nack_from(reader: &mut Reader<'_>) -> Result<Msg, ReadFault>
     Ok(Msg::Nack { round, promise })
 }
 
+// A watermark whose window has the slot.
+fn window_from(slot: u64, reader: &mut Reader<'_>) -> Result<u64, ReadFault>
+    ensures { Reads (wire.only (λ cw. in_window cw slot) field.mark) reader.old result reader.new }
+{
+    let left = reader.left();
+    let cw = mark_from(reader)?;
+    if slot < cw || slot - cw >= 32 {
+        return Err(ReadFault::Bad { left });
+    }
+    Ok(cw)
+}
+
 #[tactic(auto, unfolding(crate::specs::Messages::propose))]
 fn propose_from(alloc: Global, reader: &mut Reader<'_>) -> Result<Msg, ReadFault>
     ensures { Gives (λ m. m) result ((wire.case 10 message.propose (λ x. Msg.Propose x.0 x.1.0 x.1.1.0 x.1.1.1.0 x.1.1.1.1)).read reader.old) reader.new }
@@ -146,11 +159,7 @@ fn propose_from(alloc: Global, reader: &mut Reader<'_>) -> Result<Msg, ReadFault
     let round = round_from(reader)?;
     let grid = grid_from(alloc, reader)?;
     let slot = slot_from(reader)?;
-    let left = reader.left();
-    let cw = mark_from(reader)?;
-    if slot < cw || slot - cw >= 32 {
-        return Err(ReadFault::Bad { left });
-    }
+    let cw = window_from(slot, reader)?;
     let value = value_from(alloc, reader)?;
     Ok(Msg::Propose {
         round,
@@ -167,11 +176,7 @@ fn phase2a_from(alloc: Global, reader: &mut Reader<'_>) -> Result<Msg, ReadFault
 {
     let round = round_from(reader)?;
     let slot = slot_from(reader)?;
-    let left = reader.left();
-    let cw = mark_from(reader)?;
-    if slot < cw || slot - cw >= 32 {
-        return Err(ReadFault::Bad { left });
-    }
+    let cw = window_from(slot, reader)?;
     let value = value_from(alloc, reader)?;
     Ok(Msg::Phase2A {
         round,

@@ -1,10 +1,11 @@
 //! Datagrams from bytes.
 
-ghost use Rattle.std.specs.Prelude.{◌≡◌, ◌≤◌, ◌++◌, ℕ, List, [], IfOk, IsTrue, length};
+ghost use Rattle.std.specs.Prelude.{◌≡◌, ◌≤◌, ◌++◌, ℕ, List, [], IfOk, IfErr, IsTrue, length};
 ghost use Rattle.cx_msg.specs.Letter.{Letter, spelling, fits};
 ghost use Rattle.cx_msg.specs.Parts.{DecodesParts};
 ghost use Rattle.cx_msg.specs.Decoding.{decoded, Decodes, finished, after_header};
 ghost use Rattle.cx_msg.specs.Messages.{body_cases};
+ghost use Rattle.cx_msg.specs.Places.{LiesIn};
 ghost use Rattle.cx_wire.specs.Format.{by_tag};
 
 use crate::bodies::body_from;
@@ -132,6 +133,8 @@ pub fn decode(alloc: Global, bytes: &[u8]) -> Result<Datagram, WireFault>
     ensures only { (d : Letter) → IsTrue (fits d) → bytes.now ≡ spelling d → Decodes result (Ok d) }
     // Which fault it is.
     ensures exact { Decodes result (decoded bytes.now) }
+    // Where it lies.
+    ensures place { IfErr result (λ fault. LiesIn 4 bytes.now fault) }
 {
     match read(alloc, bytes) {
         Ok(Parts { from, to, msg }) => Ok(Datagram::new(from, to, msg)),

@@ -40,3 +40,5 @@ pub use records::{record_from, record_into};
 
 #[cfg(test)]
 mod tests;
+#[cfg(test)]
+mod vectors;

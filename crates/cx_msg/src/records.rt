@@ -1,8 +1,9 @@
 //! Records as bytes, both ways.
 
-ghost use Rattle.std.specs.Prelude.{◌≡◌, ◌≤◌, ◌+◌, ◌++◌, IfOk, IsTrue, OnOk, OnErr, length};
+ghost use Rattle.std.specs.Prelude.{◌≡◌, ◌≤◌, ◌+◌, ◌++◌, IfOk, IfErr, IsTrue, OnOk, OnErr, length};
 ghost use Rattle.cx_wire.specs.Format as wire;
 ghost use Rattle.cx_wire.specs.Format.{Appends};
+ghost use Rattle.cx_msg.specs.Places.{LiesIn};
 ghost use Rattle.cx_msg.specs.Records as records;
 ghost use Rattle.cx_field.specs.Reading.{Gives};
 ghost use Rattle.cx_msg.specs.declared.kept.Record.{Record as Kept};
@@ -109,6 +110,8 @@ pub fn record_from(alloc: Global, bytes: &[u8]) -> Result<Record, WireFault>
     ensures only { (r : Kept) → IsTrue (records.fits r) → bytes.now ≡ records.spelling r → records.Decodes result (Ok r) }
     // Which fault it is.
     ensures exact { records.Decodes result (records.recorded bytes.now) }
+    // Where it lies.
+    ensures place { IfErr result (λ fault. LiesIn 1 bytes.now fault) }
 {
     read(alloc, bytes)
 }
