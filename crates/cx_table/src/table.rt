@@ -7,13 +7,14 @@ ghost use Rattle.cx_table.specs.Judged.{judge_of};
 use crate::judge::Judge;
 use crate::notes;
 use cx_base::{Answered, Duplicate, NoMemory, Reply};
+use indexmap::IndexMap;
 use std::alloc::Global;
 use std::marker::Model;
 
 /// The last answer of each client, which contracts see as a list in the order in which the clients came.
-#[derive(Debug, Drop)]
+#[derive(Drop)]
 pub struct Table {
-    notes: Vec<Answered>,
+    notes: IndexMap<u16, Answered>,
 }
 
 impl Model for Table {
@@ -22,7 +23,11 @@ impl Model for Table {
 
     ghost Value = { List Answered };
 
-    ghost view = { λ table. table.notes.items };
+    ghost use Rattle.cx_table.specs.Entries.{answers_in, AreByClient};
+
+    ghost view = { λ table. answers_in table.notes.entries };
+
+    ghost invariant = { λ table. AreByClient table.notes.entries };
 }
 
 impl Table {
@@ -31,7 +36,7 @@ impl Table {
         ensures { IfOk result (λ table. table ≡ []) }
     {
         Ok(Table {
-            notes: Vec::new(alloc),
+            notes: IndexMap::new(alloc),
         })
     }
 
@@ -40,7 +45,7 @@ impl Table {
     pub fn judge(&self, client: u16, seq: u64) -> Judge
         ensures { result ≡ judge_of self.now client seq }
     {
-        notes::judge(self.notes.as_slice(), client, seq)
+        notes::judge(&self.notes, client, seq)
     }
 
     /// Notes the answer of a client's new number: one more than its slot, and the reply.
@@ -57,18 +62,11 @@ impl Table {
         };
         notes::note(&mut self.notes, &answer)
     }
-
-    /// The noted answers, in the order in which the clients came. It takes no memory.
-    pub fn as_slice(&self) -> &[Answered]
-        ensures { result.now ≡ self.now }
-    {
-        self.notes.as_slice()
-    }
 }
 
 impl Duplicate for Table {
     fn copy(&self, alloc: Global) -> Result<Self, NoMemory> {
-        let notes = Vec::from_slice(alloc, self.notes.as_slice())?;
+        let notes = notes::copy(alloc, &self.notes)?;
         Ok(Table { notes })
     }
 }
