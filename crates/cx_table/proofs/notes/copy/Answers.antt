@@ -1,4 +1,4 @@
-use Rattle.std.proofs.Common.{◌≡◌, [], nat_eq}
+use Rattle.std.proofs.Common.{[]}
 use Rattle.cx_table.proofs.Entries.{all_put}
 use Rattle.cx_table.proofs.notes.copy.Goals as goal
 

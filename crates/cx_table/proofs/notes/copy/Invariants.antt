@@ -1,4 +1,4 @@
-use Rattle.std.proofs.Common.{◌≡◌, nat_eq, drop}
+use Rattle.std.proofs.Common.{◌≡◌, nat_eq}
 use Rattle.indexmap.specs.IndexMap.{insert_all}
 use Rattle.cx_table.proofs.notes.copy.Given as goal
 
