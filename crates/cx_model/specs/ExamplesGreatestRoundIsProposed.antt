@@ -118,15 +118,15 @@ story =
       sending letter (leader 1) (acceptor 2) (msg.Phase1A fourth)  -- 35
       sending letter (leader 1) (acceptor 3) (msg.Phase1A fourth)  -- 36
       sending letter (leader 1) (acceptor 4) (msg.Phase1A fourth) ∷  -- 37
-    deliver 35 ⇒ why.Promised
-      keeping kept.Promise fourth by acceptor 2
-      sending letter (acceptor 2) (leader 1) (msg.Phase1B fourth 0 (vote second 0 (only put_again) ∷ [])) ∷  -- 38
-    deliver 33 ⇒ why.Promised
-      keeping kept.Promise fourth by acceptor 0
-      sending letter (acceptor 0) (leader 1) (msg.Phase1B fourth 0 (vote first 0 (only put_a) ∷ [])) ∷  -- 39
     deliver 37 ⇒ why.Promised
       keeping kept.Promise fourth by acceptor 4
-      sending letter (acceptor 4) (leader 1) (msg.Phase1B fourth 0 []) ∷  -- 40
+      sending letter (acceptor 4) (leader 1) (msg.Phase1B fourth 0 []) ∷  -- 38
+    deliver 35 ⇒ why.Promised
+      keeping kept.Promise fourth by acceptor 2
+      sending letter (acceptor 2) (leader 1) (msg.Phase1B fourth 0 (vote second 0 (only put_again) ∷ [])) ∷  -- 39
+    deliver 33 ⇒ why.Promised
+      keeping kept.Promise fourth by acceptor 0
+      sending letter (acceptor 0) (leader 1) (msg.Phase1B fourth 0 (vote first 0 (only put_a) ∷ [])) ∷  -- 40
     deliver 38 ⇒ why.Counted ∷
     deliver 39 ⇒ why.Counted ∷
     deliver 40 ⇒ why.Leads

@@ -62,61 +62,65 @@ story =
       sending letter (replica 0) (leader 0) (msg.Held 1)  -- 15
       sending letter (replica 0) (replica 1) (msg.Fetch 1) ∷  -- 16
     deliver 15 ⇒ why.Held ∷
+    event.Tick (leader 0) ⇒ why.Resent
+      sending letter (leader 0) (proxy 0) (msg.Propose first (single 0) 0 0 (only put_a))  -- 17
+      sending letter (leader 0) (batcher 0) (msg.Leads first) ∷  -- 18
     deliver 12 ⇒ why.Applied
       keeping kept.Log (only put_a ∷ []) by replica 1 ∷
     event.Tick (replica 1) ⇒ why.Resent
-      sending letter (replica 1) (leader 0) (msg.Held 1)  -- 17
-      sending letter (replica 1) (replica 0) (msg.Fetch 1) ∷  -- 18
-    deliver 17 ⇒ why.Held ∷
+      sending letter (replica 1) (leader 0) (msg.Held 1)  -- 19
+      sending letter (replica 1) (replica 0) (msg.Fetch 1) ∷  -- 20
+    deliver 19 ⇒ why.Held ∷
     event.Write put_b 0 ⇒ why.Sent
-      sending letter (client 0) (batcher 0) (msg.Submit put_b) ∷  -- 19
-    deliver 19 ⇒ why.Batched
-      sending letter (batcher 0) (leader 0) (msg.Batch (put_b ∷ [])) ∷  -- 20
-    deliver 20 ⇒ why.Proposed
-      sending letter (leader 0) (proxy 0) (msg.Propose first (single 0) 1 1 (only put_b)) ∷  -- 21
-    deliver 21 ⇒ why.Asking
-      sending letter (proxy 0) (acceptor 0) (msg.Phase2A first 1 1 (only put_b)) ∷  -- 22
-    deliver 22 ⇒ why.Voted
+      sending letter (client 0) (batcher 0) (msg.Submit put_b) ∷  -- 21
+    deliver 21 ⇒ why.Batched
+      sending letter (batcher 0) (leader 0) (msg.Batch (put_b ∷ [])) ∷  -- 22
+    deliver 22 ⇒ why.Proposed
+      sending letter (leader 0) (proxy 0) (msg.Propose first (single 0) 1 1 (only put_b)) ∷  -- 23
+    deliver 23 ⇒ why.Asking
+      sending letter (proxy 0) (acceptor 0) (msg.Phase2A first 1 1 (only put_b)) ∷  -- 24
+    deliver 24 ⇒ why.Voted
       keeping kept.Vote first 1 1 (only put_b) by acceptor 0
-      sending letter (acceptor 0) (proxy 0) (msg.Phase2B first 1) ∷  -- 23
+      sending letter (acceptor 0) (proxy 0) (msg.Phase2B first 1) ∷  -- 25
     deliver 9 ⇒ why.Past ∷
     deliver 10 ⇒ why.Unasked ∷
-    deliver 23 ⇒ why.Chosen
-      sending letter (proxy 0) (replica 0) (msg.Chosen 1 (only put_b))  -- 24
-      sending letter (proxy 0) (replica 1) (msg.Chosen 1 (only put_b))  -- 25
-      sending letter (proxy 0) (leader 0) (msg.ChosenIn first 1) ∷  -- 26
-    deliver 25 ⇒ why.Applied
+    deliver 17 ⇒ why.Past ∷
+    deliver 25 ⇒ why.Chosen
+      sending letter (proxy 0) (replica 0) (msg.Chosen 1 (only put_b))  -- 26
+      sending letter (proxy 0) (replica 1) (msg.Chosen 1 (only put_b))  -- 27
+      sending letter (proxy 0) (leader 0) (msg.ChosenIn first 1) ∷  -- 28
+    deliver 27 ⇒ why.Applied
       keeping kept.Log (only put_b ∷ []) by replica 1
-      sending letter (replica 1) (unbatcher 0) (msg.Results 1 (answered 0 2 2 Okay ∷ [])) ∷  -- 27
-    deliver 18 ⇒ why.Idle ∷
+      sending letter (replica 1) (unbatcher 0) (msg.Results 1 (answered 0 2 2 Okay ∷ [])) ∷  -- 29
+    deliver 20 ⇒ why.Idle ∷
     deliver 16 ⇒ why.Fetched
-      sending letter (replica 1) (replica 0) (msg.Chosen 1 (only put_b)) ∷  -- 28
-    deliver 28 ⇒ why.Applied
+      sending letter (replica 1) (replica 0) (msg.Chosen 1 (only put_b)) ∷  -- 30
+    deliver 30 ⇒ why.Applied
       keeping kept.Log (only put_b ∷ []) by replica 0 ∷
-    deliver 24 ⇒ why.Past ∷
+    deliver 26 ⇒ why.Past ∷
     lead 0 (single 0) ⇒ why.Started
       keeping kept.Round next (single 0) by leader 0
-      sending letter (leader 0) (matchmaker 0) (msg.MatchA next (single 0))  -- 29
-      sending letter (leader 0) (matchmaker 1) (msg.MatchA next (single 0))  -- 30
-      sending letter (leader 0) (matchmaker 2) (msg.MatchA next (single 0)) ∷  -- 31
-    deliver 30 ⇒ why.Matched
+      sending letter (leader 0) (matchmaker 0) (msg.MatchA next (single 0))  -- 31
+      sending letter (leader 0) (matchmaker 1) (msg.MatchA next (single 0))  -- 32
+      sending letter (leader 0) (matchmaker 2) (msg.MatchA next (single 0)) ∷  -- 33
+    deliver 32 ⇒ why.Matched
       keeping kept.Match next (single 0) by matchmaker 1
-      sending letter (matchmaker 1) (leader 0) (msg.MatchB next no_round (entry first (single 0) ∷ [])) ∷  -- 32
-    deliver 31 ⇒ why.Matched
+      sending letter (matchmaker 1) (leader 0) (msg.MatchB next no_round (entry first (single 0) ∷ [])) ∷  -- 34
+    deliver 33 ⇒ why.Matched
       keeping kept.Match next (single 0) by matchmaker 2
-      sending letter (matchmaker 2) (leader 0) (msg.MatchB next no_round []) ∷  -- 33
-    deliver 32 ⇒ why.Counted ∷
-    deliver 33 ⇒ why.Phase1
-      sending letter (leader 0) (acceptor 0) (msg.Phase1A next) ∷  -- 34
-    deliver 34 ⇒ why.Promised
+      sending letter (matchmaker 2) (leader 0) (msg.MatchB next no_round []) ∷  -- 35
+    deliver 34 ⇒ why.Counted ∷
+    deliver 35 ⇒ why.Phase1
+      sending letter (leader 0) (acceptor 0) (msg.Phase1A next) ∷  -- 36
+    deliver 36 ⇒ why.Promised
       keeping kept.Promise next by acceptor 0
-      sending letter (acceptor 0) (leader 0) (msg.Phase1B next 1 (vote first 1 (only put_b) ∷ [])) ∷  -- 35
-    deliver 35 ⇒ why.Leads
-      sending letter (leader 0) (proxy 0) (msg.Propose next (single 0) 1 1 (only put_b))  -- 36
-      sending letter (leader 0) (batcher 0) (msg.Leads next) ∷  -- 37
-    event.Tick (leader 0) ⇒ why.Resent
+      sending letter (acceptor 0) (leader 0) (msg.Phase1B next 1 (vote first 1 (only put_b) ∷ [])) ∷  -- 37
+    deliver 37 ⇒ why.Leads
       sending letter (leader 0) (proxy 0) (msg.Propose next (single 0) 1 1 (only put_b))  -- 38
       sending letter (leader 0) (batcher 0) (msg.Leads next) ∷  -- 39
+    event.Tick (leader 0) ⇒ why.Resent
+      sending letter (leader 0) (proxy 0) (msg.Propose next (single 0) 1 1 (only put_b))  -- 40
+      sending letter (leader 0) (batcher 0) (msg.Leads next) ∷  -- 41
     []
 
 abbrev pub HeldSlotsAreForgotten : Type 0

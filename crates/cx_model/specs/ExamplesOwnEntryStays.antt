@@ -6,6 +6,7 @@ use Rattle.cx_base.specs.declared.cluster.Cluster.{Cluster}
 use Rattle.cx_base.specs.declared.event.Event.TheVariants as event
 use Rattle.cx_base.specs.declared.round.Round.{Round}
 use Rattle.cx_base.specs.declared.why.Why.TheVariants as why
+use Rattle.cx_base.specs.Grid.{Shape, make_grid}
 use Rattle.cx_base.specs.Round.{no_round}
 use Rattle.cx_msg.specs.Letter.{letter}
 use Rattle.cx_msg.specs.declared.kept.Record.TheVariants as kept
@@ -15,10 +16,13 @@ use Rattle.cx_model.specs.Matchmaker.{entry}
 use Rattle.cx_model.specs.Reader.{token}
 
 abbrev pub cluster : Cluster
-cluster = record one_of_each { f = 1; acceptors = 2; replicas = 2; f_fits = lit≤ tt; some_replicas = lit≤ tt; some_acceptor = lit≤ tt; acceptors_fit = lit≤ tt; replicas_fit = lit≤ tt; }
+cluster = record one_of_each { f = 1; acceptors = 3; replicas = 2; f_fits = lit≤ tt; some_replicas = lit≤ tt; some_acceptor = lit≤ tt; acceptors_fit = lit≤ tt; replicas_fit = lit≤ tt; }
 
 abbrev pub next : Round
 next = round 1 0 1
+
+abbrev pub column : Shape
+column = make_grid 2 1 (1 ∷ 2 ∷ [])
 
 abbrev pub story : List Line
 story =
@@ -36,16 +40,16 @@ story =
     deliver 3 ⇒ why.Counted ∷
     deliver 4 ⇒ why.Leads
       sending letter (leader 0) (batcher 0) (msg.Leads first) ∷  -- 5
-    change 0 (single 1) ⇒ why.Started
-      keeping kept.Round next (single 1) by leader 0
-      sending letter (leader 0) (matchmaker 0) (msg.MatchA next (single 1))  -- 6
-      sending letter (leader 0) (matchmaker 1) (msg.MatchA next (single 1))  -- 7
-      sending letter (leader 0) (matchmaker 2) (msg.MatchA next (single 1)) ∷  -- 8
+    change 0 column ⇒ why.Started
+      keeping kept.Round next column by leader 0
+      sending letter (leader 0) (matchmaker 0) (msg.MatchA next column)  -- 6
+      sending letter (leader 0) (matchmaker 1) (msg.MatchA next column)  -- 7
+      sending letter (leader 0) (matchmaker 2) (msg.MatchA next column) ∷  -- 8
     deliver 6 ⇒ why.Matched
-      keeping kept.Match next (single 1) by matchmaker 0
+      keeping kept.Match next column by matchmaker 0
       sending letter (matchmaker 0) (leader 0) (msg.MatchB next no_round (entry first (single 0) ∷ [])) ∷  -- 9
     deliver 7 ⇒ why.Matched
-      keeping kept.Match next (single 1) by matchmaker 1
+      keeping kept.Match next column by matchmaker 1
       sending letter (matchmaker 1) (leader 0) (msg.MatchB next no_round (entry first (single 0) ∷ [])) ∷  -- 10
     deliver 9 ⇒ why.Counted ∷
     deliver 10 ⇒ why.Phase1
@@ -56,46 +60,52 @@ story =
     deliver 12 ⇒ why.Leads
       sending letter (leader 0) (batcher 0) (msg.Leads next) ∷  -- 13
     collect 0 ⇒ why.Informing
-      sending letter (leader 0) (acceptor 1) (msg.Inform next 0) ∷  -- 14
+      sending letter (leader 0) (acceptor 1) (msg.Inform next 0)  -- 14
+      sending letter (leader 0) (acceptor 2) (msg.Inform next 0) ∷  -- 15
     deliver 14 ⇒ why.Informed
       keeping kept.Water next 0 by acceptor 1
-      sending letter (acceptor 1) (leader 0) (msg.Informed next 0) ∷  -- 15
-    deliver 15 ⇒ why.Collecting
-      sending letter (leader 0) (matchmaker 0) (msg.GarbageA next (single 1))  -- 16
-      sending letter (leader 0) (matchmaker 1) (msg.GarbageA next (single 1))  -- 17
-      sending letter (leader 0) (matchmaker 2) (msg.GarbageA next (single 1)) ∷  -- 18
+      sending letter (acceptor 1) (leader 0) (msg.Informed next 0) ∷  -- 16
+    deliver 16 ⇒ why.Counted ∷
+    deliver 15 ⇒ why.Informed
+      keeping kept.Water next 0 by acceptor 2
+      sending letter (acceptor 2) (leader 0) (msg.Informed next 0) ∷  -- 17
+    deliver 17 ⇒ why.Collecting
+      sending letter (leader 0) (matchmaker 0) (msg.GarbageA next column)  -- 18
+      sending letter (leader 0) (matchmaker 1) (msg.GarbageA next column)  -- 19
+      sending letter (leader 0) (matchmaker 2) (msg.GarbageA next column) ∷  -- 20
+    deliver 20 ⇒ why.Raised
+      keeping kept.Garbage next column by matchmaker 2
+      sending letter (matchmaker 2) (leader 0) (msg.GarbageB next) ∷  -- 21
     deliver 18 ⇒ why.Raised
-      keeping kept.Garbage next (single 1) by matchmaker 2
-      sending letter (matchmaker 2) (leader 0) (msg.GarbageB next) ∷  -- 19
-    deliver 16 ⇒ why.Raised
-      keeping kept.Garbage next (single 1) by matchmaker 0
-      sending letter (matchmaker 0) (leader 0) (msg.GarbageB next) ∷  -- 20
-    deliver 19 ⇒ why.Counted ∷
-    deliver 20 ⇒ why.Retired ∷
+      keeping kept.Garbage next column by matchmaker 0
+      sending letter (matchmaker 0) (leader 0) (msg.GarbageB next) ∷  -- 22
+    deliver 21 ⇒ why.Counted ∷
+    deliver 22 ⇒ why.Retired ∷
     deliver 8 ⇒ why.Same
-      sending letter (matchmaker 2) (leader 0) (msg.MatchB next next []) ∷  -- 21
+      sending letter (matchmaker 2) (leader 0) (msg.MatchB next next []) ∷  -- 23
     deliver 2 ⇒ why.Collected
-      sending letter (matchmaker 2) (leader 0) (msg.MatchNack first 0 next) ∷  -- 22
+      sending letter (matchmaker 2) (leader 0) (msg.MatchNack first 0 next) ∷  -- 24
     event.Read 0 1 0 0 (codes "a") ⇒ why.Sent
-      sending letter (client 0) (reader 0) (msg.ReadReq 1 0 (codes "a")) ∷  -- 23
-    deliver 23 ⇒ why.Started
-      sending letter (reader 0) (matchmaker 0) (msg.MatchRead (token 0 1))  -- 24
-      sending letter (reader 0) (matchmaker 1) (msg.MatchRead (token 0 1))  -- 25
-      sending letter (reader 0) (matchmaker 2) (msg.MatchRead (token 0 1)) ∷  -- 26
-    deliver 26 ⇒ why.Asked
-      sending letter (matchmaker 2) (reader 0) (msg.MatchReadAck (token 0 1) next (entry next (single 1) ∷ [])) ∷  -- 27
-    deliver 25 ⇒ why.Asked
-      sending letter (matchmaker 1) (reader 0) (msg.MatchReadAck (token 0 1) no_round (entry first (single 0) ∷ entry next (single 1) ∷ [])) ∷  -- 28
-    deliver 27 ⇒ why.Counted ∷
-    deliver 28 ⇒ why.Asking
-      sending letter (reader 0) (acceptor 1) (msg.PreRead (token 0 1) next) ∷  -- 29
-    deliver 29 ⇒ why.Asked
-      sending letter (acceptor 1) (reader 0) (msg.PreReadAck (token 0 1) next 0) ∷  -- 30
-    deliver 30 ⇒ why.Sent
-      sending letter (reader 0) (replica 0) (msg.Read (token 0 1) 0 (codes "a")) ∷  -- 31
-    deliver 31 ⇒ why.Answered
-      sending letter (replica 0) (client 0) (msg.ReadAnswer 1 0 None) ∷  -- 32
-    deliver 32 ⇒ why.Heard ∷
+      sending letter (client 0) (reader 0) (msg.ReadReq 1 0 (codes "a")) ∷  -- 25
+    deliver 25 ⇒ why.Started
+      sending letter (reader 0) (matchmaker 0) (msg.MatchRead (token 0 1))  -- 26
+      sending letter (reader 0) (matchmaker 1) (msg.MatchRead (token 0 1))  -- 27
+      sending letter (reader 0) (matchmaker 2) (msg.MatchRead (token 0 1)) ∷  -- 28
+    deliver 28 ⇒ why.Asked
+      sending letter (matchmaker 2) (reader 0) (msg.MatchReadAck (token 0 1) next (entry next column ∷ [])) ∷  -- 29
+    deliver 27 ⇒ why.Asked
+      sending letter (matchmaker 1) (reader 0) (msg.MatchReadAck (token 0 1) no_round (entry first (single 0) ∷ entry next column ∷ [])) ∷  -- 30
+    deliver 29 ⇒ why.Counted ∷
+    deliver 30 ⇒ why.Asking
+      sending letter (reader 0) (acceptor 1) (msg.PreRead (token 0 1) next)  -- 31
+      sending letter (reader 0) (acceptor 2) (msg.PreRead (token 0 1) next) ∷  -- 32
+    deliver 31 ⇒ why.Asked
+      sending letter (acceptor 1) (reader 0) (msg.PreReadAck (token 0 1) next 0) ∷  -- 33
+    deliver 33 ⇒ why.Sent
+      sending letter (reader 0) (replica 0) (msg.Read (token 0 1) 0 (codes "a")) ∷  -- 34
+    deliver 34 ⇒ why.Answered
+      sending letter (replica 0) (client 0) (msg.ReadAnswer 1 0 None) ∷  -- 35
+    deliver 35 ⇒ why.Heard ∷
     []
 
 abbrev pub OwnEntryStays : Type 0
