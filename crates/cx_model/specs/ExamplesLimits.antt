@@ -1,5 +1,5 @@
 -- Limits: a leader and a replica have a window of 32 slots, a matchmaker records 16 rounds, and the numbers of rounds end.
-use Rattle.std.specs.Prelude.{◌≡◌, ℕ, zero, suc, ◌+◌, ◌*◌, ◌++◌, take, map, List, [], ◌∷◌, codes, true}
+use Rattle.std.specs.Prelude.{◌≡◌, ℕ, zero, suc, ◌+◌, ◌*◌, ◌++◌, take, map, List, [], ◌∷◌, codes}
 use Rattle.cx_base.specs.declared.command.Command.{Command}
 use Rattle.cx_base.specs.declared.command.Value.TheVariants.{Noop}
 use Rattle.cx_base.specs.declared.event.Event.TheVariants as event

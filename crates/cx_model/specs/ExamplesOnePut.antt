@@ -8,7 +8,7 @@ use Rattle.cx_base.specs.Round.{no_round}
 use Rattle.cx_msg.specs.Letter.{letter}
 use Rattle.cx_msg.specs.declared.kept.Record.TheVariants as kept
 use Rattle.cx_msg.specs.declared.message.Msg.TheVariants as msg
-use Rattle.cx_model.specs.Examples.{Line, IsRun, one_of_each, client, batcher, leader, proxy, acceptor, matchmaker, replica, unbatcher, first, single, put_a, only, vote, answered, lead, deliver, left, hold, pair, ◌⇒◌, ◌keeping◌by◌, ◌sending◌}
+use Rattle.cx_model.specs.Examples.{Line, IsRun, one_of_each, client, batcher, leader, proxy, acceptor, matchmaker, replica, unbatcher, first, single, put_a, only, answered, lead, deliver, left, hold, pair, ◌⇒◌, ◌keeping◌by◌, ◌sending◌}
 
 -- up to the proposal; the leader's grid may be any
 abbrev pub begun : Shape → List Line
