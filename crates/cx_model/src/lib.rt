@@ -5,6 +5,7 @@
 //! `specs/`, one subject a file; `src/` declares the plain data of which the states of roles are made.
 #![tactic(auto)]
 
+pub mod examples;
 mod states;
 
 pub use states::{Acked, Deferred, MatchAnswer, Mode, Pending, Plan, Promised, Stage};
