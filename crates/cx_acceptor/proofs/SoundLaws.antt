@@ -1,10 +1,9 @@
 -- An acceptor stays sound.
-use Rattle.std.specs.Prelude.{◌≡◌, ◌⊎◌, ◌≤◌, ◌<◌, ℕ, ◌+◌, ◌^◌, ◌==◌, not, ◌&&◌, ◌||◌, Bool, true, false, nat_le, nat_lt, max, filter, if◌then◌else◌, List, [], ◌∷◌, ◌++◌, length, IsTrue, refl}
-use Rattle.std.specs.List.{list_all, list_any}
-use Rattle.std.proofs.Common.{ap, sym, subst, ◌∙◌, arith, inl, inr}
-use Rattle.std.proofs.lemmas.Bool.{and_from, and_parts, both_ways}
+use Rattle.std.specs.Prelude.{◌≡◌, ◌⊎◌, ◌≤◌, ◌<◌, ℕ, ◌+◌, ◌^◌, ◌&&◌, Bool, true, false, not, nat_le, nat_lt, max, List, [], refl}
+use Rattle.std.specs.List.{list_all}
+use Rattle.std.proofs.Common.{arith, inl, inr}
+use Rattle.std.proofs.lemmas.Bool.{and_parts}
 use Rattle.std.proofs.lemmas.Bool.Decides.{nat_tests}
-use Rattle.std.proofs.lemmas.List.Folds.{list_all-append}
 use Rattle.cx_base.specs.declared.cluster.Cluster.{Cluster}
 use Rattle.cx_base.specs.declared.command.Value.{Value}
 use Rattle.cx_base.specs.declared.role.Kind.TheVariants.{Acceptor}
@@ -17,15 +16,18 @@ use Rattle.cx_msg.specs.declared.kept.Record.{Record}
 use Rattle.cx_msg.specs.declared.kept.Record.TheVariants as kept
 use Rattle.cx_field.specs.declared.parts.Vote.{Vote}
 use Rattle.cx_field.specs.Fields.{mark, round, round0, slot, value, in_window}
+use Rattle.cx_field.specs.Ranges.{slots_rise, vote_in_range}
 use Rattle.cx_msg.specs.Records.{fits, kept_record}
-use Rattle.cx_model.specs.Acceptor.{AcceptorDurable, acceptor_after, acceptor_fits, other_votes, votes_from, vote_at, is_of}
+use Rattle.cx_field.proofs.Rising.{rises-filter}
+use Rattle.cx_model.specs.Acceptor.{AcceptorDurable, acceptor_after, acceptor_fits, votes_from, vote_at, is_of, with_vote}
 use Rattle.cx_model.specs.Names.{names_round, names_value}
-use Rattle.cx_acceptor.specs.Sound.{is_kept, has_slot, are_single, IsSound}
+use Rattle.cx_acceptor.specs.Sound.{IsSound}
+use Rattle.cx_acceptor.proofs.VoteLaws.{all_filter, all_with, rising_with}
 
 max_is : (a b : ℕ) → (max a b ≡ a) ⊎ (max a b ≡ b)
 max_is a b = grind arith
 
-max_fits : (a b : ℕ) → mark.fits a ≡ true → mark.fits b ≡ true → mark.fits (max a b) ≡ true
+pub max_fits : (a b : ℕ) → mark.fits a ≡ true → mark.fits b ≡ true → mark.fits (max a b) ≡ true
 max_fits a b f g = go (max_is a b)
   where
     go : (max a b ≡ a) ⊎ (max a b ≡ b) → mark.fits (max a b) ≡ true
@@ -40,111 +42,48 @@ real_or_none : (i : Round) → round.fits i ≡ true → round0.fits i ≡ true
 unfolding round round0
 real_or_none i h = grind (arith, nat_tests)
 
--- what passes a test passes another behind a filter
-all_filter : {X : Type 0} (p q r : X → Bool) → ((x : X) → p x ≡ true → q x ≡ true → r x ≡ true) → (xs : List X) → list_all p xs ≡ true → list_all r (filter q xs) ≡ true
-all_filter p q r h [] all = refl
-all_filter p q r h (x ∷ xs) all =
-    let parts = and_parts (p x) (list_all p xs) all in
-    let later = all_filter p q r h xs parts.1 in
-    step (q x) refl parts.0 later
-  where
-    step : (b : Bool) → q x ≡ b → p x ≡ true → list_all r (filter q xs) ≡ true → list_all r (if b then x ∷ filter q xs else filter q xs) ≡ true
-    step true e f later = and_from (r x) (list_all r (filter q xs)) (h x f e) later
-    step false e f later = later
-
-neither : (a b : Bool) → (a || b) ≡ false → (a ≡ false) × (b ≡ false)
-neither true b h = cc
-neither false b h = (refl, h)
-
--- none of what a filter leaves is new
-none_filter : {X : Type 0} (p q : X → Bool) (xs : List X) → list_any p xs ≡ false → list_any p (filter q xs) ≡ false
-none_filter p q [] none = refl
-none_filter p q (x ∷ xs) none =
-    let parts = neither (p x) (list_any p xs) none in
-    let later = none_filter p q xs parts.1 in
-    step (q x) parts.0 later
-  where
-    step : (b : Bool) → p x ≡ false → list_any p (filter q xs) ≡ false → list_any p (if b then x ∷ filter q xs else filter q xs) ≡ false
-    step true f later = rw f later
-    step false f later = later
-
--- what a filter leaves has nothing that the filter refuses
-none_refused : {X : Type 0} (p q : X → Bool) → ((x : X) → q x ≡ true → p x ≡ false) → (xs : List X) → list_any p (filter q xs) ≡ false
-none_refused p q h [] = refl
-none_refused p q h (x ∷ xs) = step (q x) refl (none_refused p q h xs)
-  where
-    step : (b : Bool) → q x ≡ b → list_any p (filter q xs) ≡ false → list_any p (if b then x ∷ filter q xs else filter q xs) ≡ false
-    step true e later = rw (h x e) later
-    step false e later = later
-
-not_true : (b : Bool) → not b ≡ true → b ≡ false
-not_true true h = cc
-not_true false h = refl
-
-single_filter : (q : Vote → Bool) (vs : List Vote) → are_single vs ≡ true → are_single (filter q vs) ≡ true
-single_filter q [] once = refl
-single_filter q (v ∷ vs) once =
-    let parts = and_parts (not (has_slot v.slot vs)) (are_single vs) once in
-    let none : has_slot v.slot (filter q vs) ≡ false = none_filter (λ (w : Vote). w.slot == v.slot) q vs (not_true (has_slot v.slot vs) parts.0) in
-    step (q v) none (single_filter q vs parts.1)
-  where
-    step : (b : Bool) → has_slot v.slot (filter q vs) ≡ false → are_single (filter q vs) ≡ true → are_single (if b then v ∷ filter q vs else filter q vs) ≡ true
-    step true none later = rw none later
-    step false none later = later
-
-none_append : (s : ℕ) (vs : List Vote) (v : Vote) → has_slot s vs ≡ false → (v.slot == s) ≡ false → has_slot s (vs ++ v ∷ []) ≡ false
-none_append s [] v none other = rw other refl
-none_append s (w ∷ vs) v none other =
-    let parts = neither (w.slot == s) (has_slot s vs) none in
-    rw parts.0 (none_append s vs v parts.1 other)
-
-same_ways : (a b : ℕ) → (a == b) ≡ false → (b == a) ≡ false
-same_ways a b h = grind (arith, nat_tests)
-
-single_append : (vs : List Vote) (v : Vote) → are_single vs ≡ true → has_slot v.slot vs ≡ false → are_single (vs ++ v ∷ []) ≡ true
-single_append [] v once none = refl
-single_append (w ∷ vs) v once none =
-    let parts = and_parts (not (has_slot w.slot vs)) (are_single vs) once in
-    let apart = neither (w.slot == v.slot) (has_slot v.slot vs) none in
-    let here : has_slot w.slot (vs ++ v ∷ []) ≡ false = none_append w.slot vs v (not_true (has_slot w.slot vs) parts.0) (same_ways w.slot v.slot apart.0) in
-    rw here (single_append vs v parts.1 apart.1)
-
 window_from : (cw low s : ℕ) → cw ≤ low → in_window cw s ≡ true → nat_le low s ≡ true → in_window low s ≡ true
 window_from cw low s below inside from = grind (arith, nat_tests)
 
 window_of_both : (a b s : ℕ) → nat_le a s ≡ true → in_window b s ≡ true → in_window (max a b) s ≡ true
 window_of_both a b s from inside = grind (arith, nat_tests)
 
-kept_from : (cw low : ℕ) → cw ≤ low → (v : Vote) → is_kept cw v ≡ true → nat_le low v.slot ≡ true → is_kept low v ≡ true
+-- the parts of a vote's range
+parts_of : (cw : ℕ) (v : Vote) → vote_in_range cw v ≡ true → (round.fits v.round ≡ true) × (slot.fits v.slot ≡ true) × (in_window cw v.slot ≡ true) × (value.fits v.value ≡ true)
+parts_of cw v h =
+    let a = and_parts (round.fits v.round) ((slot.fits v.slot && in_window cw v.slot) && value.fits v.value) h in
+    let b = and_parts (slot.fits v.slot && in_window cw v.slot) (value.fits v.value) a.1 in
+    let c = and_parts (slot.fits v.slot) (in_window cw v.slot) b.0 in
+    (a.0, c.0, c.1, b.1)
+
+kept_from : (cw low : ℕ) → cw ≤ low → (v : Vote) → vote_in_range cw v ≡ true → nat_le low v.slot ≡ true → vote_in_range low v ≡ true
 kept_from cw low below v kept from =
-    let a = and_parts (round.fits v.round && slot.fits v.slot && value.fits v.value) (in_window cw v.slot) kept in
-    rw a.0 (window_from cw low v.slot below a.1 from)
+    let p = parts_of cw v kept in
+    rw (p.0, p.1, window_from cw low v.slot below p.2 from, p.3) refl
 
-first_part : (a b : Bool) → (a && b) ≡ true → a ≡ true
-first_part a b h = (and_parts a b h).0
+-- the votes from a later watermark on are in its window
+from_kept : (cw low : ℕ) (vs : List Vote) → cw ≤ low → list_all (λ (v : Vote). vote_in_range cw v) vs ≡ true → list_all (λ (v : Vote). vote_in_range low v) (votes_from low vs) ≡ true
+from_kept cw low vs below all = all_filter (λ (v : Vote). vote_in_range cw v) (λ (v : Vote). nat_le low v.slot) (λ (v : Vote). vote_in_range low v) (kept_from cw low below) vs all
 
-other_slot : (low s : ℕ) (v : Vote) → (nat_le low v.slot && not (v.slot == s)) ≡ true → (v.slot == s) ≡ false
-other_slot low s v h = not_true (v.slot == s) ((and_parts (nat_le low v.slot) (not (v.slot == s)) h).1)
+from_rising : (low : ℕ) (vs : List Vote) → slots_rise vs ≡ true → slots_rise (votes_from low vs) ≡ true
+from_rising low vs h = rises-filter (λ (v : Vote). nat_le low v.slot) (λ (v : Vote) (later : Vote). nat_lt v.slot later.slot) vs h
 
 pub sound_promise : (me : RoleId) (d : AcceptorDurable) (i : Round) → IsSound me d → round.fits i ≡ true → IsSound me (record d { promise = i })
-sound_promise me d i sound real = record { who = sound.who; promise = real_or_none i real; cw = sound.cw; top = sound.top; votes = sound.votes; once = sound.once }
+sound_promise me d i sound real = record { who = sound.who; promise = real_or_none i real; cw = sound.cw; top = sound.top; votes = sound.votes; rising = sound.rising }
 
 pub sound_vote : (me : RoleId) (d : AcceptorDurable) (i : Round) (s cw : ℕ) (v : Value) → IsSound me d → round.fits i ≡ true → slot.fits s ≡ true → mark.fits cw ≡ true → value.fits v ≡ true → nat_le d.cw s ≡ true → in_window cw s ≡ true → IsSound me (acceptor_after d (kept.Vote i s cw v))
 sound_vote me d i s cw v sound real in_slots in_marks fit from inside =
     let low = max d.cw cw in
     let new : Vote = record { round = i; slot = s; value = v } in
-    let others = other_votes low s d.votes in
     let below : d.cw ≤ low = omega arith in
-    let all : list_all (λ (w : Vote). is_kept low w) others ≡ true = all_filter (λ (w : Vote). is_kept d.cw w) (λ (w : Vote). nat_le low w.slot && not (w.slot == s)) (λ (w : Vote). is_kept low w) (λ w kept passes. kept_from d.cw low below w kept (first_part _ _ passes)) d.votes sound.votes in
-    let own : is_kept low new ≡ true = rw (real, in_slots, fit) (window_of_both d.cw cw s from inside) in
-    let free : has_slot s others ≡ false = none_refused (λ (w : Vote). w.slot == s) (λ (w : Vote). nat_le low w.slot && not (w.slot == s)) (other_slot low s) d.votes in
+    let own : vote_in_range low new ≡ true = rw (real, in_slots, window_of_both d.cw cw s from inside, fit) refl in
     record {
       who = sound.who;
       promise = real_or_none i real;
       cw = max_fits d.cw cw sound.cw in_marks;
       top = max_fits d.top (s + 1) sound.top (next_fits s in_slots);
-      votes = rw list_all-append (rw (all, own) refl);
-      once = single_append others new (single_filter (λ (w : Vote). nat_le low w.slot && not (w.slot == s)) d.votes sound.once) free;
+      votes = all_with (λ (w : Vote). vote_in_range low w) new (votes_from low d.votes) own (from_kept d.cw low d.votes below sound.votes);
+      rising = rising_with new (votes_from low d.votes) (from_rising low d.votes sound.rising);
     }
 
 pub sound_water : (me : RoleId) (d : AcceptorDurable) (i : Round) (cw : ℕ) → IsSound me d → round.fits i ≡ true → mark.fits cw ≡ true → IsSound me (acceptor_after d (kept.Water i cw))
@@ -156,8 +95,8 @@ sound_water me d i cw sound real in_marks =
       promise = real_or_none i real;
       cw = max_fits d.cw cw sound.cw in_marks;
       top = sound.top;
-      votes = all_filter (λ (w : Vote). is_kept d.cw w) (λ (w : Vote). nat_le low w.slot) (λ (w : Vote). is_kept low w) (λ w kept passes. kept_from d.cw low below w kept passes) d.votes sound.votes;
-      once = single_filter (λ (w : Vote). nat_le low w.slot) d.votes sound.once;
+      votes = from_kept d.cw low d.votes below sound.votes;
+      rising = from_rising low d.votes sound.rising;
     }
 
 fourth_and_fifth : (a b c d e f : Bool) → (a && b && c && d && e && f) ≡ true → (d ≡ true) × (e ≡ true)
@@ -205,4 +144,4 @@ promise_real i p real fit before = grind (arith, nat_tests)
 
 pub empty_sound : (me : RoleId) → me ≡ role Acceptor me.index → IsSound me (record { promise = no_round; cw = 0; votes = []; top = 0 })
 unfolding round0 mark u16 u32 u64
-empty_sound me who = record { who = who; promise = refl; cw = refl; top = refl; votes = refl; once = refl }
+empty_sound me who = record { who = who; promise = refl; cw = refl; top = refl; votes = refl; rising = refl }

@@ -70,13 +70,17 @@ impl Role for Acceptor {
         if !is_for(&self.cluster, self.me, datagram) {
             return Ok(Why::Stranger);
         }
+        let from = datagram.from();
         match datagram.msg() {
+            Msg::Phase1A { round } => self.phase1a(keeper, from, *round, out),
             Msg::Phase2A {
                 round,
                 slot,
                 cw,
                 value,
-            } => self.phase2a(keeper, datagram.from(), *round, *slot, *cw, value, out),
+            } => self.phase2a(keeper, from, *round, *slot, *cw, value, out),
+            Msg::Inform { round, mark } => self.inform(keeper, from, *round, *mark, out),
+            Msg::PreRead { token, watermark } => Ok(self.pre_read(from, *token, *watermark, out)?),
             _ => Ok(Why::Stranger),
         }
     }

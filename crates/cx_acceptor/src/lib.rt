@@ -6,10 +6,13 @@
 #![tactic(auto)]
 
 mod acceptor;
+mod informing;
+mod keeping;
+mod promising;
 mod records;
-mod rows;
 #[cfg(test)]
 mod tests;
 mod votes;
+mod voting;
 
 pub use acceptor::Acceptor;

@@ -4,6 +4,8 @@ ghost use Rattle.std.specs.Prelude.{◌≡◌, ◌∷◌, [], true, OnOk, OnErr,
 ghost use Rattle.cx_base.specs.declared.role.Kind.{Kind};
 ghost use Rattle.cx_model.specs.Acceptor.{acceptor_rules, acceptor_after, acceptor_fits};
 ghost use Rattle.cx_model.specs.Rules.{opened};
+ghost use Rattle.cx_msg.specs.declared.kept.Record.TheVariants as kept;
+ghost use Rattle.cx_field.specs.Fields as field;
 ghost use Rattle.cx_msg.specs.Records.{fits as record_fits};
 
 use crate::Acceptor;
@@ -89,16 +91,26 @@ impl Acceptor {
                 self.promise = *round;
                 self.cw = self.cw.max(*cw);
                 self.top = self.top.max(*slot + 1);
-                place(&mut self.votes, self.cw, vote);
+                keep_from(&mut self.votes, self.cw);
+                place(&mut self.votes, vote);
                 Ok(())
             }
             Record::Water { round, mark } => {
-                self.promise = *round;
-                self.cw = self.cw.max(*mark);
-                keep_from(&mut self.votes, self.cw);
+                self.raise(*round, *mark);
                 Ok(())
             }
             _ => Ok(()),
         }
+    }
+
+    /// Remembers that a leader of this round told how many slots enough replicas hold. It takes no memory.
+    pub(crate) fn raise(&mut self, round: Round, mark: u64)
+        requires round { IsTrue (field.round.fits round) }
+        requires mark { IsTrue (field.mark.fits mark) }
+        ensures { self.new ≡ record self.old { durable = acceptor_after self.old.durable (kept.Water round mark) } }
+    {
+        self.promise = round;
+        self.cw = self.cw.max(mark);
+        keep_from(&mut self.votes, self.cw);
     }
 }

@@ -1,7 +1,8 @@
-//! The votes of an acceptor: at most one at each slot.
+//! The votes of an acceptor: at most one at each slot, by rising slot.
 
-ghost use Rattle.std.specs.Prelude.{◌≡◌, ◌≤◌, ◌<◌, ◌∷◌, ◌++◌, [], vec_len, vec_capacity};
-ghost use Rattle.cx_model.specs.Acceptor.{other_votes, votes_from, vote_at, is_of};
+ghost use Rattle.std.specs.Prelude.{◌≡◌, ◌≤◌, ◌<◌, nat_le, position, vec_len, vec_capacity};
+ghost use Rattle.cx_model.specs.Acceptor.{is_of, vote_at, votes_from, with_vote};
+ghost use Rattle.cx_field.specs.declared.parts.Vote.{Vote};
 ghost use Rattle.cx_field.specs.Fields.{in_window};
 
 use cx_base::Round;
@@ -26,26 +27,31 @@ pub fn has_vote(votes: &[Vote], slot: u64, round: Round) -> bool
     false
 }
 
-fn keep_others(votes: &mut Vec<Vote>, low: u64, slot: u64)
-    ensures items { votes.new.items ≡ other_votes low slot votes.old.items }
+/// Forgets the votes below a slot. It takes no memory.
+pub fn keep_from(votes: &mut Vec<Vote>, low: u64)
+    ensures items { votes.new.items ≡ votes_from low votes.old.items }
     ensures fewer { vec_len votes.new ≤ vec_len votes.old }
     ensures room { vec_capacity votes.new ≡ vec_capacity votes.old }
 {
-    votes.retain(|vote| vote.slot >= low && vote.slot != slot);
-}
-
-/// Puts a vote in place of the one at its slot, and forgets those below a slot. Room for it was taken beforehand.
-pub fn place(votes: &mut Vec<Vote>, low: u64, vote: Vote)
-    requires { vec_len votes.old < vec_capacity votes.old }
-    ensures { votes.new.items ≡ other_votes low vote.slot votes.old.items ++ vote ∷ [] }
-{
-    keep_others(votes, low, vote.slot);
-    votes.push_reserved(vote);
-}
-
-/// Forgets the votes below a slot. It takes no memory.
-pub fn keep_from(votes: &mut Vec<Vote>, low: u64)
-    ensures { votes.new.items ≡ votes_from low votes.old.items }
-{
     votes.retain(|vote| vote.slot >= low);
+}
+
+// The place of the first vote at a slot or above it.
+fn first_from(votes: &[Vote], slot: u64) -> Option<usize>
+    ensures { result ≡ position (λ (v : Vote). nat_le slot v.slot) votes.now }
+{
+    votes.iter().position(|vote| vote.slot >= slot)
+}
+
+/// Puts a vote in the place of that of its slot, or where its slot stands. Room for it was taken beforehand.
+pub fn place(votes: &mut Vec<Vote>, vote: Vote)
+    requires { vec_len votes.old < vec_capacity votes.old }
+    ensures { votes.new.items ≡ with_vote vote votes.old.items }
+{
+    let at = first_from(votes, vote.slot).unwrap_or(votes.len());
+    if at < votes.len() && votes[at].slot == vote.slot {
+        votes[at] = vote;
+    } else {
+        votes.insert(at, vote).unwrap();
+    }
 }

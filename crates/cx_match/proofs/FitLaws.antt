@@ -15,7 +15,7 @@ use Rattle.cx_msg.specs.declared.input.Input.TheVariants.{Take}
 use Rattle.cx_field.specs.declared.parts.Entry.{Entry}
 use Rattle.cx_msg.specs.declared.message.Msg.{Msg}
 use Rattle.cx_msg.specs.declared.message.Msg.TheVariants as msg
-use Rattle.cx_model.specs.Matchmaker.{MatchmakerDurable, matchmaker_rules, matchmaker_row, matchmaker_takes, match_a_row, has_round}
+use Rattle.cx_model.specs.Matchmaker.{MatchmakerDurable, matchmaker_rules, matchmaker_row, matchmaker_takes, garbage_a_row, match_a_row, has_round}
 use Rattle.cx_model.specs.Names.{names, names_body, names_role, names_grid, names_round}
 use Rattle.cx_model.specs.Outcome.{Outcome, by_test}
 use Rattle.cx_model.specs.Rules.{IsFit}
@@ -35,9 +35,16 @@ match_a_fit c me d from i g named members =
     by_test (Fits c me d) (nat_le 16 (length d.entries)) _ _ (λ _. tt) (λ space.
     rw (named, members, high, all_before i d.entries last new, has_room (length d.entries) space) refl))))
 
+garbage_a_fit : (c : Cluster) (me : RoleId) (d : MatchmakerDurable) (from : RoleId) (i : Round) (g : Shape) → names_round c i ≡ true → names_grid c g ≡ true → Fits c me d (garbage_a_row me d from i g)
+garbage_a_fit c me d from i g named members =
+    by_test (Fits c me d) (is_before d.watermark i) _ _ (λ low. rw (named, members, low) refl) (λ _. tt)
+
 takes_fit : (c : Cluster) (me : RoleId) (d : MatchmakerDurable) (from : RoleId) (m : Msg) → names_body c m ≡ true → Fits c me d (matchmaker_takes me d from m)
 takes_fit c me d from (msg.MatchA i g) named =
     let a = and_parts (names_round c i) (names_grid c g) named in match_a_fit c me d from i g a.0 a.1
+takes_fit c me d from (msg.GarbageA i g) named =
+    let a = and_parts (names_round c i) (names_grid c g) named in garbage_a_fit c me d from i g a.0 a.1
+takes_fit c me d from (msg.MatchRead t) named = tt
 takes_fit c me d from other named = tt
 
 -- the record of a row is one that the matchmaker may append

@@ -17,10 +17,11 @@ use Rattle.cx_msg.specs.declared.kept.Record.TheVariants as kept
 use Rattle.cx_field.specs.declared.parts.Entry.{Entry}
 use Rattle.cx_field.specs.Fields.{grid, round, round0}
 use Rattle.cx_msg.specs.Records.{fits, kept_record}
+use Rattle.cx_field.proofs.ListLaws.{entries_fit, entries_snoc}
 use Rattle.cx_model.specs.Matchmaker.{MatchmakerDurable, matchmaker_after, matchmaker_fits, entry, entries_from, has_round, with_own}
 use Rattle.cx_model.specs.Names.{names_grid, names_round}
 use Rattle.cx_match.specs.Sound.{IsSound}
-use Rattle.cx_match.proofs.EntryLaws.{rising_append, rising_with_own, own_round, from_fewer, filter_fewer, own_fewer}
+use Rattle.cx_match.proofs.EntryLaws.{at_most_17, with_own_fits, own_round, from_fewer, filter_fewer}
 
 real_or_none : (i : Round) → round.fits i ≡ true → round0.fits i ≡ true
 unfolding round round0
@@ -51,8 +52,7 @@ sound_match me d i g sound real fit before space =
     record {
       who = sound.who;
       watermark = sound.watermark;
-      entries = rising_append d.entries (entry i g) sound.entries before (rw (real, fit) refl);
-      few = omega arith;
+      entries = entries_snoc d.entries (entry i g) sound.entries (omega arith) (rw (real, fit) refl) before;
       room = has_room_or (length (d.entries ++ entry i g ∷ [])) (has_round d.watermark (d.entries ++ entry i g ∷ [])) count;
     }
 
@@ -68,13 +68,11 @@ pub sound_garbage : (me : RoleId) (d : MatchmakerDurable) (i : Round) (g : Shape
 sound_garbage me d i g sound real fit above =
     let later = entries_from i d.entries in
     let all = with_own i g later in
-    let space = from_few d i sound.few above (either (nat_le (length d.entries) 16) (has_round d.watermark d.entries) sound.room) in
-    let more = own_fewer i g later in
+    let space = from_few d i (at_most_17 d.entries sound.entries) above (either (nat_le (length d.entries) 16) (has_round d.watermark d.entries) sound.room) in
     record {
       who = sound.who;
       watermark = real_or_none i real;
-      entries = rising_with_own i g d.entries sound.entries (rw (real, fit) refl);
-      few = omega arith;
+      entries = with_own_fits i g d.entries sound.entries space (rw (real, fit) refl);
       room = or_true (nat_le (length all) 16) (has_round i all) (own_round i g later);
     }
 
@@ -103,6 +101,10 @@ after_sound c me d (kept.Water i cw) sound fit takes = cc
 after_sound c me d (kept.Round i g) sound fit takes = cc
 after_sound c me d (kept.Log vs) sound fit takes = cc
 
+pub garbage_fits : (i : Round) (g : Shape) → round.fits i ≡ true → grid.fits g ≡ true → fits (kept.Garbage i g) ≡ true
+unfolding kept_record
+garbage_fits i g real fit = rw (real, fit) refl
+
 -- the record of a round and its grid with each in its range
 pub match_fits : (i : Round) (g : Shape) → round.fits i ≡ true → grid.fits g ≡ true → fits (kept.Match i g) ≡ true
 unfolding kept_record
@@ -110,7 +112,7 @@ match_fits i g real fit = rw (real, fit) refl
 
 pub empty_sound : (me : RoleId) → me ≡ role Matchmaker me.index → IsSound me (record { watermark = no_round; entries = [] })
 unfolding round0 u16 u32
-empty_sound me who = record { who = who; watermark = refl; entries = refl; few = omega arith; room = refl }
+empty_sound me who = record { who = who; watermark = refl; entries = entries_fit [] (omega arith) refl refl; room = refl }
 
 pub has_space : (n : ℕ) → n < 16 → nat_le 16 n ≡ false
 has_space n h = grind (arith, nat_tests)

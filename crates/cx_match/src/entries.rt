@@ -1,12 +1,13 @@
 //! The entries of a matchmaker: rounds with their grids, in rising order.
 
-ghost use Rattle.std.specs.Prelude.{◌≡◌, ◌<◌, ◌≤◌, ◌∷◌, length, vec_len, vec_capacity, IfOk};
+ghost use Rattle.std.specs.Prelude.{◌≡◌, ◌<◌, ◌≤◌, vec_len, vec_capacity, IfOk, IsTrue};
 ghost use Rattle.std.specs.List.{list_all, list_any};
 ghost use Rattle.cx_base.specs.Round.{is_before};
-ghost use Rattle.cx_model.specs.Matchmaker.{entries_before, entries_from, entry, greatest, has_round, with_own};
+ghost use Rattle.cx_model.specs.Matchmaker.{entries_before, entries_from, greatest, has_round, with_own};
 ghost use Rattle.cx_field.specs.declared.parts.Entry.{Entry};
+ghost use Rattle.cx_field.specs.Fields as field;
 
-use cx_base::{Few, Grid, NoMemory, Round};
+use cx_base::{Few, Grid, NoMemory, Round, copy_all};
 use cx_field::{Entries, Entry};
 use std::alloc::Global;
 
@@ -38,10 +39,11 @@ pub fn last_round(entries: &[Entry]) -> Round
     entries.last().map_or(Round::ZERO, |entry| entry.round)
 }
 
-/// The entries of earlier rounds.
+/// The entries of earlier rounds, as a datagram tells them.
 pub fn earlier(alloc: Global, entries: &[Entry], round: Round) -> Result<Entries, NoMemory>
-    requires { length entries.now ≤ 17 }
-    ensures { IfOk result (λ list. list ≡ entries_before round entries.now) }
+    requires { IsTrue (field.entries.fits entries.now) }
+    ensures earlier { IfOk result (λ list. list ≡ entries_before round entries.now) }
+    ensures fit { IfOk result (λ list. IsTrue (field.entries.fits list)) }
 {
     let list = entries
         .iter()
@@ -49,6 +51,14 @@ pub fn earlier(alloc: Global, entries: &[Entry], round: Round) -> Result<Entries
         .filter(|entry| entry.round.is_before(&round))
         .collect::<Vec<Entry>>(alloc)?;
     Ok(Few::from_vec(list))
+}
+
+/// All entries, as a datagram tells them.
+pub fn told(alloc: Global, entries: &[Entry]) -> Result<Entries, NoMemory>
+    requires { IsTrue (field.entries.fits entries.now) }
+    ensures { IfOk result (λ list. list ≡ entries.now) }
+{
+    Ok(Few::from_vec(copy_all(alloc, entries)?))
 }
 
 fn keep_from(entries: &mut Vec<Entry>, round: Round)
@@ -66,7 +76,7 @@ pub fn retire(entries: &mut Vec<Entry>, round: Round, grid: Grid)
     ensures { entries.new.items ≡ with_own round grid (entries_from round entries.old.items) }
 {
     keep_from(entries, round);
-    if !has_entry(entries, round) {
+    if has_entry(entries, round) {
         entries.insert(0, Entry { round, grid }).unwrap();
     }
 }

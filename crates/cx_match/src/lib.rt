@@ -6,6 +6,7 @@
 #![tactic(auto)]
 
 mod entries;
+mod keeping;
 mod matchmaker;
 mod records;
 mod rows;

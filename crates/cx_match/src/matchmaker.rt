@@ -68,10 +68,11 @@ impl Role for Matchmaker {
         if !is_for(&self.cluster, self.me, datagram) {
             return Ok(Why::Stranger);
         }
+        let from = datagram.from();
         match datagram.msg() {
-            Msg::MatchA { round, grid } => {
-                self.match_a(keeper, datagram.from(), *round, *grid, out)
-            }
+            Msg::MatchA { round, grid } => self.match_a(keeper, from, *round, *grid, out),
+            Msg::GarbageA { round, grid } => self.garbage_a(keeper, from, *round, *grid, out),
+            Msg::MatchRead { token } => Ok(self.match_read(from, *token, out)?),
             _ => Ok(Why::Stranger),
         }
     }

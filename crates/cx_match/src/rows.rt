@@ -1,19 +1,20 @@
 //! The rows of a matchmaker.
 
-ghost use Rattle.std.specs.Prelude.{◌≡◌, [], true, IfOk, IsErrOf, IsTrue};
+ghost use Rattle.std.specs.Prelude.{◌≡◌, [], true, IfOk, IsErrOf, IsTrue, OnErr};
 ghost use Rattle.cx_base.specs.declared.role.Kind.{Kind};
 ghost use Rattle.cx_base.specs.Role.{role};
-ghost use Rattle.cx_model.specs.Matchmaker.{matchmaker_rules, match_a_row};
+ghost use Rattle.cx_model.specs.Matchmaker.{garbage_a_row, matchmaker_rules, match_a_row, match_read_row};
 ghost use Rattle.cx_field.specs.Fields as field;
 ghost use Rattle.cx_role.specs.declared.role.StepFault.TheVariants as fault;
-ghost use Rattle.cx_role.specs.Role.{Steps, StaysAt, FailsAt};
+ghost use Rattle.cx_role.specs.Role.{Replies, Steps, StaysAt, FailsAt};
 
 use crate::Matchmaker;
-use crate::entries::{earlier, has_entry, has_later, last_round};
-use cx_base::{Grid, RoleId, Round, Why};
-use cx_field::Entry;
-use cx_keeper::{KeepFault, Keeper};
-use cx_msg::{Record, match_b, match_nack};
+use crate::entries::{earlier, has_entry, has_later, last_round, retire, told};
+use crate::keeping::keep;
+use cx_base::{Grid, NoMemory, RoleId, Round, Why};
+use cx_field::{Entry, Token};
+use cx_keeper::Keeper;
+use cx_msg::{Record, garbage_b, match_b, match_nack, match_read_ack};
 use cx_role::{Outbox, StepFault};
 
 impl Matchmaker {
@@ -44,7 +45,7 @@ impl Matchmaker {
         if has_later(&self.entries, round) {
             let last = last_round(&self.entries);
             out.room(1)?;
-            out.push(match_nack(self.me.index, from.index, round, 1, last));
+            out.push(match_nack(self.me.index, from.index, round, 1, self.watermark));
             return Ok(Why::Later);
         }
         if has_entry(&self.entries, round) {
@@ -62,16 +63,60 @@ impl Matchmaker {
         let entries = earlier(self.alloc, &self.entries, round)?;
         self.entries.reserve(1)?;
         out.room(1)?;
-        match keeper.append(&Record::Match { round, grid }) {
-            Ok(()) => {}
-            Err(KeepFault::NoMemory) => return Err(StepFault::NoMemory),
-            Err(KeepFault::Failed) => {
-                self.live = false;
-                return Err(StepFault::Failed);
-            }
-        }
-        self.entries.push_reserved(Entry { round, grid });
+        keep(keeper, &mut self.live, &Record::Match { round, grid })?;
+        let _entry = Entry { round, grid };
         out.push(match_b(self.me.index, from.index, round, self.watermark, entries));
         Ok(Why::Matched)
+    }
+
+    /// A leader asks to forget the rounds below its own, whose entry stays, or is made (JSys 2021; the entry is this project's
+    /// own).
+    pub(crate) fn garbage_a<K: Keeper>(
+        &mut self,
+        keeper: &mut K,
+        from: RoleId,
+        round: Round,
+        grid: Grid,
+        out: &mut Outbox,
+    ) -> Result<Why, StepFault>
+        requires live { self.old.live ≡ true }
+        requires empty { out.old.list ≡ [] }
+        requires sender { from ≡ role Kind.Leader from.index }
+        requires round { IsTrue (field.round.fits round) }
+        requires grid { IsTrue (field.grid.fits grid) }
+        ensures ok { IfOk result (λ why. Steps K.append_gives matchmaker_rules self.old (garbage_a_row self.old.me self.old.durable from round grid) why keeper.old keeper.new self.new out.new.list) }
+        ensures no_memory { IsErrOf result StepFault.NoMemory → StaysAt K.kept self.old self.new keeper.old keeper.new out.new.list }
+        ensures failed { IsErrOf result StepFault.Failed → FailsAt K.append_gives (garbage_a_row self.old.me self.old.durable from round grid) keeper.old keeper.new self.new out.new.list }
+    {
+        out.room(1)?;
+        if !self.watermark.is_before(&round) {
+            out.push(garbage_b(self.me.index, from.index, round));
+            return Ok(Why::Same);
+        }
+        self.entries.reserve(1)?;
+        let kept = keep(keeper, &mut self.live, &Record::Garbage { round, grid });
+        self.watermark = self.watermark;
+        retire(&mut self.entries, round, grid);
+        out.push(garbage_b(self.me.index, from.index, round));
+        kept?; Ok(Why::Raised)
+    }
+
+    /// A reader asks for the watermark and all entries (this project's own).
+    pub(crate) fn match_read(
+        &self,
+        from: RoleId,
+        token: Token,
+        out: &mut Outbox,
+    ) -> Result<Why, NoMemory>
+        requires empty { out.old.list ≡ [] }
+        requires sender { from ≡ role Kind.Reader from.index }
+        requires token { IsTrue (field.token.fits token) }
+        ensures ok { IfOk result (λ why. Replies matchmaker_rules self.now (match_read_row self.now.me self.now.durable from token) why self.now out.new.list) }
+        ensures no_memory { OnErr result (out.new.list ≡ []) }
+    {
+        let entries = self.entries.iter().copied().filter(|entry| self.watermark.is_before(&entry.round)).collect::<Vec<Entry>>(self.alloc)?; let entries = cx_base::Few::from_vec(entries);
+        out.room(1)?;
+        out.push(match_read_ack(self.me.index, from.index, token, self.watermark, entries));
+        Ok(Why::Asked)
     }
 }

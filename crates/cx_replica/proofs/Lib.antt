@@ -1,5 +1,6 @@
 pub mod Executing
-pub mod Progress
-pub mod Values
 pub mod Letters
+pub mod Progress
+pub mod Reading
 pub mod Rows
+pub mod Values

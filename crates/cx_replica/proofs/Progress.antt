@@ -25,3 +25,4 @@ pub record HasSent (c : Cluster) (me : RoleId) (slot : ℕ) (first : Machine) (a
   pub machine : machine_from (slot + index) now (drop index all) ≡ machine_from slot first all
   pub sends : out.list ++ results_from c me (slot + index) now (drop index all) ≡ before.list ++ results_from c me slot first all
   pub spare : length all ≤ out.spare + index
+  pub grown : before.spare ≤ out.spare + index

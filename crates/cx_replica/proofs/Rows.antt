@@ -1,23 +1,25 @@
 -- What is so of the values that are ready, and of a replica behind them.
-use Rattle.std.proofs.Common.{◌≡◌, ℕ, zero, suc, ◌+◌, ◌-◌, ◌<◌, ◌≤◌, ◌^◌, ◌==◌, true, List, [], ◌∷◌, ◌++◌, length, Option, None, Some, refl, ap, sym, ◌∙◌, subst, inl, inr, arith}
-use Rattle.std.specs.Prelude.{nat_lt, nat_le, min}
+use Rattle.std.proofs.Common.{◌≡◌, ℕ, zero, suc, ◌+◌, ◌-◌, ◌<◌, ◌≤◌, ◌^◌, ◌==◌, Bool, true, false, List, [], ◌∷◌, ◌++◌, length, Option, None, Some, refl, ap, sym, ◌∙◌, subst, inl, inr, arith}
+use Rattle.std.specs.Prelude.{if◌then◌else◌, nat_lt, nat_le, min}
 use Rattle.std.specs.List.{list_all}
 use Rattle.std.proofs.lemmas.Bool.{and_from, and_parts, cases_Bool, eqb-true}
 use Rattle.std.proofs.lemmas.Bool.Decides.{nat_tests}
 use Rattle.std.proofs.lemmas.List.Folds.{list_all-append}
+use Rattle.std.proofs.lemmas.List.Sums.{count_by-le-length, length-filter}
 use Rattle.cx_base.specs.declared.cluster.Cluster.{Cluster}
 use Rattle.cx_base.specs.declared.command.Placed.{Placed}
 use Rattle.cx_base.specs.declared.command.Value.{Value}
 use Rattle.cx_base.specs.declared.role.RoleId.{RoleId}
 use Rattle.cx_base.specs.Log.{value_for, before_following, following, ready_values, still_early}
-use Rattle.cx_field.specs.Fields.{value}
+use Rattle.cx_field.specs.Fields.{value, token}
 use Rattle.cx_msg.specs.Records.{kept_record, fits as record_fits}
 use Rattle.cx_msg.specs.declared.kept.Record.TheVariants as kept
+use Rattle.cx_model.specs.declared.states.Deferred.{Deferred}
 use Rattle.cx_model.specs.Names.{names_value}
 use Rattle.cx_model.specs.Outcome.{Outcome, by_test}
-use Rattle.cx_model.specs.Replica.{Machine, ReplicaDurable, ReplicaVolatile, execute_value, machine_from, machine_of, chosen_row, replica_rules, replica_fits}
+use Rattle.cx_model.specs.Replica.{Machine, ReplicaDurable, ReplicaVolatile, execute_value, machine_from, machine_of, chosen_row, replica_rules, replica_fits, still_deferred}
 use Rattle.cx_model.specs.Rules.{IsFit}
-use Rattle.cx_replica.specs.Sound.{is_own, are_own, are_own_early, IsSound}
+use Rattle.cx_replica.specs.Sound.{is_own, are_own, are_own_early, are_reads, IsSound}
 use Rattle.cx_replica.proofs.Values.{values_in}
 use Rattle.cx_rlog.specs.State.{LogState}
 use Rattle.cx_rlog.specs.Taken.{taken_at}
@@ -121,14 +123,17 @@ logged_own c me d vs fit own =
     own_both c vs (log_fits vs fit) ((and_parts (list_all (λ (v : Value). names_value c v) vs) (nat_le (length d.log + length vs) 1099511627776) own).0)
 
 -- a replica is sound behind more values of the cluster, once they are executed
-pub sound_more : (c : Cluster) (me : RoleId) (log new : LogState) (m n : Machine) (vs : List Value) → IsSound c me log m → new.list ≡ log.list ++ vs → are_own c vs ≡ true
-    → are_own_early c new.early ≡ true → n ≡ machine_from (length log.list) m vs → IsSound c me new n
-sound_more c me log new m n vs sound list own early ran = record {
+pub sound_more : (c : Cluster) (me : RoleId) (log new : LogState) (m n : Machine) (reads left : List Deferred) (vs : List Value) → IsSound c me log m reads
+    → new.list ≡ log.list ++ vs → are_own c vs ≡ true → are_own_early c new.early ≡ true → n ≡ machine_from (length log.list) m vs
+    → are_reads left ≡ true → length left ≤ 64 → IsSound c me new n left
+sound_more c me log new m n reads left vs sound list own early ran fit few = record {
   kind = sound.kind;
   place = sound.place;
   machine = ran ∙ ap (λ (x : Machine). machine_from (length log.list) x vs) sound.machine ∙ sym (machine_of-append log.list vs) ∙ ap machine_of (sym list);
   held = subst (λ (l : List Value). are_own c l ≡ true) (sym list) (own-append c log.list vs sound.held own);
   waiting = early;
+  reads = fit;
+  few = few;
 }
 
 pub none_own : (c : Cluster) (log : LogState) (list : List Value) (spare : ℕ) → log ≡ record { list = list; early = []; spare = spare } → are_own_early c log.early ≡ true
@@ -152,3 +157,18 @@ next_below old new early s next is below =
     let here : s ≡ length old.list = next_is (length old.list) s next in
     let same : length new.list ≡ length old.list = ap (λ (l : LogState). length l.list) is in
     omega arith
+
+-- the reads that still wait are in their ranges, and no more than before
+pub still_reads : (held : ℕ) (reads : List Deferred) → are_reads reads ≡ true → are_reads (still_deferred held reads) ≡ true
+still_reads held [] fit = refl
+still_reads held (r ∷ reads) fit =
+    let parts = and_parts (token.fits r.token) (are_reads reads) fit in
+    left (nat_lt held r.mark) (still_reads held reads parts.1) parts.0
+  where
+    left : (b : Bool) → are_reads (still_deferred held reads) ≡ true → token.fits r.token ≡ true
+        → are_reads (if b then r ∷ still_deferred held reads else still_deferred held reads) ≡ true
+    left true rest here = and_from (token.fits r.token) (are_reads (still_deferred held reads)) here rest
+    left false rest here = rest
+
+pub still_few : (held : ℕ) (reads : List Deferred) (most : ℕ) → length reads ≤ most → length (still_deferred held reads) ≤ most
+still_few held reads most few = omega (arith, length-filter (λ (r : Deferred). nat_lt held r.mark) reads, count_by-le-length (λ (r : Deferred). nat_lt held r.mark) reads)

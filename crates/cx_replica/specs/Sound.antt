@@ -1,12 +1,13 @@
 -- What is so of every replica.
-use Rattle.std.specs.Prelude.{◌≡◌, ◌<◌, Bool, ◌&&◌, List, IsTrue}
+use Rattle.std.specs.Prelude.{◌≡◌, ◌<◌, ◌≤◌, Bool, ◌&&◌, List, length, IsTrue}
 use Rattle.std.specs.List.{list_all}
 use Rattle.cx_base.specs.declared.cluster.Cluster.{Cluster}
 use Rattle.cx_base.specs.declared.command.Placed.{Placed}
 use Rattle.cx_base.specs.declared.command.Value.{Value}
 use Rattle.cx_base.specs.declared.role.Kind.TheVariants.{Replica}
 use Rattle.cx_base.specs.declared.role.RoleId.{RoleId}
-use Rattle.cx_field.specs.Fields.{value}
+use Rattle.cx_field.specs.Fields.{value, token}
+use Rattle.cx_model.specs.declared.states.Deferred.{Deferred}
 use Rattle.cx_model.specs.Names.{names_value}
 use Rattle.cx_model.specs.Replica.{Machine, machine_of}
 use Rattle.cx_rlog.specs.State.{LogState}
@@ -21,10 +22,17 @@ are_own c vs = list_all (λ (v : Value). is_own c v) vs
 abbrev pub are_own_early : Cluster → List Placed → Bool
 are_own_early c early = list_all (λ (p : Placed). is_own c p.value) early
 
--- a replica of the cluster whose machine is what its log leaves; the values that it holds and those that wait are the cluster's
-pub record IsSound (c : Cluster) (me : RoleId) (log : LogState) (m : Machine) : Type 0 where
+-- whether the reads that wait are in their ranges
+abbrev pub are_reads : List Deferred → Bool
+are_reads reads = list_all (λ (r : Deferred). token.fits r.token) reads
+
+-- a replica of the cluster whose machine is what its log leaves; the values that it holds and those that wait are the cluster's, and
+-- at most 64 reads wait
+pub record IsSound (c : Cluster) (me : RoleId) (log : LogState) (m : Machine) (deferred : List Deferred) : Type 0 where
   pub kind : me.kind ≡ Replica
   pub place : me.index < c.replicas
   pub machine : m ≡ machine_of log.list
   pub held : IsTrue (are_own c log.list)
   pub waiting : IsTrue (are_own_early c log.early)
+  pub reads : IsTrue (are_reads deferred)
+  pub few : length deferred ≤ 64

@@ -1,10 +1,10 @@
 //! The row of a chosen value.
 
-ghost use Rattle.std.specs.Prelude.{◌≡◌, ◌+◌, ◌<◌, ◌≤◌, ◌^◌, [], length, true, IfOk, IsErrOf, OnErr, OnOk, IsTrue};
+ghost use Rattle.std.specs.Prelude.{◌≡◌, ◌+◌, ◌++◌, ◌<◌, ◌≤◌, ◌^◌, [], length, true, IfOk, IsErrOf, OnErr, OnOk, IsTrue};
 ghost use Rattle.std.specs.List.{list_all};
 ghost use Rattle.cx_base.specs.declared.command.Value.{Value};
 ghost use Rattle.cx_base.specs.Log.{ready_values};
-ghost use Rattle.cx_model.specs.Replica.{replica_rules, apply, chosen_row, machine_from, machine_of, results_from};
+ghost use Rattle.cx_model.specs.Replica.{replica_rules, apply, chosen_row, machine_from, machine_of, read_answers, results_from};
 ghost use Rattle.cx_model.specs.Rules.{IsFit};
 ghost use Rattle.cx_field.specs.Fields as field;
 ghost use Rattle.cx_replica.specs.Sound.{is_own};
@@ -12,7 +12,9 @@ ghost use Rattle.cx_role.specs.declared.role.StepFault.TheVariants as fault;
 ghost use Rattle.cx_role.specs.Role.{Steps, StaysAt, FailsAt};
 
 use crate::machine::Machine;
+use crate::reads::drop_answered;
 use crate::replica::Replica;
+use crate::sending::answer_reads;
 use cx_base::{Duplicate, NoMemory, Value, Why};
 use cx_keeper::{KeepFault, Keeper};
 use cx_msg::Record;
@@ -79,27 +81,34 @@ impl Replica {
         }
         self.log.put(values);
         self.machine = machine;
+        drop_answered(&mut self.deferred, self.log.held());
         Ok(Why::Applied)
     }
 
-    /// What executing the next values leaves; what they are answered is sent, or nothing where memory is wanting.
+    /// What executing the next values leaves; what they are answered is sent, and then what the reads are answered that waited
+    /// for no more. Nothing is sent where memory is wanting.
+    #[tactic(auto, using(crate::proofs::Values::mark_fits))]
     fn executed(&self, values: &[Value], out: &mut Outbox) -> Result<Machine, NoMemory>
         requires empty { out.old.list ≡ [] }
         requires few { length values.now ≤ 32 }
         requires slots { length self.now.durable.log + length values.now ≤ 2 ^ 40 }
         requires values { IsTrue (list_all (λ (v : Value). field.value.fits v) values.now) }
         ensures machine { IfOk result (λ machine. machine ≡ machine_from (length self.now.durable.log) (machine_of self.now.durable.log) values.now) }
-        ensures sends { OnOk result (out.new.list ≡ results_from self.now.cluster self.now.me (length self.now.durable.log) (machine_of self.now.durable.log) values.now) }
+        ensures sends { OnOk result (out.new.list ≡ results_from self.now.cluster self.now.me (length self.now.durable.log) (machine_of self.now.durable.log) values.now ++ read_answers self.now.me (self.now.durable.log ++ values.now) self.now.volatile.deferred) }
         ensures err { OnErr result (out.new.list ≡ []) }
     {
         let mut machine = self.machine.copy(self.alloc)?;
-        out.room(values.len())?;
-        match machine.execute_values(&self.cluster, self.me, self.log.held(), values, out) {
-            Ok(()) => Ok(machine),
+        out.room(values.len() + self.deferred.len())?;
+        let held = self.log.held();
+        match machine.execute_values(&self.cluster, self.me, held, values, out) {
+            Ok(()) => {}
             Err(NoMemory) => {
                 out.clear();
-                Err(NoMemory)
+                return Err(NoMemory);
             }
         }
+        let held = held + values.len() as u64;
+        answer_reads(self.me, held, &machine, &self.deferred, out);
+        Ok(machine)
     }
 }

@@ -7,6 +7,7 @@
 
 mod apply;
 mod machine;
+mod reads;
 mod replica;
 mod sending;
 

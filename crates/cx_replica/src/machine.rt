@@ -6,13 +6,14 @@ ghost use Rattle.cx_base.specs.declared.command.Answered.{Answered};
 ghost use Rattle.cx_base.specs.declared.command.Command.{Command};
 ghost use Rattle.cx_base.specs.declared.command.Value.{Value};
 ghost use Rattle.cx_base.specs.declared.role.Kind.TheVariants as kind;
+ghost use Rattle.cx_base.specs.Fold.{text_at};
 ghost use Rattle.cx_field.specs.Fields as field;
 ghost use Rattle.cx_model.specs.Replica.{new_machine, acting, execute, execute_all, execute_value, machine_from, results_from};
 ghost use Rattle.cx_table.specs.Judged.{judge_of};
 ghost use Rattle.cx_table.specs.declared.judge.Judge.TheVariants as judge;
 
 use crate::sending::send_results;
-use cx_base::{Answered, Cluster, Command, Duplicate, NoMemory, RoleId, Value};
+use cx_base::{Answered, Cluster, Command, Duplicate, Key, NoMemory, RoleId, Text, Value};
 use cx_field::reply_fits;
 use cx_kv::Store;
 use cx_role::Outbox;
@@ -62,6 +63,13 @@ impl Machine {
             store: Store::new(alloc)?,
             table: Table::new(alloc)?,
         })
+    }
+
+    /// The text of a key. It takes no memory.
+    pub fn text_at(&self, key: &Key) -> Option<Text>
+        ensures { result ≡ text_at key.now self.now.map }
+    {
+        self.store.get(key).copied()
     }
 
     /// Executes a command that acts, and adds its answer; `at` is one more than its slot.
@@ -183,6 +191,7 @@ impl Machine {
         requires spare { length values.now ≤ out.old.spare }
         ensures machine { OnOk result (self.new ≡ machine_from first self.old values.now) }
         ensures sends { OnOk result (out.new.list ≡ out.old.list ++ results_from cluster.now me first self.old values.now) }
+        ensures spare { OnOk result (out.old.spare ≤ out.new.spare + length values.now) }
     {
         for (index, value) in values.iter().enumerate() {
             let slot = first + index as u64;

@@ -13,13 +13,15 @@ use crate::machine::Machine;
 use crate::sending::{ask_next, tell_held};
 use cx_base::{Cluster, NoMemory, Order, RoleId, Value, Why};
 use cx_keeper::Keeper;
+use cx_model::Deferred;
 use cx_msg::{Datagram, Msg, Record};
 use cx_rlog::Log;
 use cx_role::{Outbox, Role, StepFault, WakeFault, is_for, names_value};
 use std::alloc::Global;
 use std::marker::Model;
 
-/// A replica: the chosen values in slot order, those that came before their turn, and what executing leaves.
+/// A replica: the chosen values in slot order, those that came before their turn, what executing leaves, and the reads that
+/// wait, at most 64.
 #[derive(Drop)]
 pub struct Replica {
     pub(crate) alloc: Global,
@@ -28,6 +30,7 @@ pub struct Replica {
     pub(crate) live: bool,
     pub(crate) log: Log,
     pub(crate) machine: Machine,
+    pub(crate) deferred: Vec<Deferred>,
 }
 
 impl Model for Replica {
@@ -37,9 +40,9 @@ impl Model for Replica {
 
     ghost Value = { Running ReplicaDurable ReplicaVolatile };
 
-    ghost view = { λ r. record { cluster = r.cluster; me = r.me; live = r.live; durable = record { log = r.log.list }; volatile = record { early = r.log.early } } };
+    ghost view = { λ r. record { cluster = r.cluster; me = r.me; live = r.live; durable = record { log = r.log.list }; volatile = record { early = r.log.early; deferred = r.deferred.items } } };
 
-    ghost invariant = { λ r. IsSound r.cluster r.me r.log r.machine };
+    ghost invariant = { λ r. IsSound r.cluster r.me r.log r.machine r.deferred.items };
 }
 
 impl Replica {
@@ -56,6 +59,7 @@ impl Replica {
             live: true,
             log: Log::new(alloc)?,
             machine: Machine::new(alloc)?,
+            deferred: Vec::new(alloc),
         })
     }
 
@@ -90,6 +94,7 @@ impl Replica {
             live,
             mut log,
             mut machine,
+            deferred,
         } = self;
         let values = values.as_slice();
         machine.replay(log.held(), values)?;
@@ -101,6 +106,7 @@ impl Replica {
             live,
             log,
             machine,
+            deferred,
         })
     }
 }
@@ -151,6 +157,15 @@ impl Role for Replica {
         }
         match datagram.msg() {
             Msg::Chosen { slot, value } => self.chosen(keeper, *slot, value, out),
+            Msg::Read { token, mark, key } => {
+                let one = Deferred {
+                    token: *token,
+                    mark: *mark,
+                    key: *key,
+                };
+                Ok(self.read(one, out)?)
+            }
+            Msg::Fetch { mark } => Ok(self.fetch(datagram.from(), *mark, out)?),
             _ => Ok(Why::Stranger),
         }
     }

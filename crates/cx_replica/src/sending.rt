@@ -7,9 +7,13 @@ ghost use Rattle.cx_base.specs.declared.command.Answered.{Answered};
 ghost use Rattle.cx_base.specs.declared.role.Kind.TheVariants as kind;
 ghost use Rattle.cx_field.specs.Fields as field;
 ghost use Rattle.cx_model.specs.Replica.{fetch_to, held_to, results_at};
+ghost use Rattle.cx_replica.specs.Answering.{answer_at, answers_at};
+ghost use Rattle.cx_replica.specs.Sound.{are_reads};
 
+use crate::machine::Machine;
 use cx_base::{Answered, Cluster, Few, RoleId};
-use cx_msg::{fetch, held, results};
+use cx_model::Deferred;
+use cx_msg::{Datagram, fetch, held, read_answer, results};
 use cx_role::Outbox;
 
 /// Sends the answers of a slot, if there are any and this replica is the one to do so. It takes no memory.
@@ -60,5 +64,44 @@ pub fn ask_next(cluster: &Cluster, me: RoleId, mark: u64, out: &mut Outbox)
     if cluster.replicas > 1 {
         let next = (me.index + 1) % cluster.replicas;
         out.push(fetch(me.index, next, mark));
+    }
+}
+
+/// The answer to a read where so many slots are held: the key's text in the map. It takes no memory.
+#[tactic(auto, unfolding(cx_field::specs::Fields::token))]
+pub fn answer(me: RoleId, held: u64, machine: &Machine, one: &Deferred) -> Datagram
+    requires kind { me.kind ≡ kind.Replica }
+    requires held { IsTrue (field.mark.fits held) }
+    requires token { IsTrue (field.token.fits one.now.token) }
+    ensures { result ≡ answer_at me held machine.now.map one.now }
+{
+    let token = one.token;
+    read_answer(
+        me.index,
+        token.client,
+        token.seq,
+        held,
+        machine.text_at(&one.key),
+    )
+}
+
+/// Answers each read that waited for no more slots than are held, in order. Room was taken beforehand.
+pub fn answer_reads(
+    me: RoleId,
+    held: u64,
+    machine: &Machine,
+    deferred: &[Deferred],
+    out: &mut Outbox,
+)
+    requires kind { me.kind ≡ kind.Replica }
+    requires held { IsTrue (field.mark.fits held) }
+    requires reads { IsTrue (are_reads deferred.now) }
+    requires spare { length deferred.now ≤ out.old.spare }
+    ensures { out.new.list ≡ out.old.list ++ answers_at me held machine.now.map deferred.now }
+{
+    for one in deferred {
+        if one.mark <= held {
+            out.push(answer(me, held, machine, one));
+        }
     }
 }

@@ -51,10 +51,37 @@ fn command(slot: u8, seq: u8) -> [u8; 37] {
     ]
 }
 
+// Client 0's command number 1, put a 1, is chosen for the slot.
+fn put(slot: u8) -> [u8; 37] {
+    [
+        67, 88, 1, 13, 4, 0, 0, 7, 0, 1, 0, 25, 0, 0, 0, 0, 0, 0, 0, slot, 1, 1, 0, 0, 0, 0, 0, 0,
+        0, 0, 0, 1, 1, 1, 97, 1, 49,
+    ]
+}
+
+// A reader asks for a key's text, for a client's read of this number, once so many slots are held.
+fn read(client: u8, seq: u8, mark: u8, key: u8) -> [u8; 32] {
+    [
+        67, 88, 1, 28, 9, 0, 0, 7, 0, 1, 0, 20, 0, client, 0, 0, 0, 0, 0, 0, 0, seq, 0, 0, 0, 0, 0,
+        0, 0, mark, 1, key,
+    ]
+}
+
+// Replica 0 asks for the value of a slot.
+fn fetch(slot: u8) -> [u8; 20] {
+    [
+        67, 88, 1, 18, 7, 0, 0, 7, 0, 1, 0, 8, 0, 0, 0, 0, 0, 0, 0, slot,
+    ]
+}
+
 // What the replica is given.
+#[derive(Drop)]
 enum Step {
     Noop(u8, u8),
     Command(u8, u8),
+    Put(u8),
+    Read(u8, u8, u8, u8),
+    Fetch(u8),
 }
 
 #[derive(Drop)]
@@ -81,6 +108,9 @@ impl Bench {
         match step {
             Step::Noop(replica, slot) => self.take(&noop(*replica, *slot)),
             Step::Command(slot, seq) => self.take(&command(*slot, *seq)),
+            Step::Put(slot) => self.take(&put(*slot)),
+            Step::Read(client, seq, mark, key) => self.take(&read(*client, *seq, *mark, *key)),
+            Step::Fetch(slot) => self.take(&fetch(*slot)),
         }
     }
 
@@ -96,7 +126,24 @@ impl Bench {
             _ => None,
         }
     }
+
+    // How many datagrams were sent, to whom the last, and what it says: the slots held and a text's first byte and length, or the
+    // slot of a value.
+    fn answered(&self) -> Answered {
+        let last = self.out.as_slice().last()?;
+        let (number, first, length) = match last.msg() {
+            Msg::ReadAnswer { mark, found, .. } => match found {
+                Some(text) => (*mark, *text.as_bytes().first()?, text.as_bytes().len()),
+                None => (*mark, 0, 0),
+            },
+            Msg::Chosen { slot, .. } => (*slot, 0, 0),
+            _ => return None,
+        };
+        Some((self.out.len(), last.to().index, number, first, length))
+    }
 }
+
+type Answered = Option<(usize, u16, u64, u8, usize)>;
 
 type Told = Option<(u16, u64, u64, u64, u8)>;
 
@@ -120,6 +167,67 @@ const STEPS: [(Step, Why, Told); 14] = [
     (Step::Command(7, 10), Why::Applied, Some((1, 7, 10, 8, 2))),
     (Step::Noop(1, 40), Why::Window, None),
 ];
+
+// The same for reads, and for values that replica 0 wants.
+const READS: [(Step, Why, Answered); 14] = [
+    (Step::Read(0, 2, 1, 97), Why::Deferred, None),
+    (Step::Read(0, 2, 5, 97), Why::Same, None),
+    (Step::Read(1, 2, 2, 107), Why::Deferred, None),
+    (
+        Step::Read(0, 3, 0, 97),
+        Why::Answered,
+        Some((1, 0, 0, 0, 0)),
+    ),
+    (Step::Fetch(0), Why::Idle, None),
+    (Step::Read(1, 3, 3, 97), Why::Deferred, None),
+    // The other replica tells the writer; this one answers the read that waited for it.
+    (Step::Put(0), Why::Applied, Some((1, 0, 1, 49, 1))),
+    (Step::Fetch(0), Why::Fetched, Some((1, 0, 0, 0, 0))),
+    (Step::Fetch(1), Why::Idle, None),
+    (
+        Step::Read(0, 4, 1, 97),
+        Why::Answered,
+        Some((1, 0, 1, 49, 1)),
+    ),
+    // Two slots at once: the results of slot 1, and two answers with the text behind both.
+    (Step::Command(2, 9), Why::Early, None),
+    (Step::Command(1, 8), Why::Applied, Some((3, 1, 3, 49, 1))),
+    (Step::Noop(1, 3), Why::Applied, None),
+    (Step::Fetch(2), Why::Fetched, Some((1, 0, 2, 0, 0))),
+];
+
+#[test]
+fn answers_reads(rt: HostRuntime) -> Result<(), Fail> {
+    let alloc = rt.alloc();
+    let mut bench = Bench {
+        alloc,
+        replica: Replica::open(alloc, &CLUSTER, RoleId::new(Kind::Replica, 1), &[])?,
+        keeper: MemKeeper::new(alloc),
+        out: Outbox::new(alloc),
+    };
+    for (step, why, answered) in &READS {
+        assert_eq!(rt; bench.step(step), Some(*why));
+        assert_eq!(rt; bench.answered(), *answered);
+    }
+    for seq in 10..74 {
+        let waits = Step::Read(1, seq, 9, 97);
+        assert_eq!(rt; bench.step(&waits), Some(Why::Deferred));
+    }
+    let last = [
+        (Step::Read(1, 74, 9, 97), Why::Full, None),
+        (Step::Read(1, 73, 9, 97), Why::Same, None),
+        (
+            Step::Read(1, 74, 4, 107),
+            Why::Answered,
+            Some((1, 1, 4, 120, 2)),
+        ),
+    ];
+    for (step, why, answered) in &last {
+        assert_eq!(rt; bench.step(step), Some(*why));
+        assert_eq!(rt; bench.answered(), *answered);
+    }
+    Ok(())
+}
 
 #[test]
 fn applies(rt: HostRuntime) -> Result<(), Fail> {

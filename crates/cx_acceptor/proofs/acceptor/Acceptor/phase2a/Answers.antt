@@ -1,12 +1,9 @@
 use Rattle.std.proofs.Common.{◌<◌, ◌^◌, arith}
-use Rattle.cx_acceptor.proofs.SoundLaws.{at_most, promise_real, slot_small, sound_vote, vote_fits}
+use Rattle.cx_acceptor.proofs.SoundLaws.{at_most, slot_small, sound_vote, vote_fits}
 use Rattle.cx_acceptor.proofs.acceptor.Acceptor.phase2a.Goals as goal
 
-pub nack-requires-clause-promise : goal.nack-requires-clause-promise
-nack-requires-clause-promise g c = promise_real c.args.round c.self.inside.promise c.requires.round c.self.invariant.promise (rw c.is_before.ensures at c.if-is_before.true)
-
-pub append-requires : goal.append-requires
-append-requires g c =
+pub keep-requires : goal.keep-requires
+keep-requires g c =
     rw c.in_ok-copy-2.ensures (vote_fits c.args.round c.args.slot c.args.cw c.args.value.now c.requires.round c.requires.slot c.requires.mark c.requires.value)
 
 pub overflow_add-slot : goal.overflow_add-slot
@@ -16,4 +13,4 @@ pub invariant_of-self-2 : goal.invariant_of-self-2
 invariant_of-self-2 g c =
     let from = at_most c.self.inside.cw c.args.slot c.if-slot-self.false in
     let sound = sound_vote c.self.inside.me _ c.args.round c.args.slot c.args.cw c.args.value.now c.self.invariant c.requires.round c.requires.slot c.requires.mark c.requires.value from c.requires.window in
-    rw (c.place.ensures, c.reserve.ensures.items, c.in_ok-copy.ensures, c.max-self-inside.ensures, c.max-self-inside-2.ensures) sound
+    rw (c.place.ensures, c.keep_from.ensures.items, c.reserve.ensures.items, c.in_ok-copy.ensures, c.max-self-inside.ensures, c.max-self-inside-2.ensures) sound

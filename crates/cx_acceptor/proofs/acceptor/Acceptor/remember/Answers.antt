@@ -17,14 +17,7 @@ overflow_add-slot c =
 
 pub invariant_of-self-in-Vote : goal.invariant_of-self-in-Vote
 invariant_of-self-in-Vote c =
-    let own = rw (← c.self.view_is, c.in-Vote.is) at c.requires.own in
+    let own = rw (← c.self-in-Vote.view_is, c.in-Vote.is) at c.requires.own in
     let ranges = rw c.in-Vote.is at c.requires.ranges in
-    let sound = after_sound c.self.inside.cluster c.self.inside.me _ (kept.Vote c.in-Vote.round c.in-Vote.slot c.in-Vote.cw c.in-Vote.value) c.self.invariant ranges own in
-    rw (c.place.ensures, c.reserve.ensures.items, c.in_ok-copy-in-Vote.ensures, c.max-self-inside.ensures, c.max-self-inside-in-Vote.ensures) sound
-
-pub invariant_of-self-in-Water : goal.invariant_of-self-in-Water
-invariant_of-self-in-Water c =
-    let own = rw (← c.self.view_is, c.in-Water.is) at c.requires.own in
-    let ranges = rw c.in-Water.is at c.requires.ranges in
-    let sound = after_sound c.self.inside.cluster c.self.inside.me _ (kept.Water c.in-Water.round c.in-Water.mark) c.self.invariant ranges own in
-    rw (c.keep_from.ensures, c.max-self-inside-in-Water.ensures) sound
+    let sound = after_sound c.self-in-Vote.inside.cluster c.self-in-Vote.inside.me _ (kept.Vote c.in-Vote.round c.in-Vote.slot c.in-Vote.cw c.in-Vote.value) c.self-in-Vote.invariant ranges own in
+    rw (c.place.ensures, c.keep_from.ensures.items, c.reserve.ensures.items, c.in_ok-copy-in-Vote.ensures, c.max-self-inside.ensures, c.max-self-inside-in-Vote.ensures) sound

@@ -1,5 +1,5 @@
 use Rattle.std.proofs.Common.{◌<◌, length, arith, rules}
-use Rattle.cx_match.proofs.EntryLaws.{all_before, before_fit, greatest_fits, some_later}
+use Rattle.cx_match.proofs.EntryLaws.{all_before, greatest_fits, some_later}
 use Rattle.cx_match.proofs.SoundLaws.{has_space, match_fits, sound_match, watermark_real}
 use Rattle.cx_match.proofs.matchmaker.Matchmaker.match_a.Goals as goal
 
@@ -11,21 +11,13 @@ match_nack-requires-then-has_later-clause-other g c =
     let later = rw (c.has_later.ensures, c.deref.ensures.value) at c.if-has_later.true in
     rw (c.last_round-last.ensures, c.deref-then-has_later.ensures.value) (greatest_fits c.self.inside.entries.items (some_later c.args.round c.self.inside.entries.items later) c.self.invariant.entries)
 
-pub match_b-requires-clause-entries : goal.match_b-requires-clause-entries
-match_b-requires-clause-entries g c =
-    rw (c.in_ok-entries.ensures, c.deref-then-has_entry.ensures.value) (before_fit c.args.round c.self.inside.entries.items c.self.invariant.entries c.self.invariant.few)
-
 pub match_nack-requires-then-len-ge16-clause-other : goal.match_nack-requires-then-len-ge16-clause-other
 match_nack-requires-then-len-ge16-clause-other g c =
     let some : 0 < length c.self.inside.entries.items = omega arith in
     rw (c.last_round-last-then-len-ge16.ensures, c.deref-then-len-ge16.ensures.value) (greatest_fits c.self.inside.entries.items some c.self.invariant.entries)
 
-pub append-requires : goal.append-requires
-append-requires g c = match_fits c.args.round c.args.grid c.requires.round c.requires.grid
-
-pub match_b-requires-2-clause-entries : goal.match_b-requires-2-clause-entries
-match_b-requires-2-clause-entries g c =
-    rw (c.in_ok-entries-2.ensures, c.deref-3.ensures.value) (before_fit c.args.round c.self.inside.entries.items c.self.invariant.entries c.self.invariant.few)
+pub keep-requires : goal.keep-requires
+keep-requires g c = match_fits c.args.round c.args.grid c.requires.round c.requires.grid
 
 pub invariant_of-self-2 : goal.invariant_of-self-2
 invariant_of-self-2 g c =
@@ -43,3 +35,12 @@ returns-clause-ok g c =
     let few : length c.self.inside.entries.items < 16 = omega arith in
     let space = has_space (length c.self.inside.entries.items) few in
     rw (← c.self.view_is, high, last, new, space) (record { why = search rules; kept = search rules; state = search rules; sends = search rules })
+
+pub returns-in_err-keep-clause-failed : goal.returns-in_err-keep-clause-failed
+returns-in_err-keep-clause-failed g c =
+    let high = rw c.is_before.ensures at c.if-is_before.false in
+    let last = rw (c.has_later.ensures, c.deref.ensures.value) at c.if-has_later.false in
+    let new = rw (c.has_entry.ensures, c.deref-2.ensures.value) at c.if-has_entry.false in
+    let few : length c.self.inside.entries.items < 16 = omega arith in
+    let space = has_space (length c.self.inside.entries.items) few in
+    rw (← c.self.view_is, high, last, new, space) (search rules)

@@ -1,8 +1,8 @@
-use Rattle.std.proofs.Common.{◌≡◌, true, sym, subst, length, List, ◌++◌, refl}
+use Rattle.std.proofs.Common.{◌≡◌, ◌≤◌, true, sym, subst, length, List, ◌++◌, refl}
 use Rattle.cx_base.specs.declared.command.Value.{Value}
-use Rattle.cx_replica.specs.Sound.{are_own, are_own_early}
-use Rattle.cx_model.specs.Replica.{machine_from}
-use Rattle.cx_replica.proofs.Rows.{own_fits, ready_own, sound_more, still_own}
+use Rattle.cx_replica.specs.Sound.{are_own, are_own_early, are_reads}
+use Rattle.cx_model.specs.Replica.{machine_from, still_deferred}
+use Rattle.cx_replica.proofs.Rows.{own_fits, ready_own, sound_more, still_few, still_own, still_reads}
 use Rattle.cx_replica.proofs.Values.{values_fit}
 use Rattle.cx_replica.proofs.replica.Replica.apply.Given.{Over}
 use Rattle.cx_replica.proofs.replica.Replica.apply.Goals as goal
@@ -36,4 +36,9 @@ invariant_of-self-3 g c =
     rw (c.put.ensures.early, c.ready.ensures.early) (still_own c.self.inside.cluster (length c.put.new.self.list) log.early c.self.invariant.waiting) in
     let ran : c.in_ok-machine.machine ≡ machine_from (length log.list) c.self.inside.machine c.in_ok-values.values =
     rw (c.in_ok-machine.ensures.machine, c.ready.ensures.list, c.as_slice.ensures.items, c.self.invariant.machine) refl in
-    sound_more c.self.inside.cluster c.self.inside.me log c.put.new.self c.self.inside.machine c.in_ok-machine.machine c.in_ok-values.values c.self.invariant list all early ran
+    let held = c.held.result in
+    let reads = c.self.inside.deferred.items in
+    let left : c.drop_answered.new.deferred.items ≡ still_deferred held reads = c.drop_answered.ensures in
+    let fit : are_reads c.drop_answered.new.deferred.items ≡ true = rw left (still_reads held reads c.self.invariant.reads) in
+    let few : length c.drop_answered.new.deferred.items ≤ 64 = rw left (still_few held reads 64 c.self.invariant.few) in
+    sound_more c.self.inside.cluster c.self.inside.me log c.put.new.self c.self.inside.machine c.in_ok-machine.machine reads c.drop_answered.new.deferred.items c.in_ok-values.values c.self.invariant list all early ran fit few

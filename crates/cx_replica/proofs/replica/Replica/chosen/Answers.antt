@@ -15,7 +15,7 @@ fits : (g : Over) (c : After-take g) → RowFits c.args.slot c.args.value.now c.
 fits g c =
     let r = c.self.inside in
     subst (RowFits c.args.slot c.args.value.now) c.self.view_is
-    (chosen_fits r.cluster r.me (record { log = r.log.list }) (record { early = r.log.early }) c.args.slot c.args.value.now (slot_below c.args.slot c.requires.slot) (rw (← c.self.view_is) at c.requires.value) c.self.invariant.waiting)
+    (chosen_fits r.cluster r.me (record { log = r.log.list }) (record { early = r.log.early; deferred = r.deferred.items }) c.args.slot c.args.value.now (slot_below c.args.slot c.requires.slot) (rw (← c.self.view_is) at c.requires.value) c.self.invariant.waiting)
 
 pub take-requires : goal.take-requires
 take-requires g c = slot_below c.args.slot c.requires.slot

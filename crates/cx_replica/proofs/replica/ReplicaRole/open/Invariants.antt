@@ -9,6 +9,7 @@ invariant-loop-index l = record {
   me : l.replica.me ≡ l.fn.me;
   live : l.replica.live ≡ true;
   none_early : l.replica.volatile.early ≡ [];
+  none_deferred : l.replica.volatile.deferred ≡ [];
   folded : folded_from replica_rules l.replica.durable (drop l.index l.records) ≡ folded replica_rules l.records;
   refused : refused_from replica_rules l.cluster l.fn.me l.replica.durable l.index (drop l.index l.records) ≡ refused replica_rules l.cluster l.fn.me l.records;
 }

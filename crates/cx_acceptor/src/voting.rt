@@ -1,4 +1,4 @@
-//! The rows of an acceptor.
+//! The row of a vote.
 
 ghost use Rattle.std.specs.Prelude.{◌≡◌, [], true, IfOk, IsErrOf, IsTrue};
 ghost use Rattle.cx_base.specs.declared.role.Kind.{Kind};
@@ -10,11 +10,12 @@ ghost use Rattle.cx_role.specs.declared.role.StepFault.TheVariants as fault;
 ghost use Rattle.cx_role.specs.Role.{Steps, StaysAt, FailsAt};
 
 use crate::Acceptor;
-use crate::votes::{has_vote, place};
+use crate::keeping::keep;
+use crate::votes::{has_vote, keep_from, place};
 use cx_base::{Duplicate, RoleId, Round, Value, Why};
 use cx_field::Vote;
-use cx_keeper::{KeepFault, Keeper};
-use cx_msg::{Record, nack, phase2b};
+use cx_keeper::Keeper;
+use cx_msg::{Record, phase2b};
 use cx_role::{Outbox, StepFault};
 
 impl Acceptor {
@@ -43,9 +44,7 @@ impl Acceptor {
         ensures failed { IsErrOf result StepFault.Failed → FailsAt K.append_gives (phase2a_row self.old.me self.old.durable from round slot cw value.now) keeper.old keeper.new self.new out.new.list }
     {
         if round.is_before(&self.promise) {
-            out.room(1)?;
-            out.push(nack(self.me.index, round.id, round, self.promise));
-            return Ok(Why::Nack);
+            return Ok(self.refuse(round, out)?);
         }
         if slot < self.cw {
             return Ok(Why::Past);
@@ -68,18 +67,12 @@ impl Acceptor {
         };
         self.votes.reserve(1)?;
         out.room(1)?;
-        match keeper.append(&record) {
-            Ok(()) => {}
-            Err(KeepFault::NoMemory) => return Err(StepFault::NoMemory),
-            Err(KeepFault::Failed) => {
-                self.live = false;
-                return Err(StepFault::Failed);
-            }
-        }
+        keep(keeper, &mut self.live, &record)?;
         self.promise = round;
         self.cw = self.cw.max(cw);
         self.top = self.top.max(slot + 1);
-        place(&mut self.votes, self.cw, vote);
+        keep_from(&mut self.votes, self.cw);
+        place(&mut self.votes, vote);
         out.push(phase2b(self.me.index, from.index, round, slot));
         Ok(Why::Voted)
     }

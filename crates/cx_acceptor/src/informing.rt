@@ -1,0 +1,73 @@
+//! The rows of how many slots are chosen.
+
+ghost use Rattle.std.specs.Prelude.{◌≡◌, [], true, IfOk, IsErrOf, IsTrue, OnErr};
+ghost use Rattle.cx_base.specs.declared.role.Kind.{Kind};
+ghost use Rattle.cx_base.specs.Role.{role};
+ghost use Rattle.cx_model.specs.Acceptor.{acceptor_rules, inform_row, pre_read_row};
+ghost use Rattle.cx_field.specs.Fields as field;
+ghost use Rattle.cx_role.specs.declared.role.StepFault.TheVariants as fault;
+ghost use Rattle.cx_role.specs.Role.{Replies, Steps, StaysAt, FailsAt};
+
+use crate::Acceptor;
+use crate::keeping::keep;
+use cx_base::{NoMemory, RoleId, Round, Why};
+use cx_field::Token;
+use cx_keeper::Keeper;
+use cx_msg::{Record, informed, pre_read_ack};
+use cx_role::{Outbox, StepFault};
+
+impl Acceptor {
+    /// A leader that retires earlier rounds tells how many slots enough replicas hold; what is kept of it is the greatest
+    /// number, and its round as a promise (this project's own).
+    pub(crate) fn inform<K: Keeper>(
+        &mut self,
+        keeper: &mut K,
+        from: RoleId,
+        round: Round,
+        mark: u64,
+        out: &mut Outbox,
+    ) -> Result<Why, StepFault>
+        requires live { self.old.live ≡ true }
+        requires empty { out.old.list ≡ [] }
+        requires sender { from ≡ role Kind.Leader from.index }
+        requires round { IsTrue (field.round.fits round) }
+        requires mark { IsTrue (field.mark.fits mark) }
+        ensures ok { IfOk result (λ why. Steps K.append_gives acceptor_rules self.old (inform_row self.old.me self.old.durable from round mark) why keeper.old keeper.new self.new out.new.list) }
+        ensures no_memory { IsErrOf result StepFault.NoMemory → StaysAt K.kept self.old self.new keeper.old keeper.new out.new.list }
+        ensures failed { IsErrOf result StepFault.Failed → FailsAt K.append_gives (inform_row self.old.me self.old.durable from round mark) keeper.old keeper.new self.new out.new.list }
+    {
+        if round.is_before(&self.promise) {
+            return Ok(self.refuse(round, out)?);
+        }
+        out.room(1)?;
+        if round == self.promise && mark <= self.cw {
+            out.push(informed(self.me.index, from.index, round, self.cw));
+            return Ok(Why::Same);
+        }
+        keep(keeper, &mut self.live, &Record::Water { round, mark })?;
+        self.raise(round, mark);
+        out.push(informed(self.me.index, from.index, round, self.cw));
+        Ok(Why::Informed)
+    }
+
+    /// A reader asks from which slot on nothing was chosen by this acceptor's vote (this project's own).
+    pub(crate) fn pre_read(
+        &self,
+        from: RoleId,
+        token: Token,
+        watermark: Round,
+        out: &mut Outbox,
+    ) -> Result<Why, NoMemory>
+        requires empty { out.old.list ≡ [] }
+        requires sender { from ≡ role Kind.Reader from.index }
+        requires token { IsTrue (field.token.fits token) }
+        requires watermark { IsTrue (field.round0.fits watermark) }
+        ensures ok { IfOk result (λ why. Replies acceptor_rules self.now (pre_read_row self.now.me self.now.durable from token watermark) why self.now out.new.list) }
+        ensures no_memory { OnErr result (out.new.list ≡ []) }
+    {
+        let mark = self.cw.max(self.top);
+        out.room(1)?;
+        out.push(pre_read_ack(self.me.index, from.index, token, watermark, mark));
+        Ok(Why::Asked)
+    }
+}

@@ -1,0 +1,74 @@
+//! The row of a promise.
+
+ghost use Rattle.std.specs.Prelude.{◌≡◌, ◌∷◌, [], true, IfOk, IsErrOf, IsTrue, OnOk, OnErr};
+ghost use Rattle.cx_base.specs.declared.role.Kind.{Kind};
+ghost use Rattle.cx_base.specs.Role.{role};
+ghost use Rattle.cx_base.specs.Round.{is_before};
+ghost use Rattle.cx_model.specs.Acceptor.{acceptor_rules, nack_to, phase1a_row};
+ghost use Rattle.cx_field.specs.Fields as field;
+ghost use Rattle.cx_role.specs.declared.role.StepFault.TheVariants as fault;
+ghost use Rattle.cx_role.specs.Role.{Steps, StaysAt, FailsAt};
+
+use crate::Acceptor;
+use crate::keeping::keep;
+use cx_base::{Few, NoMemory, RoleId, Round, Why, copy_all};
+use cx_field::Votes;
+use cx_keeper::Keeper;
+use cx_msg::{Record, nack, phase1b};
+use cx_role::{Outbox, StepFault};
+
+impl Acceptor {
+    /// A leader asks to promise its round, and for the votes from the watermark on; they are told once the promise is kept
+    /// (VLDB 2021).
+    pub(crate) fn phase1a<K: Keeper>(
+        &mut self,
+        keeper: &mut K,
+        from: RoleId,
+        round: Round,
+        out: &mut Outbox,
+    ) -> Result<Why, StepFault>
+        requires live { self.old.live ≡ true }
+        requires empty { out.old.list ≡ [] }
+        requires sender { from ≡ role Kind.Leader from.index }
+        requires round { IsTrue (field.round.fits round) }
+        ensures ok { IfOk result (λ why. Steps K.append_gives acceptor_rules self.old (phase1a_row self.old.me self.old.durable from round) why keeper.old keeper.new self.new out.new.list) }
+        ensures no_memory { IsErrOf result StepFault.NoMemory → StaysAt K.kept self.old self.new keeper.old keeper.new out.new.list }
+        ensures failed { IsErrOf result StepFault.Failed → FailsAt K.append_gives (phase1a_row self.old.me self.old.durable from round) keeper.old keeper.new self.new out.new.list }
+    {
+        if round.is_before(&self.promise) {
+            return Ok(self.refuse(round, out)?);
+        }
+        let votes = self.told_votes()?;
+        out.room(1)?;
+        if round == self.promise {
+            out.push(phase1b(self.me.index, from.index, round, self.cw, votes));
+            return Ok(Why::Same);
+        }
+        keep(keeper, &mut self.live, &Record::Promise { round })?;
+        self.promise = round;
+        out.push(phase1b(self.me.index, from.index, round, self.cw, votes));
+        Ok(Why::Promised)
+    }
+
+    /// Tells a round's leader that a greater one was promised.
+    pub(crate) fn refuse(&self, round: Round, out: &mut Outbox) -> Result<Why, NoMemory>
+        requires before { is_before round self.now.durable.promise ≡ true }
+        requires empty { out.old.list ≡ [] }
+        requires round { IsTrue (field.round.fits round) }
+        ensures why { IfOk result (λ why. why ≡ Why.Nack) }
+        ensures ok { OnOk result (out.new.list ≡ nack_to self.now.me round self.now.durable.promise ∷ []) }
+        ensures no_memory { OnErr result (out.new.list ≡ []) }
+    {
+        out.room(1)?;
+        out.push(nack(self.me.index, round.id, round, self.promise));
+        Ok(Why::Nack)
+    }
+
+    // The votes as they are told.
+    fn told_votes(&self) -> Result<Votes, NoMemory>
+        ensures votes { IfOk result (λ votes. votes ≡ self.now.durable.votes) }
+        ensures fit { IfOk result (λ votes. IsTrue ((field.votes self.now.durable.cw).fits votes)) }
+    {
+        Ok(Few::from_vec(copy_all(self.alloc, &self.votes)?))
+    }
+}

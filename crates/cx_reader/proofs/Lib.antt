@@ -1,0 +1,6 @@
+pub mod Counted
+pub mod Entries
+pub mod Live
+pub mod Opened
+pub mod Ranges
+pub mod Sends

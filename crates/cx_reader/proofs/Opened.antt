@@ -1,0 +1,19 @@
+-- How a reader is opened.
+use Rattle.std.proofs.Common.{◌≡◌, ◌≤◌, List, [], ◌∷◌, length, Some, refl, ap, sym, arith}
+use Rattle.cx_base.specs.declared.cluster.Cluster.{Cluster}
+use Rattle.cx_base.specs.declared.role.Kind.{Kind}
+use Rattle.cx_base.specs.declared.role.Kind.TheVariants.{Reader}
+use Rattle.cx_base.specs.declared.role.RoleId.{RoleId}
+use Rattle.cx_base.specs.Role.{role}
+use Rattle.cx_msg.specs.declared.kept.Record.{Record}
+use Rattle.cx_model.specs.Reader.{reader_rules}
+use Rattle.cx_model.specs.Rules.{refused}
+
+-- a role of a reader's kind is the reader of its index
+pub reader_itself : (me : RoleId) → me.kind ≡ Reader → role Reader me.index ≡ me
+reader_itself me is = ap (λ (k : Kind). role k me.index) (sym is)
+
+-- a role without records refuses the first
+pub reader_refuses : (c : Cluster) (me : RoleId) (rs : List Record) → 1 ≤ length rs → refused reader_rules c me rs ≡ Some 0
+reader_refuses c me [] h = absurd (omega arith)
+reader_refuses c me (r ∷ rs) h = refl

@@ -1,0 +1,113 @@
+//! What the matchmakers answered (JSys 2021): the greatest watermark, and the grids that are not retired.
+
+ghost use Rattle.std.specs.Prelude.{◌≡◌, ◌&&◌, true, not};
+ghost use Rattle.std.specs.List.{list_all, list_any};
+ghost use Rattle.cx_base.specs.Grid.{is_in};
+ghost use Rattle.cx_base.specs.Round.{is_before};
+ghost use Rattle.cx_grid.specs.Quorum.{row_whole};
+ghost use Rattle.cx_model.specs.declared.states.MatchAnswer.{MatchAnswer as AnswerOf};
+ghost use Rattle.cx_model.specs.Matched.{later_round, is_counted, greatest_watermark, entries_told, live_entries, is_member_of, rows_whole};
+ghost use Rattle.cx_model.specs.Matchmaker.{entries_from};
+ghost use Rattle.cx_field.specs.declared.parts.Entry.{Entry as EntryOf};
+
+use cx_base::Round;
+use cx_field::Entry;
+use cx_grid::{Marks, is_member, row_whole};
+use cx_model::MatchAnswer;
+
+fn later(a: Round, b: Round) -> Round
+    ensures { result ≡ later_round a b }
+{
+    if a.is_before(&b) { b } else { a }
+}
+
+/// The greatest watermark that was told. It takes no memory.
+pub fn greatest_watermark(told: &[MatchAnswer]) -> Round
+    ensures { result ≡ greatest_watermark told.now }
+{
+    match told {
+        [] => Round::ZERO,
+        [answer, rest @ ..] => later(answer.watermark, greatest_watermark(rest)),
+    }
+}
+
+/// Whether an answer of this matchmaker was counted. It takes no memory.
+pub fn is_counted(told: &[MatchAnswer], matchmaker: u16) -> bool
+    ensures { result ≡ is_counted matchmaker told.now }
+{
+    told.iter().any(|answer| answer.matchmaker == matchmaker)
+}
+
+fn is_live(entry: &Entry, watermark: Round) -> bool
+    ensures { result ≡ not (is_before entry.now.round watermark) }
+{
+    !entry.round.is_before(&watermark)
+}
+
+fn some_live(entries: &[Entry], watermark: Round) -> bool
+    ensures { result ≡ list_any (λ (e : EntryOf). not (is_before e.round watermark)) entries.now }
+{
+    entries.iter().any(|entry| is_live(entry, watermark))
+}
+
+fn some_live_told(told: &[MatchAnswer], watermark: Round) -> bool
+    ensures { result ≡ list_any (λ (a : AnswerOf). list_any (λ (e : EntryOf). not (is_before e.round watermark)) a.entries) told.now }
+{
+    told.iter()
+        .any(|answer| some_live(answer.entries.as_slice(), watermark))
+}
+
+/// Whether an entry that was told is not retired. It takes no memory.
+pub fn has_live(told: &[MatchAnswer]) -> bool
+    ensures { result ≡ list_any (λ (e : EntryOf). true) (live_entries told.now) }
+{
+    some_live_told(told, greatest_watermark(told))
+}
+
+fn some_live_with(entries: &[Entry], watermark: Round, acceptor: u16) -> bool
+    ensures { result ≡ list_any (λ (e : EntryOf). not (is_before e.round watermark) && is_in acceptor e.grid.members) entries.now }
+{
+    entries.iter().any(|entry| is_live(entry, watermark) && is_member(&entry.grid, acceptor))
+}
+
+fn live_with_told(told: &[MatchAnswer], watermark: Round, acceptor: u16) -> bool
+    ensures { result ≡ list_any (λ (a : AnswerOf). list_any (λ (e : EntryOf). not (is_before e.round watermark) && is_in acceptor e.grid.members) a.entries) told.now }
+{
+    told.iter().any(|answer| some_live_with(answer.entries.as_slice(), watermark, acceptor))
+}
+
+/// Whether an acceptor is a member of a grid that was told and is not retired. It takes no memory.
+pub fn is_live_member(told: &[MatchAnswer], acceptor: u16) -> bool
+    ensures { result ≡ is_member_of (live_entries told.now) acceptor }
+{
+    live_with_told(told, greatest_watermark(told), acceptor)
+}
+
+fn live_whole(entries: &[Entry], watermark: Round, marks: &Marks) -> bool
+    ensures { result ≡ rows_whole (entries_from watermark entries.now) marks.now }
+{
+    for entry in entries {
+        if is_live(entry, watermark) && !row_whole(&entry.grid, marks) {
+            return false;
+        }
+    }
+    true
+}
+
+fn live_whole_told(told: &[MatchAnswer], watermark: Round, marks: &Marks) -> bool
+    ensures { result ≡ rows_whole (entries_from watermark (entries_told told.now)) marks.now }
+{
+    for answer in told {
+        if !live_whole(answer.entries.as_slice(), watermark, marks) {
+            return false;
+        }
+    }
+    true
+}
+
+/// Whether each grid that was told and is not retired has a row that is marked from end to end. It takes no memory.
+pub fn rows_whole(told: &[MatchAnswer], marks: &Marks) -> bool
+    ensures { result ≡ rows_whole (live_entries told.now) marks.now }
+{
+    live_whole_told(told, greatest_watermark(told), marks)
+}

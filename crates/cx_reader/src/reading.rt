@@ -1,0 +1,226 @@
+//! One read in progress.
+
+ghost use Rattle.std.specs.Prelude.{◌≡◌, ◌≤◌, ◌<◌, ◌++◌, ◌∷◌, [], map, true, ℕ, IsTrue, IfOk};
+ghost use Rattle.std.specs.List.{list_any};
+ghost use Rattle.cx_base.specs.Grid.{is_in};
+ghost use Rattle.cx_base.specs.Role.{role};
+ghost use Rattle.cx_base.specs.declared.role.Kind.{Kind as KindOf};
+ghost use Rattle.cx_model.specs.Matched.{greatest_watermark, is_counted, is_member_of, live_entries, members_of, rows_whole};
+ghost use Rattle.cx_model.specs.Reader.{acked_by, greatest_mark, has_acked, is_matched, pre_read_to, read_to, reading};
+ghost use Rattle.cx_field.specs.Fields as field;
+ghost use Rattle.cx_field.specs.declared.parts.Entry.{Entry};
+ghost use Rattle.cx_reader.specs.InProgress.{are_told, are_acks};
+
+use crate::matched;
+use cx_base::{Cluster, Duplicate, Key, Kind, NoMemory, Round};
+use cx_field::Token;
+use cx_grid::Marks;
+use cx_model::{Acked, MatchAnswer};
+use cx_msg::{Datagram, pre_read, read};
+use cx_role::Outbox;
+use std::alloc::Global;
+use std::marker::Model;
+
+/// A read in progress: what was asked for, and the answers that were counted. Until enough matchmakers have answered it
+/// waits for them, and then for a row of each live grid (VLDB 2021; over several grids this project's own).
+#[derive(Drop)]
+pub struct Reading {
+    token: Token,
+    replica: u16,
+    key: Key,
+    told: Vec<MatchAnswer>,
+    acks: Vec<Acked>,
+}
+
+impl Model for Reading {
+    ghost use Rattle.cx_model.specs.Reader.{Reading as InProgress};
+    ghost use Rattle.cx_reader.specs.InProgress.{IsReading};
+
+    ghost Value = { InProgress };
+
+    ghost view = { λ r. record { token = r.token; replica = r.replica; key = r.key; told = r.told.items; acks = r.acks.items } };
+
+    ghost invariant = { λ r. IsReading r.token r.told.items r.acks.items };
+}
+
+impl Reading {
+    /// A read that no answer was counted for. It takes no memory.
+    pub fn new(alloc: Global, token: Token, replica: u16, key: Key) -> Self
+        requires { IsTrue (field.token.fits token) }
+        ensures { result ≡ reading token replica key }
+    {
+        Reading {
+            token,
+            replica,
+            key,
+            told: Vec::new(alloc),
+            acks: Vec::new(alloc),
+        }
+    }
+
+    /// Whose read it is.
+    pub fn token(&self) -> Token
+        ensures token { result ≡ self.now.token }
+        ensures fits { IsTrue (field.token.fits result) }
+    {
+        self.token
+    }
+
+    /// Whether enough matchmakers have answered, f + 1 of them.
+    pub fn is_matched(&self, cluster: &Cluster) -> bool
+        ensures { result ≡ is_matched cluster.now self.now }
+    {
+        self.told.len() > usize::from(cluster.f)
+    }
+
+    /// Whether this matchmaker was counted.
+    pub fn has_told(&self, matchmaker: u16) -> bool
+        ensures { result ≡ is_counted matchmaker self.now.told }
+    {
+        matched::is_counted(&self.told, matchmaker)
+    }
+
+    /// Whether this acceptor was counted.
+    pub fn has_acked(&self, acceptor: u16) -> bool
+        ensures { result ≡ has_acked acceptor self.now.acks }
+    {
+        has_acked(&self.acks, acceptor)
+    }
+
+    /// Whether a grid is live.
+    pub fn has_live(&self) -> bool
+        ensures { result ≡ list_any (λ (e : Entry). true) (live_entries self.now.told) }
+    {
+        matched::has_live(&self.told)
+    }
+
+    /// Whether an acceptor is a member of a live grid.
+    pub fn is_live_member(&self, acceptor: u16) -> bool
+        ensures { result ≡ is_member_of (live_entries self.now.told) acceptor }
+    {
+        matched::is_live_member(&self.told, acceptor)
+    }
+
+    /// The greatest watermark that was told.
+    pub fn watermark(&self) -> Round
+        ensures watermark { result ≡ greatest_watermark self.now.told }
+        ensures fits { IsTrue (field.round0.fits result) }
+    {
+        matched::greatest_watermark(&self.told)
+    }
+
+    /// The greatest number of slots that an acceptor told.
+    pub fn mark(&self) -> u64
+        ensures mark { result ≡ greatest_mark self.now.acks }
+        ensures fits { IsTrue (field.mark.fits result) }
+    {
+        greatest_mark(&self.acks)
+    }
+
+    /// Whether each live grid has a row of acceptors that were counted.
+    pub fn rows_whole(&self) -> bool
+        ensures { result ≡ rows_whole (live_entries self.now.told) (acked_by self.now.acks) }
+    {
+        matched::rows_whole(&self.told, &marked(&self.acks))
+    }
+
+    /// The read with one more matchmaker counted.
+    pub fn with_answer(&self, alloc: Global, answer: MatchAnswer) -> Result<Reading, NoMemory>
+        requires { IsTrue (field.round0.fits answer.watermark) }
+        ensures { IfOk result (λ more. more ≡ record self.now { told = self.now.told ++ answer ∷ [] }) }
+    {
+        let mut told = copied(alloc, &self.told)?;
+        told.push(answer)?;
+        Ok(Reading {
+            token: self.token,
+            replica: self.replica,
+            key: self.key,
+            told,
+            acks: Vec::from_slice(alloc, &self.acks)?,
+        })
+    }
+
+    /// The read with one more acceptor counted.
+    pub fn with_ack(&self, alloc: Global, ack: Acked) -> Result<Reading, NoMemory>
+        requires acceptor { ack.acceptor < 64 }
+        requires mark { IsTrue (field.mark.fits ack.mark) }
+        ensures { IfOk result (λ more. more ≡ record self.now { acks = self.now.acks ++ ack ∷ [] }) }
+    {
+        let mut acks = Vec::from_slice(alloc, &self.acks)?;
+        acks.push(ack)?;
+        Ok(Reading {
+            token: self.token,
+            replica: self.replica,
+            key: self.key,
+            told: copied(alloc, &self.told)?,
+            acks,
+        })
+    }
+
+    /// The question for its key, for its replica that holds so many slots. It takes no memory.
+    pub fn read(&self, reader: u16, mark: u64) -> Datagram
+        requires { IsTrue (field.mark.fits mark) }
+        ensures { result ≡ read_to (role KindOf.Reader reader) self.now mark }
+    {
+        read(reader, self.replica, self.token, mark, self.key)
+    }
+
+    /// Asks the members of live grids how far they voted, by rising index. Room was taken beforehand.
+    pub fn ask_members(&self, reader: u16, cluster: &Cluster, out: &mut Outbox)
+        requires { cluster.now.acceptors ≤ out.old.spare }
+        ensures { out.new.list ≡ out.old.list ++ map (pre_read_to (role KindOf.Reader reader) self.now) (members_of cluster.now (live_entries self.now.told)) }
+    {
+        let token = self.token();
+        let watermark = self.watermark();
+        for acceptor in 0..cluster.acceptors {
+            if self.is_live_member(acceptor) {
+                out.push(pre_read(reader, acceptor, token, watermark));
+            }
+        }
+    }
+}
+
+fn has_acked(acks: &[Acked], acceptor: u16) -> bool
+    ensures { result ≡ has_acked acceptor acks.now }
+{
+    acks.iter().any(|ack| ack.acceptor == acceptor)
+}
+
+fn greatest_mark(acks: &[Acked]) -> u64
+    requires { IsTrue (are_acks acks.now) }
+    ensures mark { result ≡ greatest_mark acks.now }
+    ensures fits { IsTrue (field.mark.fits result) }
+{
+    let mut greatest = 0;
+    for ack in acks {
+        greatest = ack.mark.max(greatest);
+    }
+    greatest
+}
+
+// The acceptors that were counted, as a set.
+fn marked(acks: &[Acked]) -> Marks
+    requires { IsTrue (are_acks acks.now) }
+    ensures { (id : ℕ) → is_in id result ≡ is_in id (acked_by acks.now) }
+{
+    let mut marks = Marks::new();
+    for ack in acks {
+        marks.add(ack.acceptor);
+    }
+    marks
+}
+
+// The same answers again.
+fn copied(alloc: Global, told: &[MatchAnswer]) -> Result<Vec<MatchAnswer>, NoMemory>
+    ensures { IfOk result (λ copied. copied.items ≡ told.now) }
+{
+    let mut list = Vec::with_capacity(alloc, told.len())?;
+    for answer in told {
+        list.push(MatchAnswer {
+            matchmaker: answer.matchmaker,
+            watermark: answer.watermark,
+            entries: answer.entries.copy(alloc)?,
+        })?;
+    }
+    Ok(list)
+}

@@ -1,0 +1,88 @@
+//! The reads in progress.
+
+ghost use Rattle.std.specs.Prelude.{◌≡◌, [], length, OnOk, OnErr};
+ghost use Rattle.std.specs.Option.{option_copied};
+ghost use Rattle.cx_model.specs.Reader.{reading_of, with_reading, without_reading};
+ghost use Rattle.cx_reader.specs.Reads.{id_of};
+
+use crate::reading::Reading;
+use cx_base::NoMemory;
+use cx_field::Token;
+use indexmap::IndexMap;
+use std::alloc::Global;
+use std::marker::Model;
+
+// A token, under which the map finds its read.
+#[derive(Clone, Copy, Debug, PartialEq, Eq, Hash)]
+struct Id {
+    client: u16,
+    seq: u64,
+}
+
+fn id_of(token: Token) -> Id
+    ensures { result ≡ id_of token }
+{
+    Id {
+        client: token.client,
+        seq: token.seq,
+    }
+}
+
+/// The reads in progress, in the order in which they came. No two have one token.
+#[derive(Drop)]
+pub struct Reads {
+    map: IndexMap<Id, Reading>,
+}
+
+impl Model for Reads {
+    ghost use Rattle.std.specs.Prelude.{List};
+    ghost use Rattle.cx_model.specs.Reader.{Reading as InProgress};
+    ghost use Rattle.cx_reader.specs.Reads.{reads_of, AreNamed};
+
+    ghost Value = { List InProgress };
+
+    ghost view = { λ r. reads_of r.map.entries };
+
+    ghost invariant = { λ r. AreNamed r.map.entries };
+}
+
+impl Reads {
+    /// No read. It takes no memory.
+    pub fn new(alloc: Global) -> Self
+        ensures { result ≡ [] }
+    {
+        Reads {
+            map: IndexMap::new(alloc),
+        }
+    }
+
+    /// How many they are.
+    pub fn len(&self) -> usize
+        ensures { result ≡ length self.now }
+    {
+        self.map.len()
+    }
+
+    /// The read of a token. It takes no memory.
+    pub fn get(&self, token: Token) -> Option<&Reading>
+        ensures { option_copied result ≡ reading_of token self.now }
+    {
+        self.map.get(&id_of(token))
+    }
+
+    /// Puts a read into the place of the earlier one of its token, or at the end; nothing changes where memory is wanting.
+    pub fn put(&mut self, one: Reading) -> Result<(), NoMemory>
+        ensures ok { OnOk result (self.new ≡ with_reading one self.old) }
+        ensures err { OnErr result (self.new ≡ self.old) }
+    {
+        self.map.insert(id_of(one.token()), one)?;
+        Ok(())
+    }
+
+    /// Drops the read of a token, if there is one. It takes no memory.
+    pub fn remove(&mut self, token: Token)
+        ensures { self.new ≡ without_reading token self.old }
+    {
+        self.map.shift_remove(&id_of(token));
+    }
+}

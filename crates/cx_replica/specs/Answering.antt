@@ -1,0 +1,18 @@
+-- What a replica answers a read.
+use Rattle.std.specs.Prelude.{ℕ, nat_le, map, filter, List}
+use Rattle.cx_base.specs.declared.command.Pair.{Pair}
+use Rattle.cx_base.specs.declared.role.Kind.TheVariants.{Client}
+use Rattle.cx_base.specs.declared.role.RoleId.{RoleId}
+use Rattle.cx_base.specs.Fold.{text_at}
+use Rattle.cx_base.specs.Role.{role}
+use Rattle.cx_msg.specs.Letter.{Letter, letter}
+use Rattle.cx_msg.specs.declared.message.Msg.TheVariants as msg
+use Rattle.cx_model.specs.declared.states.Deferred.{Deferred}
+
+-- the key's text in a map, where so many slots are held
+abbrev pub answer_at : RoleId → ℕ → List Pair → Deferred → Letter
+answer_at me held pairs r = letter me (role Client r.token.client) (msg.ReadAnswer r.token.seq held (text_at r.key pairs))
+
+-- the same for each read that waited for no more slots
+abbrev pub answers_at : RoleId → ℕ → List Pair → List Deferred → List Letter
+answers_at me held pairs reads = map (answer_at me held pairs) (filter (λ (r : Deferred). nat_le r.mark held) reads)
