@@ -1,5 +1,5 @@
 -- An acceptor stays sound.
-use Rattle.std.specs.Prelude.{◌≡◌, ◌⊎◌, ◌≤◌, ◌<◌, ℕ, ◌+◌, ◌^◌, ◌&&◌, Bool, true, false, not, nat_le, nat_lt, max, List, [], refl}
+use Rattle.std.specs.Prelude.{◌≡◌, ◌⊎◌, ◌≤◌, ◌<◌, ℕ, ◌+◌, ◌^◌, ◌&&◌, Bool, true, not, nat_le, nat_lt, max, List, [], refl}
 use Rattle.std.specs.List.{list_all}
 use Rattle.std.proofs.Common.{arith, inl, inr}
 use Rattle.std.proofs.lemmas.Bool.{and_parts}
@@ -19,7 +19,7 @@ use Rattle.cx_field.specs.Fields.{mark, round, round0, slot, value, in_window}
 use Rattle.cx_field.specs.Ranges.{slots_rise, vote_in_range}
 use Rattle.cx_msg.specs.Records.{fits, kept_record}
 use Rattle.cx_field.proofs.Rising.{rises-filter}
-use Rattle.cx_model.specs.Acceptor.{AcceptorDurable, acceptor_after, acceptor_fits, votes_from, vote_at, is_of, with_vote}
+use Rattle.cx_model.specs.Acceptor.{AcceptorDurable, acceptor_after, acceptor_fits, votes_from, vote_at, is_of}
 use Rattle.cx_model.specs.Names.{names_round, names_value}
 use Rattle.cx_acceptor.specs.Sound.{IsSound}
 use Rattle.cx_acceptor.proofs.VoteLaws.{all_filter, all_with, rising_with}

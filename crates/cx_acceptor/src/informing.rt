@@ -5,7 +5,6 @@ ghost use Rattle.cx_base.specs.declared.role.Kind.{Kind};
 ghost use Rattle.cx_base.specs.Role.{role};
 ghost use Rattle.cx_model.specs.Acceptor.{acceptor_rules, inform_row, pre_read_row};
 ghost use Rattle.cx_field.specs.Fields as field;
-ghost use Rattle.cx_role.specs.declared.role.StepFault.TheVariants as fault;
 ghost use Rattle.cx_role.specs.Role.{Replies, Steps, StaysAt, FailsAt};
 
 use crate::Acceptor;

@@ -6,7 +6,6 @@ ghost use Rattle.cx_base.specs.Role.{role};
 ghost use Rattle.cx_base.specs.Round.{is_before};
 ghost use Rattle.cx_model.specs.Acceptor.{acceptor_rules, nack_to, phase1a_row};
 ghost use Rattle.cx_field.specs.Fields as field;
-ghost use Rattle.cx_role.specs.declared.role.StepFault.TheVariants as fault;
 ghost use Rattle.cx_role.specs.Role.{Steps, StaysAt, FailsAt};
 
 use crate::Acceptor;

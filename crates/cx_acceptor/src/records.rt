@@ -1,6 +1,6 @@
 //! What an acceptor remembers of its records.
 
-ghost use Rattle.std.specs.Prelude.{◌≡◌, ◌∷◌, [], true, OnOk, OnErr, IsTrue};
+ghost use Rattle.std.specs.Prelude.{◌≡◌, [], true, OnOk, OnErr, IsTrue};
 ghost use Rattle.cx_base.specs.declared.role.Kind.{Kind};
 ghost use Rattle.cx_model.specs.Acceptor.{acceptor_rules, acceptor_after, acceptor_fits};
 ghost use Rattle.cx_model.specs.Rules.{opened};

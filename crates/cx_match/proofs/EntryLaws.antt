@@ -1,5 +1,5 @@
 -- Entries in rising order.
-use Rattle.std.specs.Prelude.{◌≡◌, ◌≤◌, ◌<◌, ℕ, suc, ◌+◌, ◌-◌, not, ◌&&◌, ◌||◌, Bool, true, false, filter, if◌then◌else◌, List, [], ◌∷◌, length, refl}
+use Rattle.std.specs.Prelude.{◌≡◌, ◌≤◌, ◌<◌, suc, ◌+◌, ◌-◌, not, ◌||◌, Bool, true, false, filter, if◌then◌else◌, List, [], ◌∷◌, length, refl}
 use Rattle.std.specs.List.{list_all, list_any}
 use Rattle.std.proofs.Common.{arith}
 use Rattle.std.proofs.lemmas.Bool.{and_parts}

@@ -1,5 +1,5 @@
 -- A matchmaker stays sound.
-use Rattle.std.specs.Prelude.{◌≡◌, ◌⊎◌, ◌≤◌, ◌<◌, ℕ, ◌+◌, not, ◌&&◌, ◌||◌, Bool, true, false, nat_le, nat_lt, List, [], ◌∷◌, ◌++◌, length, refl}
+use Rattle.std.specs.Prelude.{◌≡◌, ◌⊎◌, ◌≤◌, ◌<◌, ℕ, not, ◌&&◌, ◌||◌, Bool, true, false, nat_le, nat_lt, [], ◌∷◌, ◌++◌, length, refl}
 use Rattle.std.specs.List.{list_all}
 use Rattle.std.proofs.Common.{arith, inl, inr, length-append}
 use Rattle.std.proofs.lemmas.Bool.{and_parts}

@@ -76,7 +76,7 @@ pub fn retire(entries: &mut Vec<Entry>, round: Round, grid: Grid)
     ensures { entries.new.items ≡ with_own round grid (entries_from round entries.old.items) }
 {
     keep_from(entries, round);
-    if has_entry(entries, round) {
+    if !has_entry(entries, round) {
         entries.insert(0, Entry { round, grid }).unwrap();
     }
 }

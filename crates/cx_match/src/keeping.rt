@@ -3,7 +3,6 @@
 ghost use Rattle.std.specs.Prelude.{◌≡◌, false, Ok, Err, IfOk, IsErrOf, IsTrue, OnOk};
 ghost use Rattle.cx_keeper.specs.declared.keeper.KeepFault.TheVariants as keep_fault;
 ghost use Rattle.cx_msg.specs.Records.{fits};
-ghost use Rattle.cx_role.specs.declared.role.StepFault.TheVariants as fault;
 
 use cx_keeper::{KeepFault, Keeper};
 use cx_msg::Record;

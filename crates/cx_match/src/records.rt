@@ -1,6 +1,6 @@
 //! What a matchmaker remembers of its records.
 
-ghost use Rattle.std.specs.Prelude.{◌≡◌, ◌∷◌, [], true, OnOk, OnErr, IsTrue};
+ghost use Rattle.std.specs.Prelude.{◌≡◌, [], true, OnOk, OnErr, IsTrue};
 ghost use Rattle.cx_base.specs.declared.role.Kind.{Kind};
 ghost use Rattle.cx_model.specs.Matchmaker.{matchmaker_rules, matchmaker_after, matchmaker_fits};
 ghost use Rattle.cx_model.specs.Rules.{opened};

@@ -5,7 +5,6 @@ ghost use Rattle.cx_base.specs.declared.role.Kind.{Kind};
 ghost use Rattle.cx_base.specs.Role.{role};
 ghost use Rattle.cx_model.specs.Matchmaker.{garbage_a_row, matchmaker_rules, match_a_row, match_read_row};
 ghost use Rattle.cx_field.specs.Fields as field;
-ghost use Rattle.cx_role.specs.declared.role.StepFault.TheVariants as fault;
 ghost use Rattle.cx_role.specs.Role.{Replies, Steps, StaysAt, FailsAt};
 
 use crate::Matchmaker;
@@ -45,7 +44,7 @@ impl Matchmaker {
         if has_later(&self.entries, round) {
             let last = last_round(&self.entries);
             out.room(1)?;
-            out.push(match_nack(self.me.index, from.index, round, 1, self.watermark));
+            out.push(match_nack(self.me.index, from.index, round, 1, last));
             return Ok(Why::Later);
         }
         if has_entry(&self.entries, round) {
@@ -64,7 +63,7 @@ impl Matchmaker {
         self.entries.reserve(1)?;
         out.room(1)?;
         keep(keeper, &mut self.live, &Record::Match { round, grid })?;
-        let _entry = Entry { round, grid };
+        self.entries.push_reserved(Entry { round, grid });
         out.push(match_b(self.me.index, from.index, round, self.watermark, entries));
         Ok(Why::Matched)
     }
@@ -94,11 +93,11 @@ impl Matchmaker {
             return Ok(Why::Same);
         }
         self.entries.reserve(1)?;
-        let kept = keep(keeper, &mut self.live, &Record::Garbage { round, grid });
-        self.watermark = self.watermark;
+        keep(keeper, &mut self.live, &Record::Garbage { round, grid })?;
+        self.watermark = round;
         retire(&mut self.entries, round, grid);
         out.push(garbage_b(self.me.index, from.index, round));
-        kept?; Ok(Why::Raised)
+        Ok(Why::Raised)
     }
 
     /// A reader asks for the watermark and all entries (this project's own).
@@ -114,7 +113,7 @@ impl Matchmaker {
         ensures ok { IfOk result (λ why. Replies matchmaker_rules self.now (match_read_row self.now.me self.now.durable from token) why self.now out.new.list) }
         ensures no_memory { OnErr result (out.new.list ≡ []) }
     {
-        let entries = self.entries.iter().copied().filter(|entry| self.watermark.is_before(&entry.round)).collect::<Vec<Entry>>(self.alloc)?; let entries = cx_base::Few::from_vec(entries);
+        let entries = told(self.alloc, &self.entries)?;
         out.room(1)?;
         out.push(match_read_ack(self.me.index, from.index, token, self.watermark, entries));
         Ok(Why::Asked)

@@ -1,9 +1,9 @@
-use Rattle.std.proofs.Common.{◌≡◌, ◌<◌, ◌==◌, ℕ, true, false, List, get_or, length, ◌∙◌, sym, ap, subst, arith}
+use Rattle.std.proofs.Common.{◌≡◌, ◌<◌, ◌==◌, ℕ, true, false, List, get_or, length, ◌∙◌, sym, subst, arith}
 use Rattle.std.proofs.lemmas.Bool.{eq-eqb}
 use Rattle.std.proofs.lemmas.Bool.Decides.{nat_tests}
 use Rattle.std.proofs.lemmas.List.{get_or_default}
 use Rattle.cx_field.specs.declared.parts.Vote.{Vote}
-use Rattle.cx_acceptor.proofs.VoteLaws.{first_from, first_within, is_first_from, with_set, with_insert}
+use Rattle.cx_acceptor.proofs.VoteLaws.{first_within, is_first_from, with_set, with_insert}
 use Rattle.cx_acceptor.proofs.votes.place.Goals as goal
 use Rattle.cx_acceptor.proofs.votes.place.Goals.{else-at-len-via-then-at-len+else-index-vote, else-at-len-via-else-at-len}
 
