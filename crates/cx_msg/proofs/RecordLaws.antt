@@ -2,8 +2,8 @@
 use Rattle.std.proofs.Common.{◌≡◌, ℕ, ◌<◌, Bool, true, false, ◌&&◌, not, cond, List, [], ◌∷◌, ◌++◌, length, Result, Ok, Err, refl, sym, ap, ◌∙◌, lit<}
 use Rattle.std.specs.Prelude.{IfOk, IsTrue, nat_le}
 use Rattle.std.proofs.lemmas.List.{append-nil}
-use Rattle.cx_wire.specs.Format.{u8, only, ◌▷◌, by_tag}
-use Rattle.cx_wire.proofs.Laws.{IsBytes, IsExact, Takes-then, u8-exact, only-exact, ▷-exact, counted-exact, case-sound, case-again, AllSound, ReadsAgain, by_tag-takes, tag_fits}
+use Rattle.cx_wire.specs.Format.{u8, ◌▷◌, by_tag}
+use Rattle.cx_wire.proofs.Laws.{IsBytes, IsExact, Takes-then, u8-exact, ▷-exact, case-sound, case-again, AllSound, ReadsAgain, by_tag-takes, tag_fits}
 use Rattle.cx_field.specs.Fields.{slot, mark, round, grid, value, values}
 use Rattle.cx_msg.specs.Records.{vote, round_mark, round_grid, record_shape, record_cases, kept_record, fits, spelling, ended, with_tag, recorded, Decodes}
 use Rattle.cx_msg.specs.declared.kept.Record.{Record}
