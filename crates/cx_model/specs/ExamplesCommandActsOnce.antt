@@ -1,4 +1,4 @@
--- A client sends its command twice and it is chosen twice: it acts once, and has the same answer again.
+-- A client sends its command twice, and it is chosen in two slots. It acts once, and has the same answer again.
 use Rattle.std.specs.Prelude.{true, false, List, [], ◌∷◌, codes}
 use Rattle.cx_base.specs.declared.command.Command.{Command}
 use Rattle.cx_base.specs.declared.command.Reply.TheVariants.{Len}
@@ -64,4 +64,8 @@ story =
     []
 
 abbrev pub CommandActsOnce : Type 0
-CommandActsOnce = IsRun one_of_each story (left (only append_a ∷ only append_a ∷ []) (true ∷ false ∷ []) (hold 2 (pair (codes "a") (codes "x") ∷ []) ∷ []))
+CommandActsOnce =
+    IsRun one_of_each story (
+      left (only append_a ∷ only append_a ∷ []) (true ∷ false ∷ [])
+      (hold 2 (pair (codes "a") (codes "x") ∷ []) ∷ [])
+    )

@@ -1,4 +1,5 @@
--- A read asks a replica that holds less than the acceptors voted for: the replica defers it, and answers when it has executed the value.
+-- A read comes to a replica that holds less than the acceptors voted for, and is deferred. It is answered when the replica has executed
+-- the value.
 use Rattle.std.specs.Prelude.{◌++◌, true, List, [], ◌∷◌, codes, Some}
 use Rattle.std.proofs.Common.{lit≤}
 use Rattle.cx_base.specs.declared.cluster.Cluster.{Cluster}
@@ -9,13 +10,18 @@ use Rattle.cx_base.specs.Round.{no_round}
 use Rattle.cx_msg.specs.Letter.{letter}
 use Rattle.cx_msg.specs.declared.kept.Record.TheVariants as kept
 use Rattle.cx_msg.specs.declared.message.Msg.TheVariants as msg
-use Rattle.cx_model.specs.Examples.{Line, IsRun, one_of_each, client, leader, proxy, acceptor, matchmaker, replica, unbatcher, reader, first, single, put_a, only, answered, deliver, left, hold, pair, ◌⇒◌, ◌keeping◌by◌, ◌sending◌}
+use Rattle.cx_model.specs.Examples.{Line, IsRun, one_of_each, client, leader, proxy, acceptor, matchmaker, replica, unbatcher, reader, first, single, put_a, only, answered, deliver, left, hold, pair, Holding, ◌⇒◌, ◌keeping◌by◌, ◌sending◌}
 use Rattle.cx_model.specs.Matchmaker.{entry}
 use Rattle.cx_model.specs.Reader.{token}
 use Rattle.cx_model.specs.ExamplesOnePut.{voted}
 
 abbrev pub cluster : Cluster
-cluster = record one_of_each { replicas = 2; some_replicas = lit≤ tt; replicas_fit = lit≤ tt; }
+cluster =
+    record one_of_each {
+      replicas = 2;
+      some_replicas = lit≤ tt;
+      replicas_fit = lit≤ tt;
+    }
 
 -- up to the question to the acceptor
 abbrev pub read_asked : List Line
@@ -53,5 +59,13 @@ story =
       sending letter (replica 1) (client 0) (msg.ReadAnswer 2 1 (Some (codes "1"))) ∷  -- 19
     []
 
+-- what each replica holds at the end
+abbrev pub each : Holding
+each = hold 1 (pair (codes "a") (codes "1") ∷ [])
+
 abbrev pub DeferredRead : Type 0
-DeferredRead = IsRun cluster story (left (only put_a ∷ []) (true ∷ []) (hold 1 (pair (codes "a") (codes "1") ∷ []) ∷ hold 1 (pair (codes "a") (codes "1") ∷ []) ∷ []))
+DeferredRead =
+    IsRun cluster story (
+      left (only put_a ∷ []) (true ∷ [])
+      (each ∷ each ∷ [])
+    )

@@ -1,5 +1,5 @@
--- A leader gave two slots to commands, and only the second had a vote when a later round began: that round proposes nothing to do in the
--- first slot, and the command that was voted for in the second.
+-- Of two commands that have a slot only the second had a vote when a later round began. That round proposes nothing to do in the first
+-- slot, and in the second the command that was voted for.
 use Rattle.std.specs.Prelude.{true, List, [], ◌∷◌, codes}
 use Rattle.cx_base.specs.declared.command.Command.{Command}
 use Rattle.cx_base.specs.declared.command.Value.TheVariants.{Noop}

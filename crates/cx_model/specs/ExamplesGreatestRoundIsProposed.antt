@@ -1,4 +1,4 @@
--- Two earlier rounds have a vote for two values in one slot, in grids without a common member. The next round asks both grids, waits for a
+-- Two earlier rounds have votes for two values in one slot, in grids without a common member. The next round asks both grids, waits for a
 -- row of each, and proposes the value of the greater round, whichever is told first.
 use Rattle.std.specs.Prelude.{true, List, [], ◌∷◌, take, codes}
 use Rattle.std.proofs.Common.{lit≤}
@@ -16,7 +16,15 @@ use Rattle.cx_model.specs.Examples.{Line, IsRun, Leaves, one_of_each, client, ba
 use Rattle.cx_model.specs.Matchmaker.{entry}
 
 abbrev pub cluster : Cluster
-cluster = record one_of_each { leaders = 2; acceptors = 5; some_leader = lit≤ tt; leaders_fit = lit≤ tt; some_acceptor = lit≤ tt; acceptors_fit = lit≤ tt; }
+cluster =
+    record one_of_each {
+      leaders = 2;
+      acceptors = 5;
+      some_leader = lit≤ tt;
+      leaders_fit = lit≤ tt;
+      some_acceptor = lit≤ tt;
+      acceptors_fit = lit≤ tt;
+    }
 
 abbrev pub put_again : Command
 put_again = put 0 2 (codes "a") (codes "2")
@@ -58,6 +66,8 @@ story =
     deliver 6 ⇒ why.Voted
       keeping kept.Vote first 0 0 (only put_a) by acceptor 0
       sending letter (acceptor 0) (proxy 0) (msg.Phase2B first 0) ∷  -- 8
+    deliver 8 ⇒ why.Counted ∷
+    deliver 8 ⇒ why.Same ∷
     lead 1 high_grid ⇒ why.Started
       keeping kept.Round second high_grid by leader 1
       sending letter (leader 1) (matchmaker 0) (msg.MatchA second high_grid) ∷  -- 9
@@ -143,5 +153,5 @@ story =
     []
 
 pub record GreatestRoundIsProposed : Type 0 where
-  pub without_a_column : Leaves cluster (take 35 story) (left [] [] (hold 0 [] ∷ []))
+  pub before_a_column : Leaves cluster (take 37 story) (left [] [] (hold 0 [] ∷ []))
   pub whole : IsRun cluster story (left (only put_again ∷ []) (true ∷ []) (hold 0 [] ∷ []))

@@ -1,5 +1,5 @@
--- A leader begins a later round with a grid of its own: it learns of the earlier round from the matchmaker, of the vote from that round's
--- acceptor, and has the same value chosen again. The earlier round's vote counts no more.
+-- A leader begins a later round with a grid of its own: the matchmaker tells it the earlier round, that round's acceptor tells its vote,
+-- and the same value is chosen again. A vote of the earlier round that comes late counts no more.
 use Rattle.std.specs.Prelude.{◌++◌, true, List, [], ◌∷◌}
 use Rattle.cx_base.specs.declared.round.Round.{Round}
 use Rattle.cx_base.specs.declared.why.Why.TheVariants as why

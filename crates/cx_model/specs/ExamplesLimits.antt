@@ -82,11 +82,13 @@ full =
 
 -- what a replica that holds nothing answers to a value for this slot
 abbrev pub replica_says : ℕ → Why
-replica_says slot = (outcome_of replica_rules (opened replica_rules one_of_each (replica 0) []) (Take (letter (proxy 0) (replica 0) (msg.Chosen slot Noop)))).why
+replica_says slot =
+    (outcome_of replica_rules (opened replica_rules one_of_each (replica 0) []) (Take (letter (proxy 0) (replica 0) (msg.Chosen slot Noop)))).why
 
 -- what a leader whose last round has this number answers to the order to lead
 abbrev pub leader_says : ℕ → Why
-leader_says r = (outcome_of leader_rules (opened leader_rules one_of_each (leader 0) (kept.Round (round r 0 0) (single 0) ∷ [])) (Order (Lead (single 0)))).why
+leader_says r =
+    (outcome_of leader_rules (opened leader_rules one_of_each (leader 0) (kept.Round (round r 0 0) (single 0) ∷ [])) (Order (Lead (single 0)))).why
 
 pub record Limits : Type 0 where
   pub leaders_window : IsRun one_of_each window (left [] [] (hold 0 [] ∷ []))

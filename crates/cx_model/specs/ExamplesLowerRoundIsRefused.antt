@@ -1,4 +1,5 @@
--- A matchmaker that recorded a round doesn't record a lower one. Its leader gives up, and begins a round above the recorded one.
+-- A matchmaker that recorded a round does not record a lower one. The lower one's leader gives up, and begins a round above the recorded
+-- one.
 use Rattle.std.specs.Prelude.{List, [], ◌∷◌}
 use Rattle.cx_base.specs.declared.event.Event.TheVariants as event
 use Rattle.cx_base.specs.declared.round.Round.{Round}

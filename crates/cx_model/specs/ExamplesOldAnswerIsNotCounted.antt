@@ -1,5 +1,5 @@
 -- An acceptor's answer to a reader is late: since it was asked the round was retired, a value was chosen and the client has asked again.
--- The reader doesn't count it.
+-- The reader does not count it, and the read sees the value.
 use Rattle.std.specs.Prelude.{true, List, [], ◌∷◌, codes, Some}
 use Rattle.cx_base.specs.declared.command.Command.{Command}
 use Rattle.cx_base.specs.declared.command.Reply.TheVariants.{Okay}
@@ -98,4 +98,8 @@ story =
     []
 
 abbrev pub OldAnswerIsNotCounted : Type 0
-OldAnswerIsNotCounted = IsRun one_of_each story (left (only put_later ∷ []) (true ∷ []) (hold 1 (pair (codes "a") (codes "1") ∷ []) ∷ []))
+OldAnswerIsNotCounted =
+    IsRun one_of_each story (
+      left (only put_later ∷ []) (true ∷ [])
+      (hold 1 (pair (codes "a") (codes "1") ∷ []) ∷ [])
+    )

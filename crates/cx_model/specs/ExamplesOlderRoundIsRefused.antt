@@ -1,5 +1,5 @@
 -- The leader of the earlier round still gets a batch and proposes it. The acceptor has promised the later round and refuses, and the
--- leader gives up.
+-- leader gives up its round.
 use Rattle.std.specs.Prelude.{◌++◌, true, List, [], ◌∷◌, codes}
 use Rattle.cx_base.specs.declared.command.Command.{Command}
 use Rattle.cx_base.specs.declared.event.Event.TheVariants as event

@@ -1,4 +1,4 @@
--- A client's command is chosen, executed and answered: each role but the reader takes its part once.
+-- A client's command is batched, proposed, voted for, chosen, executed and answered. Each kind of role but the reader takes its part once.
 use Rattle.std.specs.Prelude.{◌++◌, true, List, [], ◌∷◌, codes}
 use Rattle.cx_base.specs.declared.command.Reply.TheVariants.{Okay}
 use Rattle.cx_base.specs.declared.event.Event.TheVariants as event

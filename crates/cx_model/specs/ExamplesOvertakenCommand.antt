@@ -1,4 +1,4 @@
--- A client's second command is chosen before its first: the first neither acts nor has an answer.
+-- A client's second command is chosen before its first. The first does not act any more, and has no answer.
 use Rattle.std.specs.Prelude.{true, false, List, [], ◌∷◌, codes}
 use Rattle.cx_base.specs.declared.command.Command.{Command}
 use Rattle.cx_base.specs.declared.command.Reply.TheVariants.{Okay}
@@ -59,4 +59,8 @@ story =
     []
 
 abbrev pub OvertakenCommand : Type 0
-OvertakenCommand = IsRun one_of_each story (left (only put_again ∷ only put_a ∷ []) (true ∷ false ∷ []) (hold 2 (pair (codes "a") (codes "2") ∷ []) ∷ []))
+OvertakenCommand =
+    IsRun one_of_each story (
+      left (only put_again ∷ only put_a ∷ []) (true ∷ false ∷ [])
+      (hold 2 (pair (codes "a") (codes "2") ∷ []) ∷ [])
+    )

@@ -1,5 +1,5 @@
--- Three matchmakers, of which two are enough. A leader goes on with another grid in its next round, and retires the round before. A
--- matchmaker that never heard of the next round forgets all earlier ones and knows the next.
+-- Two of three matchmakers are enough, and a leader goes on with another grid and retires its round before. A matchmaker that never heard
+-- of the new round forgets all earlier ones and has an entry of the new one.
 use Rattle.std.specs.Prelude.{List, [], ◌∷◌, codes, None}
 use Rattle.std.proofs.Common.{lit≤}
 use Rattle.cx_base.specs.declared.cluster.Cluster.{Cluster}
@@ -16,7 +16,17 @@ use Rattle.cx_model.specs.Matchmaker.{entry}
 use Rattle.cx_model.specs.Reader.{token}
 
 abbrev pub cluster : Cluster
-cluster = record one_of_each { f = 1; acceptors = 3; replicas = 2; f_fits = lit≤ tt; some_replicas = lit≤ tt; some_acceptor = lit≤ tt; acceptors_fit = lit≤ tt; replicas_fit = lit≤ tt; }
+cluster =
+    record one_of_each {
+      f = 1;
+      acceptors = 3;
+      replicas = 2;
+      f_fits = lit≤ tt;
+      some_replicas = lit≤ tt;
+      some_acceptor = lit≤ tt;
+      acceptors_fit = lit≤ tt;
+      replicas_fit = lit≤ tt;
+    }
 
 abbrev pub next : Round
 next = round 1 0 1
@@ -66,6 +76,7 @@ story =
       keeping kept.Water next 0 by acceptor 1
       sending letter (acceptor 1) (leader 0) (msg.Informed next 0) ∷  -- 16
     deliver 16 ⇒ why.Counted ∷
+    deliver 16 ⇒ why.Same ∷
     deliver 15 ⇒ why.Informed
       keeping kept.Water next 0 by acceptor 2
       sending letter (acceptor 2) (leader 0) (msg.Informed next 0) ∷  -- 17
@@ -80,6 +91,7 @@ story =
       keeping kept.Garbage next column by matchmaker 0
       sending letter (matchmaker 0) (leader 0) (msg.GarbageB next) ∷  -- 22
     deliver 21 ⇒ why.Counted ∷
+    deliver 21 ⇒ why.Same ∷
     deliver 22 ⇒ why.Retired ∷
     deliver 8 ⇒ why.Same
       sending letter (matchmaker 2) (leader 0) (msg.MatchB next next []) ∷  -- 23

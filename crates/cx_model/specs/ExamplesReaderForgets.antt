@@ -1,4 +1,5 @@
--- A reader crashes and forgets its reads: what answers them is not waited for. The client asks again, and the read begins anew.
+-- A reader crashes and forgets the read in progress: an answer to it is not waited for. Asked again, the read begins anew, and then the
+-- late answers count.
 use Rattle.std.specs.Prelude.{◌++◌, true, List, [], ◌∷◌, codes}
 use Rattle.std.proofs.Common.{lit≤}
 use Rattle.cx_base.specs.declared.cluster.Cluster.{Cluster}
@@ -12,7 +13,12 @@ use Rattle.cx_model.specs.Reader.{token}
 use Rattle.cx_model.specs.ExamplesDeferredRead.{read_asked}
 
 abbrev pub cluster : Cluster
-cluster = record one_of_each { replicas = 2; some_replicas = lit≤ tt; replicas_fit = lit≤ tt; }
+cluster =
+    record one_of_each {
+      replicas = 2;
+      some_replicas = lit≤ tt;
+      replicas_fit = lit≤ tt;
+    }
 
 abbrev pub story : List Line
 story =
@@ -33,4 +39,8 @@ story =
     []
 
 abbrev pub ReaderForgets : Type 0
-ReaderForgets = IsRun cluster story (left (only put_a ∷ []) (true ∷ []) (hold 1 (pair (codes "a") (codes "1") ∷ []) ∷ hold 0 [] ∷ []))
+ReaderForgets =
+    IsRun cluster story (
+      left (only put_a ∷ []) (true ∷ [])
+      (hold 1 (pair (codes "a") (codes "1") ∷ []) ∷ hold 0 [] ∷ [])
+    )

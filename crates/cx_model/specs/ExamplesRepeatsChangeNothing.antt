@@ -1,4 +1,4 @@
--- Datagrams that come twice: the acceptor keeps one vote and tells it again, and the proxy leader announces a value once.
+-- The acceptor is asked twice for one vote: it keeps one, and tells it again. The proxy leader, told twice, announces the value once.
 use Rattle.std.specs.Prelude.{◌++◌, true, List, [], ◌∷◌}
 use Rattle.cx_base.specs.declared.why.Why.TheVariants as why
 use Rattle.cx_msg.specs.Letter.{letter}

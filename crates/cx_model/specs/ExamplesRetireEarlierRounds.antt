@@ -1,5 +1,5 @@
--- The later round retires the earlier one: not before what it proposed first is known to be chosen; then a column of its grid is told, and
--- enough matchmakers forget.
+-- The order to retire waits until all that the later round proposed at first is known to be chosen. Then a column of its grid is told how
+-- many slots are held, and enough matchmakers forget the earlier round.
 use Rattle.std.specs.Prelude.{◌++◌, true, List, [], ◌∷◌}
 use Rattle.cx_base.specs.declared.why.Why.TheVariants as why
 use Rattle.cx_msg.specs.Letter.{letter}

@@ -1,5 +1,5 @@
--- A grid of two rows and two columns. The acceptors of a row have voted, and nothing is chosen; with one vote more a column has, and the
--- value is.
+-- A grid of two rows and two columns, where both acceptors of a row have voted: nothing is chosen. With a third vote a column has voted,
+-- and the value is chosen.
 use Rattle.std.specs.Prelude.{◌++◌, true, List, [], ◌∷◌, take}
 use Rattle.std.proofs.Common.{lit≤}
 use Rattle.cx_base.specs.declared.cluster.Cluster.{Cluster}
@@ -13,7 +13,12 @@ use Rattle.cx_model.specs.Examples.{Line, IsRun, Leaves, one_of_each, leader, pr
 use Rattle.cx_model.specs.ExamplesOnePut.{begun}
 
 abbrev pub cluster : Cluster
-cluster = record one_of_each { acceptors = 4; some_acceptor = lit≤ tt; acceptors_fit = lit≤ tt; }
+cluster =
+    record one_of_each {
+      acceptors = 4;
+      some_acceptor = lit≤ tt;
+      acceptors_fit = lit≤ tt;
+    }
 
 abbrev pub square : Shape
 square = make_grid 2 2 (0 ∷ 1 ∷ 2 ∷ 3 ∷ [])

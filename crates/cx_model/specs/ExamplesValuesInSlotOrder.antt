@@ -1,5 +1,5 @@
--- Batches of two commands, and two replicas. A replica keeps a value that comes before its turn until its turn; a read waits for both
--- slots; one replica for each slot sends the answers, and each client gets its own.
+-- A replica keeps a value that comes before its turn until its turn, and a read waits for all slots that were voted at. One replica for
+-- each slot sends the answers, and each client gets its own.
 use Rattle.std.specs.Prelude.{true, List, [], ◌∷◌, codes, Some}
 use Rattle.std.proofs.Common.{lit≤}
 use Rattle.cx_base.specs.declared.cluster.Cluster.{Cluster}
@@ -12,12 +12,23 @@ use Rattle.cx_base.specs.Round.{no_round}
 use Rattle.cx_msg.specs.Letter.{letter}
 use Rattle.cx_msg.specs.declared.kept.Record.TheVariants as kept
 use Rattle.cx_msg.specs.declared.message.Msg.TheVariants as msg
-use Rattle.cx_model.specs.Examples.{Line, IsRun, one_of_each, client, batcher, leader, proxy, acceptor, matchmaker, replica, unbatcher, reader, first, single, del, app, put_a, only, answered, lead, deliver, left, hold, pair, ◌⇒◌, ◌keeping◌by◌, ◌sending◌}
+use Rattle.cx_model.specs.Examples.{Line, IsRun, one_of_each, client, batcher, leader, proxy, acceptor, matchmaker, replica, unbatcher, reader, first, single, del, app, put_a, only, answered, lead, deliver, left, hold, pair, Holding, ◌⇒◌, ◌keeping◌by◌, ◌sending◌}
 use Rattle.cx_model.specs.Matchmaker.{entry}
 use Rattle.cx_model.specs.Reader.{token}
 
 abbrev pub cluster : Cluster
-cluster = record one_of_each { replicas = 2; clients = 2; batch = 2; some_replicas = lit≤ tt; replicas_fit = lit≤ tt; some_client = lit≤ tt; clients_fit = lit≤ tt; some_batch = lit≤ tt; batch_fits = lit≤ tt; }
+cluster =
+    record one_of_each {
+      replicas = 2;
+      clients = 2;
+      batch = 2;
+      some_replicas = lit≤ tt;
+      replicas_fit = lit≤ tt;
+      some_client = lit≤ tt;
+      clients_fit = lit≤ tt;
+      some_batch = lit≤ tt;
+      batch_fits = lit≤ tt;
+    }
 
 abbrev pub append_a : Command
 append_a = app 1 1 (codes "a") (codes "x")
@@ -100,5 +111,13 @@ story =
     deliver 29 ⇒ why.Heard ∷
     []
 
+-- what each replica holds at the end
+abbrev pub each : Holding
+each = hold 2 (pair (codes "a") (codes "1x") ∷ [])
+
 abbrev pub ValuesInSlotOrder : Type 0
-ValuesInSlotOrder = IsRun cluster story (left (Batch (put_a ∷ append_a ∷ []) ∷ only del_b ∷ []) (true ∷ true ∷ true ∷ []) (hold 2 (pair (codes "a") (codes "1x") ∷ []) ∷ hold 2 (pair (codes "a") (codes "1x") ∷ []) ∷ []))
+ValuesInSlotOrder =
+    IsRun cluster story (
+      left (Batch (put_a ∷ append_a ∷ []) ∷ only del_b ∷ []) (true ∷ true ∷ true ∷ [])
+      (each ∷ each ∷ [])
+    )
