@@ -14,15 +14,15 @@ abbrev pub story : List Line
 story =
     asked ++
     event.Deliver 6 Kept ⇒ why.Kept
-      keeping kept.Vote first 0 0 (only put_a) by acceptor 0 ∷
+    keeping kept.Vote first 0 0 (only put_a) by acceptor 0 ∷
     event.Restart (acceptor 0) ⇒ why.Opened ∷
     event.Tick (proxy 0) ⇒ why.Resent
-      sending letter (proxy 0) (acceptor 0) (msg.Phase2A first 0 0 (only put_a)) ∷  -- 7
+    sending letter (proxy 0) (acceptor 0) (msg.Phase2A first 0 0 (only put_a)) ∷  -- 7
     deliver 7 ⇒ why.Same
-      sending letter (acceptor 0) (proxy 0) (msg.Phase2B first 0) ∷  -- 8
+    sending letter (acceptor 0) (proxy 0) (msg.Phase2B first 0) ∷  -- 8
     deliver 8 ⇒ why.Chosen
-      sending letter (proxy 0) (replica 0) (msg.Chosen 0 (only put_a))  -- 9
-      sending letter (proxy 0) (leader 0) (msg.ChosenIn first 0) ∷  -- 10
+    sending letter (proxy 0) (replica 0) (msg.Chosen 0 (only put_a))  -- 9
+    sending letter (proxy 0) (leader 0) (msg.ChosenIn first 0) ∷  -- 10
     []
 
 pub record KeptAppend : Type 0 where

@@ -18,27 +18,27 @@ abbrev pub story : List Line
 story =
     voted ++
     lead 1 (single 1) ⇒ why.Started
-      keeping kept.Round later (single 1) by leader 1
-      sending letter (leader 1) (matchmaker 0) (msg.MatchA later (single 1)) ∷  -- 8
+    keeping kept.Round later (single 1) by leader 1
+    sending letter (leader 1) (matchmaker 0) (msg.MatchA later (single 1)) ∷  -- 8
     deliver 8 ⇒ why.Matched
-      keeping kept.Match later (single 1) by matchmaker 0
-      sending letter (matchmaker 0) (leader 1) (msg.MatchB later no_round (entry first (single 0) ∷ [])) ∷  -- 9
+    keeping kept.Match later (single 1) by matchmaker 0
+    sending letter (matchmaker 0) (leader 1) (msg.MatchB later no_round (entry first (single 0) ∷ [])) ∷  -- 9
     deliver 9 ⇒ why.Phase1
-      sending letter (leader 1) (acceptor 0) (msg.Phase1A later) ∷  -- 10
+    sending letter (leader 1) (acceptor 0) (msg.Phase1A later) ∷  -- 10
     deliver 10 ⇒ why.Promised
-      keeping kept.Promise later by acceptor 0
-      sending letter (acceptor 0) (leader 1) (msg.Phase1B later 0 (vote first 0 (only put_a) ∷ [])) ∷  -- 11
+    keeping kept.Promise later by acceptor 0
+    sending letter (acceptor 0) (leader 1) (msg.Phase1B later 0 (vote first 0 (only put_a) ∷ [])) ∷  -- 11
     deliver 11 ⇒ why.Leads
-      sending letter (leader 1) (proxy 0) (msg.Propose later (single 1) 0 0 (only put_a))  -- 12
-      sending letter (leader 1) (batcher 0) (msg.Leads later) ∷  -- 13
+    sending letter (leader 1) (proxy 0) (msg.Propose later (single 1) 0 0 (only put_a))  -- 12
+    sending letter (leader 1) (batcher 0) (msg.Leads later) ∷  -- 13
     deliver 12 ⇒ why.Asking
-      sending letter (proxy 0) (acceptor 1) (msg.Phase2A later 0 0 (only put_a)) ∷  -- 14
+    sending letter (proxy 0) (acceptor 1) (msg.Phase2A later 0 0 (only put_a)) ∷  -- 14
     deliver 14 ⇒ why.Voted
-      keeping kept.Vote later 0 0 (only put_a) by acceptor 1
-      sending letter (acceptor 1) (proxy 0) (msg.Phase2B later 0) ∷  -- 15
+    keeping kept.Vote later 0 0 (only put_a) by acceptor 1
+    sending letter (acceptor 1) (proxy 0) (msg.Phase2B later 0) ∷  -- 15
     deliver 15 ⇒ why.Chosen
-      sending letter (proxy 0) (replica 0) (msg.Chosen 0 (only put_a))  -- 16
-      sending letter (proxy 0) (leader 1) (msg.ChosenIn later 0) ∷  -- 17
+    sending letter (proxy 0) (replica 0) (msg.Chosen 0 (only put_a))  -- 16
+    sending letter (proxy 0) (leader 1) (msg.ChosenIn later 0) ∷  -- 17
     deliver 7 ⇒ why.Unasked ∷
     []
 

@@ -27,9 +27,9 @@ at slot = put 0 (slot + 1) (codes "a") (codes "1")
 abbrev pub written : ℕ → List Line
 written slot =
     event.Write (at slot) 0 ⇒ why.Sent
-      sending letter (client 0) (batcher 0) (msg.Submit (at slot)) ∷  -- 3 + 3 * slot
+    sending letter (client 0) (batcher 0) (msg.Submit (at slot)) ∷  -- 3 + 3 * slot
     deliver (3 * slot + 3) ⇒ why.Batched
-      sending letter (batcher 0) (leader 0) (msg.Batch (at slot ∷ [])) ∷  -- 4 + 3 * slot
+    sending letter (batcher 0) (leader 0) (msg.Batch (at slot ∷ [])) ∷  -- 4 + 3 * slot
     []
 
 -- so many commands, each proposed at the next slot
@@ -38,7 +38,7 @@ proposed zero slot = []
 proposed (suc count) slot =
     written slot ++
     deliver (3 * slot + 4) ⇒ why.Proposed
-      sending letter (leader 0) (proxy 0) (msg.Propose first (single 0) slot 0 (only (at slot))) ∷  -- 5 + 3 * slot
+    sending letter (leader 0) (proxy 0) (msg.Propose first (single 0) slot 0 (only (at slot))) ∷  -- 5 + 3 * slot
     proposed count (slot + 1)
 
 -- the leader leads, and nothing is held: 32 slots are proposed at, and no more
@@ -55,8 +55,8 @@ recorded r = entry (round r 0 0) (single 0)
 abbrev pub begun_in : ℕ → Line
 begun_in r =
     lead 0 (single 0) ⇒ why.Started
-      keeping kept.Round (round r 0 0) (single 0) by leader 0
-      sending letter (leader 0) (matchmaker 0) (msg.MatchA (round r 0 0) (single 0))
+    keeping kept.Round (round r 0 0) (single 0) by leader 0
+    sending letter (leader 0) (matchmaker 0) (msg.MatchA (round r 0 0) (single 0))
 
 -- so many rounds behind n earlier ones, each recorded
 abbrev pub matched : ℕ → ℕ → List Line
@@ -64,8 +64,8 @@ matched zero n = []
 matched (suc count) n =
     begun_in (n + 1) ∷  -- 2 * n
     deliver (2 * n) ⇒ why.Matched
-      keeping kept.Match (round (n + 1) 0 0) (single 0) by matchmaker 0
-      sending letter (matchmaker 0) (leader 0) (msg.MatchB (round (n + 1) 0 0) no_round (map recorded (numbers 1 n))) ∷  -- 2 * n + 1
+    keeping kept.Match (round (n + 1) 0 0) (single 0) by matchmaker 0
+    sending letter (matchmaker 0) (leader 0) (msg.MatchB (round (n + 1) 0 0) no_round (map recorded (numbers 1 n))) ∷  -- 2 * n + 1
     matched count (n + 1)
 
 -- 16 rounds are recorded, and no more; the leader of the next one goes on asking
@@ -74,10 +74,10 @@ full =
     matched 16 0 ++
     begun_in 17 ∷  -- 32
     deliver 32 ⇒ why.Full
-      sending letter (matchmaker 0) (leader 0) (msg.MatchNack (round 17 0 0) 2 (round 16 0 0)) ∷  -- 33
+    sending letter (matchmaker 0) (leader 0) (msg.MatchNack (round 17 0 0) 2 (round 16 0 0)) ∷  -- 33
     deliver 33 ⇒ why.Full ∷
     event.Tick (leader 0) ⇒ why.Resent
-      sending letter (leader 0) (matchmaker 0) (msg.MatchA (round 17 0 0) (single 0)) ∷  -- 34
+    sending letter (leader 0) (matchmaker 0) (msg.MatchA (round 17 0 0) (single 0)) ∷  -- 34
     []
 
 -- what a replica that holds nothing answers to a value for this slot

@@ -23,32 +23,32 @@ next = round 3 0 0
 abbrev pub story : List Line
 story =
     lead 0 (single 0) ⇒ why.Started
-      keeping kept.Round first (single 0) by leader 0
-      sending letter (leader 0) (matchmaker 0) (msg.MatchA first (single 0)) ∷  -- 0
+    keeping kept.Round first (single 0) by leader 0
+    sending letter (leader 0) (matchmaker 0) (msg.MatchA first (single 0)) ∷  -- 0
     lead 1 (single 1) ⇒ why.Started
-      keeping kept.Round second (single 1) by leader 1
-      sending letter (leader 1) (matchmaker 0) (msg.MatchA second (single 1)) ∷  -- 1
+    keeping kept.Round second (single 1) by leader 1
+    sending letter (leader 1) (matchmaker 0) (msg.MatchA second (single 1)) ∷  -- 1
     lead 1 (single 1) ⇒ why.Started
-      keeping kept.Round third (single 1) by leader 1
-      sending letter (leader 1) (matchmaker 0) (msg.MatchA third (single 1)) ∷  -- 2
+    keeping kept.Round third (single 1) by leader 1
+    sending letter (leader 1) (matchmaker 0) (msg.MatchA third (single 1)) ∷  -- 2
     deliver 2 ⇒ why.Matched
-      keeping kept.Match third (single 1) by matchmaker 0
-      sending letter (matchmaker 0) (leader 1) (msg.MatchB third no_round []) ∷  -- 3
+    keeping kept.Match third (single 1) by matchmaker 0
+    sending letter (matchmaker 0) (leader 1) (msg.MatchB third no_round []) ∷  -- 3
     deliver 0 ⇒ why.Later
-      sending letter (matchmaker 0) (leader 0) (msg.MatchNack first 1 third) ∷  -- 4
+    sending letter (matchmaker 0) (leader 0) (msg.MatchNack first 1 third) ∷  -- 4
     deliver 1 ⇒ why.Later
-      sending letter (matchmaker 0) (leader 1) (msg.MatchNack second 1 third) ∷  -- 5
+    sending letter (matchmaker 0) (leader 1) (msg.MatchNack second 1 third) ∷  -- 5
     deliver 5 ⇒ why.Old ∷
     deliver 4 ⇒ why.Nacked ∷
     event.Tick (leader 0) ⇒ why.Idle ∷
     lead 0 (single 0) ⇒ why.Started
-      keeping kept.Round next (single 0) by leader 0
-      sending letter (leader 0) (matchmaker 0) (msg.MatchA next (single 0)) ∷  -- 6
+    keeping kept.Round next (single 0) by leader 0
+    sending letter (leader 0) (matchmaker 0) (msg.MatchA next (single 0)) ∷  -- 6
     deliver 6 ⇒ why.Matched
-      keeping kept.Match next (single 0) by matchmaker 0
-      sending letter (matchmaker 0) (leader 0) (msg.MatchB next no_round (entry third (single 1) ∷ [])) ∷  -- 7
+    keeping kept.Match next (single 0) by matchmaker 0
+    sending letter (matchmaker 0) (leader 0) (msg.MatchB next no_round (entry third (single 1) ∷ [])) ∷  -- 7
     deliver 7 ⇒ why.Phase1
-      sending letter (leader 0) (acceptor 1) (msg.Phase1A next) ∷  -- 8
+    sending letter (leader 0) (acceptor 1) (msg.Phase1A next) ∷  -- 8
     []
 
 abbrev pub LowerRoundIsRefused : Type 0

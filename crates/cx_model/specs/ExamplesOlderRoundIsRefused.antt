@@ -16,15 +16,15 @@ abbrev pub story : List Line
 story =
     later_story ++
     event.Write put_b 0 ⇒ why.Sent
-      sending letter (client 0) (batcher 0) (msg.Submit put_b) ∷  -- 18
+    sending letter (client 0) (batcher 0) (msg.Submit put_b) ∷  -- 18
     deliver 18 ⇒ why.Batched
-      sending letter (batcher 0) (leader 0) (msg.Batch (put_b ∷ [])) ∷  -- 19
+    sending letter (batcher 0) (leader 0) (msg.Batch (put_b ∷ [])) ∷  -- 19
     deliver 19 ⇒ why.Proposed
-      sending letter (leader 0) (proxy 0) (msg.Propose first (single 0) 1 0 (only put_b)) ∷  -- 20
+    sending letter (leader 0) (proxy 0) (msg.Propose first (single 0) 1 0 (only put_b)) ∷  -- 20
     deliver 20 ⇒ why.Asking
-      sending letter (proxy 0) (acceptor 0) (msg.Phase2A first 1 0 (only put_b)) ∷  -- 21
+    sending letter (proxy 0) (acceptor 0) (msg.Phase2A first 1 0 (only put_b)) ∷  -- 21
     deliver 21 ⇒ why.Nack
-      sending letter (acceptor 0) (leader 0) (msg.Nack first later) ∷  -- 22
+    sending letter (acceptor 0) (leader 0) (msg.Nack first later) ∷  -- 22
     deliver 22 ⇒ why.Nacked ∷
     collect 0 ⇒ why.Idle ∷
     []

@@ -26,21 +26,21 @@ story =
     event.Crash (reader 0) ⇒ why.Crashed ∷
     event.Restart (reader 0) ⇒ why.Opened ∷
     deliver 16 ⇒ why.Asked
-      sending letter (acceptor 0) (reader 0) (msg.PreReadAck (token 0 2) no_round 1) ∷  -- 17
+    sending letter (acceptor 0) (reader 0) (msg.PreReadAck (token 0 2) no_round 1) ∷  -- 17
     deliver 17 ⇒ why.Unasked ∷
     event.Read 0 2 0 1 (codes "a") ⇒ why.Sent
-      sending letter (client 0) (reader 0) (msg.ReadReq 2 1 (codes "a")) ∷  -- 18
+    sending letter (client 0) (reader 0) (msg.ReadReq 2 1 (codes "a")) ∷  -- 18
     deliver 18 ⇒ why.Started
-      sending letter (reader 0) (matchmaker 0) (msg.MatchRead (token 0 2)) ∷  -- 19
+    sending letter (reader 0) (matchmaker 0) (msg.MatchRead (token 0 2)) ∷  -- 19
     deliver 15 ⇒ why.Asking
-      sending letter (reader 0) (acceptor 0) (msg.PreRead (token 0 2) no_round) ∷  -- 20
+    sending letter (reader 0) (acceptor 0) (msg.PreRead (token 0 2) no_round) ∷  -- 20
     deliver 17 ⇒ why.Sent
-      sending letter (reader 0) (replica 1) (msg.Read (token 0 2) 1 (codes "a")) ∷  -- 21
+    sending letter (reader 0) (replica 1) (msg.Read (token 0 2) 1 (codes "a")) ∷  -- 21
     []
 
 abbrev pub ReaderForgets : Type 0
 ReaderForgets =
     IsRun cluster story (
-      left (only put_a ∷ []) (true ∷ [])
-      (hold 1 (pair (codes "a") (codes "1") ∷ []) ∷ hold 0 [] ∷ [])
+    left (only put_a ∷ []) (true ∷ [])
+    (hold 1 (pair (codes "a") (codes "1") ∷ []) ∷ hold 0 [] ∷ [])
     )

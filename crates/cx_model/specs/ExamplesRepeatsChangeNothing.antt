@@ -10,10 +10,10 @@ abbrev pub story : List Line
 story =
     voted ++
     deliver 6 ⇒ why.Same
-      sending letter (acceptor 0) (proxy 0) (msg.Phase2B first 0) ∷  -- 8
+    sending letter (acceptor 0) (proxy 0) (msg.Phase2B first 0) ∷  -- 8
     deliver 7 ⇒ why.Chosen
-      sending letter (proxy 0) (replica 0) (msg.Chosen 0 (only put_a))  -- 9
-      sending letter (proxy 0) (leader 0) (msg.ChosenIn first 0) ∷  -- 10
+    sending letter (proxy 0) (replica 0) (msg.Chosen 0 (only put_a))  -- 9
+    sending letter (proxy 0) (leader 0) (msg.ChosenIn first 0) ∷  -- 10
     deliver 8 ⇒ why.Done ∷
     []
 

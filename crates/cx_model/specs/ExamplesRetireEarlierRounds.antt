@@ -14,14 +14,14 @@ story =
     collect 1 ⇒ why.Waiting ∷
     deliver 17 ⇒ why.Chosen ∷
     collect 1 ⇒ why.Informing
-      sending letter (leader 1) (acceptor 1) (msg.Inform later 0) ∷  -- 18
+    sending letter (leader 1) (acceptor 1) (msg.Inform later 0) ∷  -- 18
     deliver 18 ⇒ why.Same
-      sending letter (acceptor 1) (leader 1) (msg.Informed later 0) ∷  -- 19
+    sending letter (acceptor 1) (leader 1) (msg.Informed later 0) ∷  -- 19
     deliver 19 ⇒ why.Collecting
-      sending letter (leader 1) (matchmaker 0) (msg.GarbageA later (single 1)) ∷  -- 20
+    sending letter (leader 1) (matchmaker 0) (msg.GarbageA later (single 1)) ∷  -- 20
     deliver 20 ⇒ why.Raised
-      keeping kept.Garbage later (single 1) by matchmaker 0
-      sending letter (matchmaker 0) (leader 1) (msg.GarbageB later) ∷  -- 21
+    keeping kept.Garbage later (single 1) by matchmaker 0
+    sending letter (matchmaker 0) (leader 1) (msg.GarbageB later) ∷  -- 21
     deliver 21 ⇒ why.Retired ∷
     []
 

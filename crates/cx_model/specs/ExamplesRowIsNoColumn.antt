@@ -27,27 +27,27 @@ abbrev pub story : List Line
 story =
     begun square ++
     deliver 5 ⇒ why.Asking
-      sending letter (proxy 0) (acceptor 0) (msg.Phase2A first 0 0 (only put_a))  -- 6
-      sending letter (proxy 0) (acceptor 2) (msg.Phase2A first 0 0 (only put_a)) ∷  -- 7
+    sending letter (proxy 0) (acceptor 0) (msg.Phase2A first 0 0 (only put_a))  -- 6
+    sending letter (proxy 0) (acceptor 2) (msg.Phase2A first 0 0 (only put_a)) ∷  -- 7
     event.Tick (proxy 0) ⇒ why.Resent
-      sending letter (proxy 0) (acceptor 0) (msg.Phase2A first 0 0 (only put_a))  -- 8
-      sending letter (proxy 0) (acceptor 1) (msg.Phase2A first 0 0 (only put_a))  -- 9
-      sending letter (proxy 0) (acceptor 2) (msg.Phase2A first 0 0 (only put_a))  -- 10
-      sending letter (proxy 0) (acceptor 3) (msg.Phase2A first 0 0 (only put_a)) ∷  -- 11
+    sending letter (proxy 0) (acceptor 0) (msg.Phase2A first 0 0 (only put_a))  -- 8
+    sending letter (proxy 0) (acceptor 1) (msg.Phase2A first 0 0 (only put_a))  -- 9
+    sending letter (proxy 0) (acceptor 2) (msg.Phase2A first 0 0 (only put_a))  -- 10
+    sending letter (proxy 0) (acceptor 3) (msg.Phase2A first 0 0 (only put_a)) ∷  -- 11
     deliver 6 ⇒ why.Voted
-      keeping kept.Vote first 0 0 (only put_a) by acceptor 0
-      sending letter (acceptor 0) (proxy 0) (msg.Phase2B first 0) ∷  -- 12
+    keeping kept.Vote first 0 0 (only put_a) by acceptor 0
+    sending letter (acceptor 0) (proxy 0) (msg.Phase2B first 0) ∷  -- 12
     deliver 9 ⇒ why.Voted
-      keeping kept.Vote first 0 0 (only put_a) by acceptor 1
-      sending letter (acceptor 1) (proxy 0) (msg.Phase2B first 0) ∷  -- 13
+    keeping kept.Vote first 0 0 (only put_a) by acceptor 1
+    sending letter (acceptor 1) (proxy 0) (msg.Phase2B first 0) ∷  -- 13
     deliver 12 ⇒ why.Counted ∷
     deliver 13 ⇒ why.Counted ∷
     deliver 7 ⇒ why.Voted
-      keeping kept.Vote first 0 0 (only put_a) by acceptor 2
-      sending letter (acceptor 2) (proxy 0) (msg.Phase2B first 0) ∷  -- 14
+    keeping kept.Vote first 0 0 (only put_a) by acceptor 2
+    sending letter (acceptor 2) (proxy 0) (msg.Phase2B first 0) ∷  -- 14
     deliver 14 ⇒ why.Chosen
-      sending letter (proxy 0) (replica 0) (msg.Chosen 0 (only put_a))  -- 15
-      sending letter (proxy 0) (leader 0) (msg.ChosenIn first 0) ∷  -- 16
+    sending letter (proxy 0) (replica 0) (msg.Chosen 0 (only put_a))  -- 15
+    sending letter (proxy 0) (leader 0) (msg.ChosenIn first 0) ∷  -- 16
     []
 
 pub record RowIsNoColumn : Type 0 where

@@ -22,23 +22,23 @@ cluster =
 abbrev pub story : List Line
 story =
     event.Write put_a 0 ⇒ why.Sent
-      sending letter (client 0) (batcher 0) (msg.Submit put_a) ∷  -- 0
+    sending letter (client 0) (batcher 0) (msg.Submit put_a) ∷  -- 0
     event.Write (put 0 1 (codes "a") (codes "2")) 0 ⇒ why.Stale ∷
     event.Write put_a 0 ⇒ why.Sent
-      sending letter (client 0) (batcher 0) (msg.Submit put_a) ∷  -- 1
+    sending letter (client 0) (batcher 0) (msg.Submit put_a) ∷  -- 1
     event.Write (put 0 3 (codes "a") (codes "3")) 0 ⇒ why.Sent
-      sending letter (client 0) (batcher 0) (msg.Submit (put 0 3 (codes "a") (codes "3"))) ∷  -- 2
+    sending letter (client 0) (batcher 0) (msg.Submit (put 0 3 (codes "a") (codes "3"))) ∷  -- 2
     event.Write (put 0 2 (codes "a") (codes "2")) 0 ⇒ why.Stale ∷
     event.Read 0 3 0 0 (codes "a") ⇒ why.Stale ∷
     event.Read 0 4 0 0 (codes "a") ⇒ why.Sent
-      sending letter (client 0) (reader 0) (msg.ReadReq 4 0 (codes "a")) ∷  -- 3
+    sending letter (client 0) (reader 0) (msg.ReadReq 4 0 (codes "a")) ∷  -- 3
     event.Read 0 4 0 0 (codes "b") ⇒ why.Stale ∷
     event.Read 0 4 0 0 (codes "a") ⇒ why.Sent
-      sending letter (client 0) (reader 0) (msg.ReadReq 4 0 (codes "a")) ∷  -- 4
+    sending letter (client 0) (reader 0) (msg.ReadReq 4 0 (codes "a")) ∷  -- 4
     event.Write (put 1 1 (codes "a") (codes "2")) 0 ⇒ why.Sent
-      sending letter (client 1) (batcher 0) (msg.Submit (put 1 1 (codes "a") (codes "2"))) ∷  -- 5
+    sending letter (client 1) (batcher 0) (msg.Submit (put 1 1 (codes "a") (codes "2"))) ∷  -- 5
     event.Write put_a 0 ⇒ why.Sent
-      sending letter (client 0) (batcher 0) (msg.Submit put_a) ∷  -- 6
+    sending letter (client 0) (batcher 0) (msg.Submit put_a) ∷  -- 6
     deliver 999 ⇒ why.Absent ∷
     event.Crash (batcher 0) ⇒ why.Crashed ∷
     deliver 0 ⇒ why.Down ∷
@@ -49,15 +49,15 @@ story =
     event.Tick (batcher 0) ⇒ why.Idle ∷
     event.Tick (proxy 0) ⇒ why.Idle ∷
     deliver 0 ⇒ why.Batched
-      sending letter (batcher 0) (leader 0) (msg.Batch (put_a ∷ [])) ∷  -- 7
+    sending letter (batcher 0) (leader 0) (msg.Batch (put_a ∷ [])) ∷  -- 7
     deliver 3 ⇒ why.Started
-      sending letter (reader 0) (matchmaker 0) (msg.MatchRead (token 0 4)) ∷  -- 8
+    sending letter (reader 0) (matchmaker 0) (msg.MatchRead (token 0 4)) ∷  -- 8
     deliver 8 ⇒ why.Asked
-      sending letter (matchmaker 0) (reader 0) (msg.MatchReadAck (token 0 4) no_round []) ∷  -- 9
+    sending letter (matchmaker 0) (reader 0) (msg.MatchReadAck (token 0 4) no_round []) ∷  -- 9
     deliver 9 ⇒ why.Sent
-      sending letter (reader 0) (replica 0) (msg.Read (token 0 4) 0 (codes "a")) ∷  -- 10
+    sending letter (reader 0) (replica 0) (msg.Read (token 0 4) 0 (codes "a")) ∷  -- 10
     deliver 10 ⇒ why.Answered
-      sending letter (replica 0) (client 0) (msg.ReadAnswer 4 0 None) ∷  -- 11
+    sending letter (replica 0) (client 0) (msg.ReadAnswer 4 0 None) ∷  -- 11
     []
 
 abbrev pub StaleRequests : Type 0

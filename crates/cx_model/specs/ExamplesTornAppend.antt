@@ -16,13 +16,13 @@ story =
     event.Deliver 6 Torn ⇒ why.Torn ∷
     event.Restart (acceptor 0) ⇒ why.Opened ∷
     event.Tick (proxy 0) ⇒ why.Resent
-      sending letter (proxy 0) (acceptor 0) (msg.Phase2A first 0 0 (only put_a)) ∷  -- 7
+    sending letter (proxy 0) (acceptor 0) (msg.Phase2A first 0 0 (only put_a)) ∷  -- 7
     deliver 7 ⇒ why.Voted
-      keeping kept.Vote first 0 0 (only put_a) by acceptor 0
-      sending letter (acceptor 0) (proxy 0) (msg.Phase2B first 0) ∷  -- 8
+    keeping kept.Vote first 0 0 (only put_a) by acceptor 0
+    sending letter (acceptor 0) (proxy 0) (msg.Phase2B first 0) ∷  -- 8
     deliver 8 ⇒ why.Chosen
-      sending letter (proxy 0) (replica 0) (msg.Chosen 0 (only put_a))  -- 9
-      sending letter (proxy 0) (leader 0) (msg.ChosenIn first 0) ∷  -- 10
+    sending letter (proxy 0) (replica 0) (msg.Chosen 0 (only put_a))  -- 9
+    sending letter (proxy 0) (leader 0) (msg.ChosenIn first 0) ∷  -- 10
     []
 
 pub record TornAppend : Type 0 where
