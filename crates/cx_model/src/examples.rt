@@ -1,15 +1,19 @@
-//! Worked runs: laws which say of a list of events, step by step, what the model makes of it.
+//! Worked runs: for each list of events a law that says, step by step, what the model makes of it: the words, the records
+//! that are kept, the datagrams that are sent, and what is chosen at the end.
 //!
-//! Each computes. What a run comes to was written down before the model was, and by hand or by another program: so these
-//! laws tell the model against the outside, and a wrong row in it is refused.
+//! The model did not compute what is expected here: it was worked out from the description of the protocol, by hand or by
+//! a program that was written apart. So a wrong row is refused here, before anything else rests on it.
 #![tactic(auto, unfolding(crate::specs::World::step))]
 
+ghost use Rattle.cx_model.specs.ExamplesAnswersOfOtherRounds.{AnswersOfOtherRounds};
 ghost use Rattle.cx_model.specs.ExamplesCommandActsOnce.{CommandActsOnce};
 ghost use Rattle.cx_model.specs.ExamplesDeferredRead.{DeferredRead};
+ghost use Rattle.cx_model.specs.ExamplesEachAnswerCountsOnce.{EachAnswerCountsOnce};
 ghost use Rattle.cx_model.specs.ExamplesGapGetsANoop.{GapGetsANoop};
 ghost use Rattle.cx_model.specs.ExamplesGreatestRoundIsProposed.{GreatestRoundIsProposed};
 ghost use Rattle.cx_model.specs.ExamplesHeldSlotsAreForgotten.{HeldSlotsAreForgotten};
 ghost use Rattle.cx_model.specs.ExamplesKeptAppend.{KeptAppend};
+ghost use Rattle.cx_model.specs.ExamplesLateRequestsAreRefused.{LateRequestsAreRefused};
 ghost use Rattle.cx_model.specs.ExamplesLaterRound.{LaterRound};
 ghost use Rattle.cx_model.specs.ExamplesLimits.{Limits};
 ghost use Rattle.cx_model.specs.ExamplesLowerRoundIsRefused.{LowerRoundIsRefused};
@@ -27,12 +31,14 @@ ghost use Rattle.cx_model.specs.ExamplesStaleRequests.{StaleRequests};
 ghost use Rattle.cx_model.specs.ExamplesTornAppend.{TornAppend};
 ghost use Rattle.cx_model.specs.ExamplesValuesInSlotOrder.{ValuesInSlotOrder};
 
-/// A client's command is chosen, executed and answered: each role but the reader takes its part once.
+/// A client's command is batched, proposed, voted for, chosen, executed and answered. Each kind of role but the reader
+/// takes its part once.
 pub fn one_put()
     ensures { OnePut }
 {}
 
-/// Datagrams that come twice: the acceptor keeps one vote and tells it again, and the proxy leader announces a value once.
+/// The acceptor is asked twice for one vote: it keeps one, and tells it again. The proxy leader, told twice, announces the
+/// value once.
 pub fn repeats_change_nothing()
     ensures { RepeatsChangeNothing }
 {}
@@ -49,103 +55,121 @@ pub fn kept_append()
     ensures { KeptAppend }
 {}
 
-/// A grid of two rows and two columns. The acceptors of a row have voted, and nothing is chosen; with one vote more a
-/// column has, and the value is.
+/// A grid of two rows and two columns, where both acceptors of a row have voted: nothing is chosen. With a third vote a
+/// column has voted, and the value is chosen.
 pub fn row_is_no_column()
     ensures { RowIsNoColumn }
 {}
 
-/// A leader begins a later round with a grid of its own: it learns of the earlier round from the matchmaker, of the vote
-/// from that round's acceptor, and has the same value chosen again. The earlier round's vote counts no more.
+/// A leader begins a later round with a grid of its own: the matchmaker tells it the earlier round, that round's acceptor
+/// tells its vote, and the same value is chosen again. A vote of the earlier round that comes late counts no more.
 pub fn later_round()
     ensures { LaterRound }
 {}
 
-/// A leader gave two slots to commands, and only the second had a vote when a later round began: that round proposes
-/// nothing to do in the first slot, and the command that was voted for in the second.
+/// Of two commands that have a slot only the second had a vote when a later round began. That round proposes nothing to do
+/// in the first slot, and in the second the command that was voted for.
 pub fn gap_gets_a_noop()
     ensures { GapGetsANoop }
 {}
 
 /// The leader of the earlier round still gets a batch and proposes it. The acceptor has promised the later round and
-/// refuses, and the leader gives up.
+/// refuses, and the leader gives up its round.
 pub fn older_round_is_refused()
     ensures { OlderRoundIsRefused }
 {}
 
-/// The later round retires the earlier one: not before what it proposed first is known to be chosen; then a column of its
-/// grid is told, and enough matchmakers forget.
+/// The order to retire waits until all that the later round proposed at first is known to be chosen. Then a column of its
+/// grid is told how many slots are held, and enough matchmakers forget the earlier round.
 pub fn retire_earlier_rounds()
     ensures { RetireEarlierRounds }
 {}
 
-/// Once the earlier round is retired its acceptor may crash for good: neither the next round nor a read asks it.
+/// Once the earlier round is retired its acceptor may crash for good. Neither the next round nor a read asks it.
 pub fn retired_grid_is_not_asked()
     ensures { RetiredGridIsNotAsked }
 {}
 
-/// A read asks a replica that holds less than the acceptors voted for: the replica defers it, and answers when it has
-/// executed the value.
+/// A read comes to a replica that holds less than the acceptors voted for, and is deferred. It is answered when the replica
+/// has executed the value.
 pub fn deferred_read()
     ensures { DeferredRead }
 {}
 
-/// A reader crashes and forgets its reads: what answers them is not waited for. The client asks again, and the read begins
-/// anew.
+/// A reader crashes and forgets the read in progress: an answer to it is not waited for. Asked again, the read begins anew,
+/// and then the late answers count.
 pub fn reader_forgets()
     ensures { ReaderForgets }
 {}
 
-/// A client sends its command twice and it is chosen twice: it acts once, and has the same answer again.
+/// A client sends its command twice, and it is chosen in two slots. It acts once, and has the same answer again.
 pub fn command_acts_once()
     ensures { CommandActsOnce }
 {}
 
-/// A client's second command is chosen before its first: the first neither acts nor has an answer.
+/// A client's second command is chosen before its first. The first does not act any more, and has no answer.
 pub fn overtaken_command()
     ensures { OvertakenCommand }
 {}
 
-/// Which requests go out: the same one again, or one with a number above all of its client. What comes to a role that is
-/// down is lost.
+/// A client's request goes out where its number is above all of its earlier ones, or where it is one of them again; else it
+/// is stale. What comes to a role that is down is lost, and a read before any round asks no acceptor.
 pub fn stale_requests()
     ensures { StaleRequests }
 {}
 
-/// Two earlier rounds have a vote for two values in one slot, in grids without a common member. The next round asks both
+/// Two earlier rounds have votes for two values in one slot, in grids without a common member. The next round asks both
 /// grids, waits for a row of each, and proposes the value of the greater round, whichever is told first.
 pub fn greatest_round_is_proposed()
     ensures { GreatestRoundIsProposed }
 {}
 
-/// A matchmaker that recorded a round doesn't record a lower one. Its leader gives up, and begins a round above the
-/// recorded one.
+/// A matchmaker that recorded a round does not record a lower one. The lower one's leader gives up, and begins a round
+/// above the recorded one.
 pub fn lower_round_is_refused()
     ensures { LowerRoundIsRefused }
 {}
 
-/// Three matchmakers, of which two are enough. A leader goes on with another grid in its next round, and retires the round
-/// before. A matchmaker that never heard of the next round forgets all earlier ones and knows the next.
+/// Two of three matchmakers are enough, and a leader goes on with another grid and retires its round before. A matchmaker
+/// that never heard of the new round forgets all earlier ones and has an entry of the new one.
 pub fn own_entry_stays()
     ensures { OwnEntryStays }
 {}
 
 /// An acceptor's answer to a reader is late: since it was asked the round was retired, a value was chosen and the client
-/// has asked again. The reader doesn't count it.
+/// has asked again. The reader does not count it, and the read sees the value.
 pub fn old_answer_is_not_counted()
     ensures { OldAnswerIsNotCounted }
 {}
 
-/// Once two of two replicas hold a slot, one of them may be lost: the leader, the proxy leader and the acceptor forget the
-/// slot, and the next round begins behind it. A replica that missed a value has it from another one.
+/// What f + 1 replicas hold is never lost: the leader, the proxy leader and the acceptor forget such a slot, and the next
+/// round begins behind it. A replica that missed a value gets it from another one.
 pub fn held_slots_are_forgotten()
     ensures { HeldSlotsAreForgotten }
 {}
 
-/// Batches of two commands, and two replicas. A replica keeps a value that comes before its turn until its turn; a read
-/// waits for both slots; one replica for each slot sends the answers, and each client gets its own.
+/// A replica keeps a value that comes before its turn until its turn, and a read waits for all slots that were voted at.
+/// One replica for each slot sends the answers, and each client gets its own.
 pub fn values_in_slot_order()
     ensures { ValuesInSlotOrder }
+{}
+
+/// Two of three matchmakers are enough, and a row has two acceptors. An answer that comes twice counts once, at a leader, a
+/// proxy leader and a reader, and a read waits for a row of each grid.
+pub fn each_answer_counts_once()
+    ensures { EachAnswerCountsOnce }
+{}
+
+/// An acceptor that has promised a later round refuses what an earlier one asks, and a matchmaker's watermark does not
+/// fall. A leader that gave up its round takes no batch.
+pub fn late_requests_are_refused()
+    ensures { LateRequestsAreRefused }
+{}
+
+/// A leader goes from round to round, and answers to its earlier rounds come late. They count in no stage of the later
+/// ones.
+pub fn answers_of_other_rounds()
+    ensures { AnswersOfOtherRounds }
 {}
 
 /// A leader and a replica have a window of 32 slots, a matchmaker records 16 rounds, and the numbers of rounds end.
