@@ -1,7 +1,7 @@
 -- What every run is promised: the hard property in four parts, each a record with one field a sentence, and the announcement of what a
 -- column voted for. Nothing of it is proved here. "Then" is a list of events, and "later" a longer one: whatever holds of the run of every
 -- list of events holds at each moment of each run.
-use Rattle.std.specs.Prelude.{◌≡◌, ℕ, ◌+◌, ◌<◌, ◌≤◌, Bool, true, false, filter, take, List, [], ◌∷◌, ◌++◌, length, nat_le, slice_get, Option, None, Some, IsTrue}
+use Rattle.std.specs.Prelude.{◌≡◌, ℕ, ◌+◌, ◌<◌, ◌≤◌, true, false, filter, take, List, [], ◌∷◌, ◌++◌, length, nat_le, slice_get, Option, None, Some}
 use Rattle.cx_base.specs.declared.cluster.Cluster.{Cluster}
 use Rattle.cx_base.specs.declared.command.Command.{Command}
 use Rattle.cx_base.specs.declared.command.Reply.{Reply}
@@ -13,7 +13,6 @@ use Rattle.cx_base.specs.declared.event.Happened.{Happened}
 use Rattle.cx_base.specs.declared.role.Kind.TheVariants as kind
 use Rattle.cx_base.specs.declared.role.RoleId.{RoleId}
 use Rattle.cx_base.specs.declared.round.Round.{Round}
-use Rattle.cx_base.specs.declared.why.Why.{Why}
 use Rattle.cx_base.specs.declared.why.Why.TheVariants as why
 use Rattle.cx_base.specs.Fold.{acts, fold, text_at}
 use Rattle.cx_base.specs.Grid.{Shape, is_in}
