@@ -1,5 +1,5 @@
 -- The map of reads, seen as their list.
-use Rattle.std.proofs.Common.{◌≡◌, Bool, true, false, ◌==◌, ◌&&◌, not, List, [], ◌∷◌, filter, Option, None, Some, if◌then◌else◌, refl, sym, ap, cond}
+use Rattle.std.proofs.Common.{◌≡◌, Bool, true, false, ◌==◌, ◌&&◌, not, List, [], ◌∷◌, Option, None, Some, if◌then◌else◌, refl, sym, ap, cond}
 use Rattle.std.specs.Map.{lookup}
 use Rattle.std.proofs.lemmas.Bool.{and_parts, eqb-true}
 use Rattle.indexmap.specs.IndexMap.{insert_entry, shift_remove_entry}

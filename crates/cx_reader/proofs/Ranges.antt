@@ -1,8 +1,7 @@
 -- The ranges of what a read sends.
-use Rattle.std.proofs.Common.{◌≡◌, ℕ, ◌≤◌, ◌<◌, ◌^◌, ◌==◌, Bool, true, false, ◌&&◌, ◌||◌, max, List, [], ◌∷◌, ◌++◌, refl, arith}
-use Rattle.std.specs.Prelude.{nat_le, nat_lt, if◌then◌else◌}
-use Rattle.std.specs.List.{list_all}
-use Rattle.std.proofs.lemmas.Bool.{and_from, and_parts}
+use Rattle.std.proofs.Common.{◌≡◌, ℕ, ◌≤◌, ◌<◌, ◌^◌, Bool, true, false, max, List, [], ◌∷◌, ◌++◌, refl, arith}
+use Rattle.std.specs.Prelude.{nat_lt, if◌then◌else◌}
+use Rattle.std.proofs.lemmas.Bool.{and_parts}
 use Rattle.std.proofs.lemmas.Bool.Decides.{nat_tests}
 use Rattle.std.proofs.lemmas.List.Folds.{list_all-append}
 use Rattle.cx_base.specs.declared.round.Round.{Round}
@@ -11,7 +10,7 @@ use Rattle.cx_wire.specs.Format.{u16, u32, u64}
 use Rattle.cx_field.specs.Fields.{mark, round0}
 use Rattle.cx_model.specs.declared.states.Acked.{Acked}
 use Rattle.cx_model.specs.declared.states.MatchAnswer.{MatchAnswer}
-use Rattle.cx_model.specs.Matched.{greatest_watermark, later_round}
+use Rattle.cx_model.specs.Matched.{greatest_watermark}
 use Rattle.cx_model.specs.Reader.{greatest_mark}
 use Rattle.cx_reader.specs.InProgress.{are_told, is_ack, are_acks}
 

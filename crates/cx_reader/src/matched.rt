@@ -1,10 +1,9 @@
 //! What the matchmakers answered (JSys 2021): the greatest watermark, and the grids that are not retired.
 
 ghost use Rattle.std.specs.Prelude.{◌≡◌, ◌&&◌, true, not};
-ghost use Rattle.std.specs.List.{list_all, list_any};
+ghost use Rattle.std.specs.List.{list_any};
 ghost use Rattle.cx_base.specs.Grid.{is_in};
 ghost use Rattle.cx_base.specs.Round.{is_before};
-ghost use Rattle.cx_grid.specs.Quorum.{row_whole};
 ghost use Rattle.cx_model.specs.declared.states.MatchAnswer.{MatchAnswer as AnswerOf};
 ghost use Rattle.cx_model.specs.Matched.{later_round, is_counted, greatest_watermark, entries_told, live_entries, is_member_of, rows_whole};
 ghost use Rattle.cx_model.specs.Matchmaker.{entries_from};

@@ -14,7 +14,8 @@ use cx_role::{Outbox, Role, StepFault, WakeFault, is_for};
 use std::alloc::Global;
 use std::marker::Model;
 
-/// A reader of the cluster: the reads in progress, at most 64. It keeps no record: who asked asks again when it was lost.
+/// A reader of the cluster: the reads in progress, at most 64 (VLDB 2021: quorum reads; over several grids this project's
+/// own). It keeps no record: who asked asks again when it was lost.
 #[derive(Drop)]
 pub struct Reader {
     pub(crate) alloc: Global,
@@ -88,7 +89,7 @@ impl Role for Reader {
             Msg::ReadReq { seq, replica, key } => {
                 let token = token(from.index, *seq);
                 let one = Reading::new(self.alloc, token, *replica, *key);
-                Ok(self.ask(one, out)?)
+                Ok(self.begin(one, out)?)
             }
             Msg::MatchReadAck {
                 token,

@@ -9,7 +9,7 @@ ghost use Rattle.cx_model.specs.Matched.{greatest_watermark, is_counted, is_memb
 ghost use Rattle.cx_model.specs.Reader.{acked_by, greatest_mark, has_acked, is_matched, pre_read_to, read_to, reading};
 ghost use Rattle.cx_field.specs.Fields as field;
 ghost use Rattle.cx_field.specs.declared.parts.Entry.{Entry};
-ghost use Rattle.cx_reader.specs.InProgress.{are_told, are_acks};
+ghost use Rattle.cx_reader.specs.InProgress.{are_acks};
 
 use crate::matched;
 use cx_base::{Cluster, Duplicate, Key, Kind, NoMemory, Round};
@@ -124,37 +124,25 @@ impl Reading {
         matched::rows_whole(&self.told, &marked(&self.acks))
     }
 
-    /// The read with one more matchmaker counted.
+    /// The read with one more matchmaker counted. This one stays, so that want of memory changes nothing.
     pub fn with_answer(&self, alloc: Global, answer: MatchAnswer) -> Result<Reading, NoMemory>
         requires { IsTrue (field.round0.fits answer.watermark) }
         ensures { IfOk result (λ more. more ≡ record self.now { told = self.now.told ++ answer ∷ [] }) }
     {
-        let mut told = copied(alloc, &self.told)?;
-        told.push(answer)?;
-        Ok(Reading {
-            token: self.token,
-            replica: self.replica,
-            key: self.key,
-            told,
-            acks: Vec::from_slice(alloc, &self.acks)?,
-        })
+        let mut more = self.copy(alloc)?;
+        more.told.push(answer)?;
+        Ok(more)
     }
 
-    /// The read with one more acceptor counted.
+    /// The read with one more acceptor counted. This one stays, so that want of memory changes nothing.
     pub fn with_ack(&self, alloc: Global, ack: Acked) -> Result<Reading, NoMemory>
         requires acceptor { ack.acceptor < 64 }
         requires mark { IsTrue (field.mark.fits ack.mark) }
         ensures { IfOk result (λ more. more ≡ record self.now { acks = self.now.acks ++ ack ∷ [] }) }
     {
-        let mut acks = Vec::from_slice(alloc, &self.acks)?;
-        acks.push(ack)?;
-        Ok(Reading {
-            token: self.token,
-            replica: self.replica,
-            key: self.key,
-            told: copied(alloc, &self.told)?,
-            acks,
-        })
+        let mut more = self.copy(alloc)?;
+        more.acks.push(ack)?;
+        Ok(more)
     }
 
     /// The question for its key, for its replica that holds so many slots. It takes no memory.
@@ -177,6 +165,18 @@ impl Reading {
                 out.push(pre_read(reader, acceptor, token, watermark));
             }
         }
+    }
+}
+
+impl Duplicate for Reading {
+    fn copy(&self, alloc: Global) -> Result<Self, NoMemory> {
+        Ok(Reading {
+            token: self.token,
+            replica: self.replica,
+            key: self.key,
+            told: copied(alloc, &self.told)?,
+            acks: Vec::from_slice(alloc, &self.acks)?,
+        })
     }
 }
 

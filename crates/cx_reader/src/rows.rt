@@ -39,7 +39,7 @@ fn ask_matchmakers(reader: u16, token: Token, count: u16, out: &mut Outbox)
 
 impl Reader {
     /// A client asks for a key. A read that it asks for again begins anew.
-    pub(crate) fn ask(&mut self, one: Reading, out: &mut Outbox) -> Result<Why, NoMemory>
+    pub(crate) fn begin(&mut self, one: Reading, out: &mut Outbox) -> Result<Why, NoMemory>
         requires empty { out.old.list ≡ [] }
         ensures ok { IfOk result (λ why. Replies reader_rules self.old (read_req_row self.old.cluster self.old.me self.old.volatile one) why self.new out.new.list) }
         ensures no_memory { OnErr result (self.new ≡ self.old) }

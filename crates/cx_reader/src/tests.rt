@@ -185,8 +185,9 @@ const STEPS: [(Step, Why, Sent); 24] = [
     (Step::Ask(0, 5, 2), Why::Stranger, None),
 ];
 
-// One matchmaker is enough. The second read meets a retired round.
-const SMALL_STEPS: [(Step, Why, Sent); 6] = [
+// A reader that is opened anew has forgotten its reads. One matchmaker is enough; the second read has a watermark.
+const SMALL_STEPS: [(Step, Why, Sent); 7] = [
+    (Step::Ack(0, 2, (0, 0), 1), Why::Unasked, None),
     (Step::Ask(0, 2, 1), Why::Started, Some((1, 0, 0, 2))),
     (
         Step::One(0, 2, (0, 0), (1, 0, 0)),

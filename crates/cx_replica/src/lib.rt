@@ -1,4 +1,5 @@
-//! The replica: it keeps the chosen values in the order of their slots, executes their commands and answers (VLDB 2021).
+//! The replica: it keeps the chosen values in the order of their slots, executes their commands, and answers commands and
+//! reads (VLDB 2021; reads that wait are this project's own).
 //!
 //! Stands on what a role is, on the map, the client table and the log of values; the world and the node stand on it,
 //! through the trait `Role` alone. Its theorem is `Role`'s contract at the replica's rules: each step is the row, over any

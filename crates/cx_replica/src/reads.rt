@@ -1,6 +1,6 @@
 //! The rows of reads, and of the value that another replica wants.
 
-ghost use Rattle.std.specs.Prelude.{◌≡◌, [], filter, nat_lt, IfOk, OnErr, IsTrue};
+ghost use Rattle.std.specs.Prelude.{◌≡◌, [], IfOk, OnErr, IsTrue};
 ghost use Rattle.std.specs.List.{list_any};
 ghost use Rattle.cx_base.specs.Role.{role};
 ghost use Rattle.cx_base.specs.declared.role.Kind.{Kind};
@@ -21,16 +21,10 @@ use cx_role::Outbox;
 /// The most reads that wait at once.
 const MOST: usize = 64;
 
-fn is_same(one: Token, other: Token) -> bool
-    ensures { result ≡ same_read one other }
-{
-    one.client == other.client && one.seq == other.seq
-}
-
 fn is_deferred(deferred: &[Deferred], token: Token) -> bool
     ensures { result ≡ list_any (λ (other : DeferredOf). same_read token other.token) deferred.now }
 {
-    deferred.iter().any(|other| is_same(token, other.token))
+    deferred.iter().any(|other| token == other.token)
 }
 
 /// Drops the reads that waited for no more slots than are held. It takes no memory.

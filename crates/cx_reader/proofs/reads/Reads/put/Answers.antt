@@ -1,4 +1,3 @@
-use Rattle.std.proofs.Common.{◌∙◌}
 use Rattle.cx_reader.proofs.Entries.{put_named, put_reads}
 use Rattle.cx_reader.proofs.reads.Reads.put.Goals as goal
 

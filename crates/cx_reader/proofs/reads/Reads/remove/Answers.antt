@@ -1,4 +1,3 @@
-use Rattle.std.proofs.Common.{◌∙◌}
 use Rattle.cx_reader.proofs.Entries.{removed_named, removed_reads}
 use Rattle.cx_reader.proofs.reads.Reads.remove.Goals as goal
 
