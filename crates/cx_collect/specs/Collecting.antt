@@ -1,0 +1,32 @@
+-- A collector as contracts see it.
+use Rattle.std.specs.Prelude.{◌≡◌, ◌≤◌, ◌+◌, ℕ, Bool, not, ◌&&◌, nat_le, if◌then◌else◌, length, IsTrue}
+use Rattle.cx_base.specs.Grid.{Shape, is_in}
+use Rattle.cx_model.specs.Collection.{Collection, is_informing, is_collecting, with_informed, with_forgotten}
+
+-- the grid whose columns are told, how many matchmakers may be lost, and how far it is
+pub record Collecting : Type 0 where
+  pub grid : Shape
+  pub f : ℕ
+  pub collection : Collection
+
+-- whether an acceptor's answer with this number of slots counts
+abbrev pub counts_informed : ℕ → ℕ → Collecting → Bool
+counts_informed id cw k =
+    is_informing k.collection.stage && nat_le k.collection.mark cw && is_in id k.grid.members && not (is_in id k.collection.counted)
+
+-- what it leaves
+abbrev pub informed_by : ℕ → ℕ → Collecting → Collecting
+informed_by id cw k = if counts_informed id cw k then record k { collection = with_informed k.grid id k.collection } else k
+
+-- whether a matchmaker's answer counts
+abbrev pub counts_forgotten : ℕ → Collecting → Bool
+counts_forgotten id k = is_collecting k.collection.stage && not (is_in id k.collection.counted)
+
+-- what it leaves
+abbrev pub forgotten_by : ℕ → Collecting → Collecting
+forgotten_by id k = if counts_forgotten id k then record k { collection = with_forgotten (k.f + 1) id k.collection } else k
+
+-- While matchmakers are asked, so many of them are counted: at most f, since one more ends the stage.
+pub record IsCount (f forgotten : ℕ) (k : Collection) : Type 0 where
+  pub count : IsTrue (is_collecting k.stage) → length k.counted ≡ forgotten
+  pub most : IsTrue (is_collecting k.stage) → forgotten ≤ f

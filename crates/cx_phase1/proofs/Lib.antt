@@ -1,0 +1,4 @@
+pub mod BoundLaws
+pub mod CountLaws
+pub mod PlanLaws
+pub mod Walks

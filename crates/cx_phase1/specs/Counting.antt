@@ -1,0 +1,33 @@
+-- A leader's first phase as contracts see it.
+use Rattle.std.specs.Prelude.{Bool, not, nat_lt, if◌then◌else◌, List, [], ◌∷◌, ◌++◌}
+use Rattle.std.specs.List.{list_all}
+use Rattle.cx_field.specs.declared.parts.Entry.{Entry}
+use Rattle.cx_model.specs.declared.states.Promised.{Promised}
+use Rattle.cx_model.specs.Matched.{is_member_of, rows_whole}
+use Rattle.cx_model.specs.Plan.{promised_by, has_promised}
+use Rattle.cx_phase1.specs.declared.told.Told.{Told}
+use Rattle.cx_phase1.specs.declared.told.Told.TheVariants.{Whole, Counted, Same, Unasked}
+
+-- the entries of earlier rounds that aren't retired, and the acceptors that were counted, with what they told
+pub record Counting : Type 0 where
+  pub live : List Entry
+  pub promises : List Promised
+
+-- whether all members of these grids are below 64
+abbrev pub are_ids : List Entry → Bool
+are_ids live = list_all (λ (e : Entry). list_all (λ id. nat_lt id 64) e.grid.members) live
+
+-- what one more answer comes to
+abbrev pub told_by : Counting → Promised → Told
+told_by k p =
+    if not (is_member_of k.live p.acceptor) then Unasked
+    else if has_promised p.acceptor k.promises then Same
+    else if rows_whole k.live (promised_by (k.promises ++ p ∷ [])) then Whole
+    else Counted
+
+-- and what it leaves
+abbrev pub counted_by : Counting → Promised → Counting
+counted_by k p =
+    if not (is_member_of k.live p.acceptor) then k
+    else if has_promised p.acceptor k.promises then k
+    else record k { promises = k.promises ++ p ∷ [] }

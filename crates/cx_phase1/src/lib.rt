@@ -1,0 +1,16 @@
+//! A leader's first phase: who has promised, and what the leader then proposes (VLDB 2021); and the slots that it proposes at.
+//!
+//! Stands on the model and on grids; the leader stands on it. Its theorem: an answer counts once, the phase is over exactly
+//! when each live grid has a whole row, and the plan is the model's.
+#![tactic(auto)]
+
+mod phase1;
+mod planning;
+mod slots;
+#[cfg(test)]
+mod tests;
+mod told;
+
+pub use phase1::Phase1;
+pub use slots::Slots;
+pub use told::Told;

@@ -1,0 +1,148 @@
+//! Who has promised.
+
+ghost use Rattle.std.specs.Prelude.{◌≡◌, ◌≤◌, ◌^◌, [], IsTrue, IfOk, OnOk, OnErr};
+ghost use Rattle.cx_field.specs.Fields as field;
+ghost use Rattle.cx_model.specs.Matched.{is_member_of, rows_whole};
+ghost use Rattle.cx_model.specs.Plan.{plan};
+ghost use Rattle.cx_phase1.specs.Counting.{are_ids, told_by, counted_by};
+ghost use Rattle.cx_phase1.specs.Planned.{IsPlan};
+
+use crate::planning::plan;
+use crate::told::Told;
+use cx_base::{Duplicate, NoMemory, copy_all};
+use cx_field::{Entry, Votes};
+use cx_grid::{Marks, is_member, row_whole};
+use cx_model::{Plan, Promised};
+use std::alloc::Global;
+use std::marker::Model;
+
+/// The grids of earlier rounds that are not retired, and the acceptors that have promised, with what they told.
+#[derive(Drop)]
+pub struct Phase1 {
+    alloc: Global,
+    live: Vec<Entry>,
+    promises: Vec<Promised>,
+    marks: Marks,
+}
+
+impl Model for Phase1 {
+    ghost use Rattle.cx_phase1.specs.Counting.{Counting};
+    ghost use Rattle.cx_phase1.specs.Sound.{IsSound};
+
+    ghost Value = { Counting };
+
+    ghost view = { λ p. record { live = p.live.items; promises = p.promises.items } };
+
+    ghost invariant = { λ p. IsSound p.live.items p.promises.items p.marks };
+}
+
+// Whether an acceptor is a member of one of the grids.
+fn is_member_of(live: &[Entry], acceptor: u16) -> bool
+    ensures { result ≡ is_member_of live.now acceptor }
+{
+    live.iter().any(|entry| is_member(&entry.grid, acceptor))
+}
+
+// Whether each of the grids has a whole row.
+fn rows_whole(live: &[Entry], marks: &Marks) -> bool
+    ensures { result ≡ rows_whole live.now marks.now }
+{
+    for entry in live {
+        if !row_whole(&entry.grid, marks) {
+            return false;
+        }
+    }
+    true
+}
+
+impl Phase1 {
+    /// Nobody counted, over the entries of earlier rounds that are not retired. A grid's members are below 64.
+    pub fn new(alloc: Global, entries: &[Entry]) -> Result<Self, NoMemory>
+        requires { IsTrue (are_ids entries.now) }
+        ensures { IfOk result (λ phase1. phase1 ≡ record { live = entries.now; promises = [] }) }
+    {
+        Ok(Phase1 {
+            alloc,
+            live: copy_all(alloc, entries)?,
+            promises: Vec::new(alloc),
+            marks: Marks::new(),
+        })
+    }
+
+    /// Whether an acceptor is asked: it is a member of one of the grids.
+    pub fn asks(&self, acceptor: u16) -> bool
+        ensures { result ≡ is_member_of self.now.live acceptor }
+    {
+        is_member_of(&self.live, acceptor)
+    }
+
+    /// An acceptor promises, and tells what it voted from the slot `cw` on: votes of rising slots of the window of 32 slots
+    /// from there on. Want of memory leaves all as it was, and so do the answers `Same` and `Unasked`.
+    pub fn answer(&mut self, acceptor: u16, cw: u64, votes: &Votes) -> Result<Told, NoMemory>
+        requires cw { IsTrue (field.mark.fits cw) }
+        requires votes { IsTrue ((field.votes cw).fits votes.now) }
+        ensures told { IfOk result (λ told. told ≡ told_by self.old (record { acceptor = acceptor; cw = cw; votes = votes.now })) }
+        ensures counted { OnOk result (self.new ≡ counted_by self.old (record { acceptor = acceptor; cw = cw; votes = votes.now })) }
+        ensures no_memory { OnErr result (self.new ≡ self.old) }
+    {
+        if !is_member_of(&self.live, acceptor) {
+            return Ok(Told::Unasked);
+        }
+        if self.marks.contains(acceptor) {
+            return Ok(Told::Same);
+        }
+        let votes = votes.copy(self.alloc)?;
+        self.promises.push(Promised {
+            acceptor,
+            cw,
+            votes,
+        })?;
+        self.marks.add(acceptor);
+        if rows_whole(&self.live, &self.marks) {
+            Ok(Told::Whole)
+        } else {
+            Ok(Told::Counted)
+        }
+    }
+
+    /// What the leader proposes once each live grid has a whole row: from the greatest watermark told, and at least `low`, to
+    /// behind the greatest slot told, in each slot the value of the greatest round voted there, or a no-op (VLDB 2021).
+    pub fn plan(&self, low: u64) -> Result<Plan, NoMemory>
+        requires { low ≤ 2 ^ 40 }
+        ensures plan { IfOk result (λ found. found ≡ plan low self.now.promises) }
+        ensures ranges { IfOk result (λ found. IsPlan found) }
+    {
+        plan(self.alloc, low, &self.promises)
+    }
+}
+
+fn copy_promise(alloc: Global, promised: &Promised) -> Result<Promised, NoMemory>
+    ensures { IfOk result (λ copied. copied ≡ promised.now) }
+{
+    Ok(Promised {
+        acceptor: promised.acceptor,
+        cw: promised.cw,
+        votes: promised.votes.copy(alloc)?,
+    })
+}
+
+fn copy_promises(alloc: Global, promises: &[Promised]) -> Result<Vec<Promised>, NoMemory>
+    ensures { IfOk result (λ copied. copied.items ≡ promises.now) }
+{
+    let mut list = Vec::with_capacity(alloc, promises.len())?;
+    for promised in promises {
+        list.push(copy_promise(alloc, promised)?)?;
+    }
+    Ok(list)
+}
+
+impl Duplicate for Phase1 {
+    fn copy(&self, alloc: Global) -> Result<Self, NoMemory> {
+        Ok(Phase1 {
+            alloc,
+            live: copy_all(alloc, &self.live)?,
+            promises: copy_promises(alloc, &self.promises)?,
+            marks: self.marks.copy(alloc)?,
+        })
+    }
+}

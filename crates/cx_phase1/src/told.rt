@@ -1,0 +1,14 @@
+//! What an acceptor's answer comes to.
+
+/// What an acceptor's answer comes to.
+#[derive(Clone, Copy, Debug, PartialEq, Eq)]
+pub enum Told {
+    /// It counts, and each live grid now has a whole row.
+    Whole,
+    /// It counts, and more are wanted.
+    Counted,
+    /// The acceptor was counted before.
+    Same,
+    /// The acceptor is a member of no live grid.
+    Unasked,
+}
