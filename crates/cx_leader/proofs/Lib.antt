@@ -1,4 +1,6 @@
 pub mod Fits
-pub mod Live
-pub mod Proposals
+pub mod MatchLaws
+pub mod Opened
+pub mod PromiseLaws
+pub mod Proposed
 pub mod Sends

@@ -1,2 +1,3 @@
-pub mod Matching
+pub mod Promising
+pub mod Proposing
 pub mod State

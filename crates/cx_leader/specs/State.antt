@@ -1,43 +1,59 @@
 -- What the parts of a leader owe one another.
-use Rattle.std.specs.Prelude.{◌≤◌, ◌<◌, ◌+◌, ◌^◌, ℕ, Bool, true, false, ◌||◌, is_some, length, Option, None, Some, IsTrue}
-use Rattle.std.specs.List.{All}
+use Rattle.std.specs.Prelude.{◌≡◌, ◌≤◌, ◌<◌, ◌+◌, ◌^◌, ◌==◌, ℕ, Bool, true, ◌&&◌, ◌||◌, not, is_some, length, Option, None, Some, IsTrue, List, [], All}
+use Rattle.std.specs.List.{list_all}
+use Rattle.std.specs.Option.{option_map}
 use Rattle.cx_base.specs.declared.cluster.Cluster.{Cluster}
-use Rattle.cx_base.specs.declared.command.Placed.{Placed}
-use Rattle.cx_field.specs.Fields.{round, value as placed_value}
+use Rattle.cx_base.specs.Grid.{Shape}
+use Rattle.cx_collect.specs.Collecting.{Collecting}
+use Rattle.cx_field.specs.Fields as field
 use Rattle.cx_field.specs.declared.parts.Entry.{Entry}
+use Rattle.cx_model.specs.declared.states.MatchAnswer.{MatchAnswer}
 use Rattle.cx_model.specs.declared.states.Mode.{Mode}
-use Rattle.cx_model.specs.declared.states.Mode.TheVariants.{Idle, Matching, Phase1, Leading}
-use Rattle.cx_model.specs.Leader.{LeaderDurable, LeaderVolatile, is_matching}
+use Rattle.cx_model.specs.Collection.{is_off}
+use Rattle.cx_model.specs.Leader.{is_idle, is_matching, is_promising}
+use Rattle.cx_model.specs.Matched.{live_entries}
+use Rattle.cx_model.specs.Names.{names_entry}
+use Rattle.cx_phase1.specs.Counting.{Counting}
+use Rattle.cx_leader.specs.Promising.{live_of}
 
-abbrev pub is_idle : Mode → Bool
-is_idle Idle = true
-is_idle Matching = false
-is_idle Phase1 = false
-is_idle Leading = false
+-- a round of its own that has a spelling, if there is one
+abbrev pub own_fits : ℕ → Option Entry → Bool
+own_fits index None = true
+own_fits index (Some e) = field.round.fits e.round && (e.round.id == index)
 
--- a round that has a spelling, if there is one
-abbrev pub own_fits : Option Entry → Bool
-own_fits None = true
-own_fits (Some e) = round.fits e.round
+-- whether a matchmaker told only entries whose names lie in the cluster
+abbrev pub is_named : Cluster → MatchAnswer → Bool
+is_named c a = list_all (λ (e : Entry). names_entry c e) a.entries
 
--- a value that has a spelling, at a slot of [cw, next)
-pub record IsProposal (cw next : ℕ) (p : Placed) : Type 0 where
-  pub low : cw ≤ p.slot
-  pub high : p.slot < next
-  pub value : IsTrue (placed_value.fits p.value)
+-- its last round is one of its own, and each mode but Idle has one
+pub record IsBegun (c : Cluster) (index : ℕ) (own : Option Entry) (mode : Mode) : Type 0 where
+  pub named : index < c.leaders
+  pub fits : IsTrue (own_fits index own)
+  pub begun : IsTrue (is_idle mode || is_some own)
+
+-- It counts at most f + 1 matchmakers. While it asks acceptors, it asks those of the live grids that the matchmakers told, and
+-- none before that.
+pub record IsMatched (c : Cluster) (mode : Mode) (told : List MatchAnswer) (phase1 : Option Counting) : Type 0 where
+  pub count : length told ≤ c.f + 1
+  pub fewer : IsTrue (is_matching mode) → length told ≤ c.f
+  pub named : IsTrue (list_all (λ (a : MatchAnswer). is_named c a) told)
+  pub unasked : IsTrue (is_matching mode) → phase1 ≡ None
+  pub asked : IsTrue (is_promising mode) → live_of phase1 ≡ Some (live_entries told)
+
+-- each replica told a number of slots
+pub record IsHeld (c : Cluster) (held : List ℕ) : Type 0 where
+  pub count : length held ≡ c.replicas
+  pub marks : All (λ n. n ≤ 2 ^ 40) held
+
+-- it retires the rounds below its own with the grid of its own
+pub record IsRetiring (c : Cluster) (own : Option Entry) (k : Collecting) : Type 0 where
+  pub grid : IsTrue (not (is_off k.collection.stage)) → option_map (λ (e : Entry). e.grid) own ≡ Some k.grid
+  pub f : IsTrue (not (is_off k.collection.stage)) → k.f ≡ c.f
+  pub mark : k.collection.mark ≤ 2 ^ 40
 
 -- what holds of each leader
-pub record IsLeader (c : Cluster) (index : ℕ) (d : LeaderDurable) (v : LeaderVolatile) : Type 0 where
-  pub named : index < c.leaders
-  -- its own round is a real one, and each mode but Idle has one
-  pub own : IsTrue (own_fits d.own)
-  pub begun : IsTrue (is_idle v.mode || is_some d.own)
-  -- it counts at most f + 1 matchmakers
-  pub told : length v.told ≤ c.f + 1
-  pub matching : IsTrue (is_matching v.mode) → length v.told ≤ c.f
-  -- the slots that it may propose at
-  pub low : v.cw ≤ v.next
-  pub window : v.next ≤ v.cw + 32
-  pub end : v.next ≤ 2 ^ 40
-  pub count : v.cw + length v.proposed ≤ v.next
-  pub proposed : All (IsProposal v.cw v.next) v.proposed
+pub record IsLeader (c : Cluster) (index : ℕ) (own : Option Entry) (mode : Mode) (told : List MatchAnswer) (phase1 : Option Counting) (held : List ℕ) (k : Collecting) : Type 0 where
+  pub begun : IsBegun c index own mode
+  pub matched : IsMatched c mode told phase1
+  pub holding : IsHeld c held
+  pub retiring : IsRetiring c own k

@@ -1,18 +1,24 @@
-//! The leader's state, and its steps.
+//! The leader's state.
 
-ghost use Rattle.std.specs.Prelude.{◌≡◌, [], None, IfOk, IfErr, IsTrue};
+ghost use Rattle.std.specs.Prelude.{◌≡◌, [], None, map, IfOk, IfErr, OnErr, IsTrue};
+ghost use Rattle.cx_base.specs.Lists.{below};
 ghost use Rattle.cx_keeper.specs.Keeper.{all_fit};
-ghost use Rattle.cx_model.specs.Leader.{LeaderDurable, LeaderVolatile, leader_rules};
+ghost use Rattle.cx_model.specs.Leader.{LeaderDurable, LeaderVolatile, is_idle, leader_takes, leader_rules};
 ghost use Rattle.cx_model.specs.Rules.{Running, folded, refused};
+ghost use Rattle.cx_model.specs.Names.{names};
+ghost use Rattle.cx_role.specs.Role.{Replies};
 ghost use Rattle.cx_role.specs.Wake.{IsWakeFault};
-ghost use Rattle.cx_leader.specs.State.{is_idle, own_fits};
+ghost use Rattle.cx_leader.specs.State.{own_fits};
 
+use crate::proposals::Proposals;
 use crate::rounds::{may_begin, round_of};
-use cx_base::{Cluster, Kind, NoMemory, Order, Placed, RoleId, Round, Why};
+use cx_base::{Cluster, Kind, NoMemory, Order, RoleId, Round, Why};
+use cx_collect::Collector;
 use cx_field::Entry;
 use cx_keeper::Keeper;
 use cx_model::{MatchAnswer, Mode};
 use cx_msg::{Datagram, Msg, Record};
+use cx_phase1::Phase1;
 use cx_role::{Outbox, Role, StepFault, WakeFault, is_for};
 use std::alloc::Global;
 use std::marker::Model;
@@ -27,11 +33,13 @@ pub struct Leader {
     pub(crate) own: Option<Entry>,
     pub(crate) mode: Mode,
     pub(crate) seen: Round,
+    // The greatest number of slots that each replica told.
+    pub(crate) held: Vec<u64>,
     pub(crate) told: Vec<MatchAnswer>,
-    pub(crate) cw: u64,
-    pub(crate) next: u64,
-    pub(crate) proposed: Vec<Placed>,
-    pub(crate) chosen: Vec<u64>,
+    // Who has promised, where acceptors are asked.
+    pub(crate) phase1: Option<Phase1>,
+    pub(crate) proposals: Proposals,
+    pub(crate) collector: Collector,
 }
 
 impl Model for Leader {
@@ -39,13 +47,14 @@ impl Model for Leader {
     ghost use Rattle.cx_base.specs.declared.role.Kind.TheVariants as kind;
     ghost use Rattle.cx_model.specs.Rules.{Running};
     ghost use Rattle.cx_model.specs.Leader.{LeaderDurable, LeaderVolatile};
+    ghost use Rattle.cx_leader.specs.Promising.{promises_of};
     ghost use Rattle.cx_leader.specs.State.{IsLeader};
 
     ghost Value = { Running LeaderDurable LeaderVolatile };
 
-    ghost view = { λ l. record { cluster = l.cluster; me = role kind.Leader l.index; live = l.live; durable = record { own = l.own }; volatile = record { mode = l.mode; seen = l.seen; told = l.told.items; cw = l.cw; next = l.next; proposed = l.proposed.items; chosen = l.chosen.items } } };
+    ghost view = { λ l. record { cluster = l.cluster; me = role kind.Leader l.index; live = l.live; durable = record { own = l.own }; volatile = record { mode = l.mode; seen = l.seen; held = l.held.items; told = l.told.items; promises = promises_of l.phase1; cw = l.proposals.cw; next = l.proposals.next; end = l.proposals.end; proposed = l.proposals.proposed; chosen = l.proposals.chosen; collection = l.collector.collection } } };
 
-    ghost invariant = { λ l. IsLeader l.cluster l.index (record { own = l.own }) (record { mode = l.mode; seen = l.seen; told = l.told.items; cw = l.cw; next = l.next; proposed = l.proposed.items; chosen = l.chosen.items }) };
+    ghost invariant = { λ l. IsLeader l.cluster l.index l.own l.mode l.told.items l.phase1 l.held.items l.collector };
 }
 
 impl Leader {
@@ -57,13 +66,24 @@ impl Leader {
     }
 }
 
+// No replica told anything.
+fn none_held(alloc: Global, replicas: u16) -> Result<Vec<u64>, NoMemory>
+    ensures { IfOk result (λ held. held.items ≡ map (λ r. 0) (below replicas)) }
+{
+    let mut held = Vec::with_capacity(alloc, usize::from(replicas))?;
+    for _ in 0..replicas {
+        held.push(0)?;
+    }
+    Ok(held)
+}
+
 // The round that these records leave, with its grid.
 #[tactic(auto, unfolding(cx_msg::specs::Records::kept_record, cx_msg::specs::Records::round_grid))]
 fn last_begun(cluster: &Cluster, me: RoleId, records: &[Record]) -> Result<Option<Entry>, WakeFault>
     requires { IsTrue (all_fit records.now) }
     ensures own { IfOk result (λ own. record { own = own } ≡ folded leader_rules records.now) }
     ensures whole { IfOk result (λ _. refused leader_rules cluster.now me records.now ≡ None) }
-    ensures fits { IfOk result (λ own. IsTrue (own_fits own)) }
+    ensures fits { IfOk result (λ own. IsTrue (own_fits me.index own)) }
     ensures fault { IfErr result (IsWakeFault (refused leader_rules cluster.now me records.now)) }
 {
     let mut own = None;
@@ -82,6 +102,40 @@ fn last_begun(cluster: &Cluster, me: RoleId, records: &[Record]) -> Result<Optio
     Ok(own)
 }
 
+impl Leader {
+    // One datagram, by its kind.
+    #[tactic(auto, unfolding(cx_field::specs::Fields::mark, cx_wire::specs::Format::u64))]
+    fn taken(&mut self, datagram: &Datagram, out: &mut Outbox) -> Result<Why, NoMemory>
+        requires names { IsTrue (names self.old.cluster datagram.now) }
+        requires empty { out.old.list ≡ [] }
+        ensures ok { IfOk result (λ why. Replies leader_rules self.old (leader_takes self.old.cluster self.old.me self.old.durable self.old.volatile datagram.now.from datagram.now.msg) why self.new out.new.list) }
+        ensures no_memory { OnErr result (self.new ≡ self.old) }
+        ensures sends { OnErr result (out.new.list ≡ []) }
+    {
+        let from = datagram.from();
+        match datagram.msg() {
+            Msg::MatchB {
+                round,
+                watermark,
+                entries,
+            } => self.match_answer(from, *round, *watermark, entries, out),
+            Msg::MatchNack {
+                round,
+                reason,
+                other,
+            } => Ok(self.match_nack(*round, *reason, *other)),
+            Msg::Phase1B { round, cw, votes } => self.promise(from, *round, *cw, votes, out),
+            Msg::Nack { round, promise } => Ok(self.nack(*round, *promise)),
+            Msg::Batch { commands } => self.batch(commands, out),
+            Msg::ChosenIn { round, slot } => self.chosen_in(*round, *slot),
+            Msg::Held { mark } => Ok(self.replica_holds(from, *mark)),
+            Msg::Informed { round, mark } => self.informed(from, *round, *mark, out),
+            Msg::GarbageB { round } => Ok(self.forgotten(from, *round)),
+            _ => Ok(Why::Stranger),
+        }
+    }
+}
+
 impl Role for Leader {
     ghost Durable = { LeaderDurable };
 
@@ -91,7 +145,7 @@ impl Role for Leader {
 
     ghost state = { λ s. s };
 
-    #[tactic(auto, using(crate::proofs::Fits::leader_itself, crate::proofs::Fits::leader_named))]
+    #[tactic(auto, using(crate::proofs::Opened::leader_itself, crate::proofs::Opened::leader_named, crate::proofs::Opened::none_told))]
     fn open(
         alloc: Global,
         cluster: &Cluster,
@@ -107,11 +161,11 @@ impl Role for Leader {
             own,
             mode: Mode::Idle,
             seen: Round::ZERO,
+            held: none_held(alloc, cluster.replicas)?,
             told: Vec::new(alloc),
-            cw: 0,
-            next: 0,
-            proposed: Vec::new(alloc),
-            chosen: Vec::new(alloc),
+            phase1: None,
+            proposals: Proposals::new(alloc),
+            collector: Collector::off(),
         })
     }
 
@@ -122,23 +176,11 @@ impl Role for Leader {
         datagram: &Datagram,
         out: &mut Outbox,
     ) -> Result<Why, StepFault> {
-        if !is_for(
-            &self.cluster,
-            RoleId::new(Kind::Leader, self.index),
-            datagram,
-        ) {
+        let me = RoleId::new(Kind::Leader, self.index);
+        if !is_for(&self.cluster, me, datagram) {
             return Ok(Why::Stranger);
         }
-        match datagram.msg() {
-            Msg::MatchB {
-                round,
-                watermark,
-                entries,
-            } => Ok(self.match_answer(datagram.from(), *round, *watermark, entries, out)?),
-            Msg::Batch { commands } => Ok(self.batch(commands, out)?),
-            Msg::ChosenIn { round, slot } => Ok(self.chosen_in(*round, *slot)?),
-            _ => Ok(Why::Stranger),
-        }
+        Ok(self.taken(datagram, out)?)
     }
 
     fn order<K: Keeper>(
@@ -149,7 +191,8 @@ impl Role for Leader {
     ) -> Result<Why, StepFault> {
         match order {
             Order::Lead(grid) => self.lead(keeper, grid, out),
-            Order::Change(_) | Order::Collect => Ok(Why::Stranger),
+            Order::Change(grid) => self.change(keeper, grid, out),
+            Order::Collect => Ok(self.collect(out)?),
         }
     }
 

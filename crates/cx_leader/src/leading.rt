@@ -1,28 +1,53 @@
-//! What a leader that leads does: it gives each batch a slot, and notes which slots are chosen.
+//! What a leader that leads does: it proposes what its first phase told, gives each batch a slot, and notes which slots are
+//! chosen (VLDB 2021).
 
-ghost use Rattle.std.specs.Prelude.{◌≡◌, ◌≤◌, ◌+◌, ◌++◌, ◌∷◌, [], map, filter, not, length, IsTrue, IfOk, OnOk, OnErr};
-ghost use Rattle.cx_base.specs.Grid.{is_in};
-ghost use Rattle.cx_base.specs.declared.command.Placed.{Placed as PlacedOf};
+ghost use Rattle.std.specs.Prelude.{◌≡◌, [], Some, IsTrue, IfOk, OnErr};
 ghost use Rattle.cx_field.specs.Fields as field;
-ghost use Rattle.cx_model.specs.Leader.{propose_to, open_values, batch_row, chosen_in_row, leader_rules};
+ghost use Rattle.cx_model.specs.Leader.{lead_with, batch_row, chosen_in_row, leader_rules};
+ghost use Rattle.cx_phase1.specs.Planned.{IsPlan};
 ghost use Rattle.cx_role.specs.Role.{Replies};
-ghost use Rattle.cx_leader.specs.State.{IsProposal};
 
 use crate::Leader;
+use crate::proposals::Proposals;
 use crate::rounds::{is_same, round_of};
-use crate::sending::proposal;
-use cx_base::{Commands, Duplicate, NoMemory, Placed, Round, Value, Why};
+use crate::sending::{proposal, tell_batchers};
+use cx_base::{Commands, Duplicate, NoMemory, Round, Value, Why};
 use cx_field::Entry;
-use cx_model::Mode;
+use cx_model::{Mode, Plan};
 use cx_role::Outbox;
 
-fn contains(slots: &[u64], slot: u64) -> bool
-    ensures { result ≡ is_in slot slots.now }
-{
-    slots.iter().any(|other| *other == slot)
-}
-
 impl Leader {
+    /// Its first phase is done: it leads, proposes what the plan says, and tells the batchers.
+    #[tactic(auto, using(crate::proofs::Proposed::open_planned))]
+    pub(crate) fn finish(
+        &mut self,
+        own: &Entry,
+        plan: &Plan,
+        out: &mut Outbox,
+    ) -> Result<Why, NoMemory>
+        requires own { self.old.durable.own ≡ Some own.now }
+        requires plan { IsPlan plan.now }
+        requires empty { out.old.list ≡ [] }
+        ensures ok { IfOk result (λ why. Replies leader_rules self.old (lead_with self.old.cluster self.old.me own.now self.old.volatile plan.now) why self.new out.new.list) }
+        ensures no_memory { OnErr result (self.new ≡ self.old) }
+        ensures sends { OnErr result (out.new.list ≡ []) }
+    {
+        let proposals = Proposals::planned(self.alloc, plan)?;
+        out.room(32 + usize::from(self.cluster.batchers))?;
+        match proposals.propose_open(self.alloc, &self.cluster, self.index, own, out) {
+            Ok(()) => {}
+            Err(NoMemory) => {
+                out.clear();
+                return Err(NoMemory);
+            }
+        }
+        tell_batchers(self.index, own.round, self.cluster.batchers, out);
+        self.mode = Mode::Leading;
+        self.phase1 = None;
+        self.proposals = proposals;
+        Ok(Why::Leads)
+    }
+
     /// A batcher's commands get the next slot of the window.
     #[tactic(auto, unfolding(cx_field::specs::Fields::value))]
     pub(crate) fn batch(&mut self, commands: &Commands, out: &mut Outbox) -> Result<Why, NoMemory>
@@ -38,20 +63,16 @@ impl Leader {
         let Some(own) = self.own else {
             return Ok(Why::Idle);
         };
-        if self.next == self.cw + 32 || self.next == 1_099_511_627_776 {
-            return Ok(Why::Window);
-        }
-        let placed = Placed {
-            slot: self.next,
-            value: Value::Batch(commands.copy(self.alloc)?),
-        };
-        let value = placed.value.copy(self.alloc)?;
-        self.proposed.reserve(1)?;
+        let value = Value::Batch(commands.copy(self.alloc)?);
         out.room(1)?;
-        out.push(proposal(&self.cluster, self.index, &own, self.cw, self.next, value));
-        self.proposed.push_reserved(placed);
-        self.next += 1;
-        Ok(Why::Proposed)
+        match self.proposals.add(self.alloc, &value)? {
+            None => Ok(Why::Window),
+            Some(slot) => {
+                let cw = self.proposals.cw();
+                out.push(proposal(&self.cluster, self.index, &own, cw, slot, value));
+                Ok(Why::Proposed)
+            }
+        }
     }
 
     /// A proxy tells that a slot is chosen in this round.
@@ -62,44 +83,16 @@ impl Leader {
         if !matches!(self.mode, Mode::Leading) || !is_same(round, round_of(&self.own)) {
             return Ok(Why::Old);
         }
-        if slot < self.cw {
+        if slot < self.proposals.cw() {
             return Ok(Why::Past);
         }
-        if slot >= self.next {
+        if slot >= self.proposals.next() {
             return Ok(Why::Unasked);
         }
-        if contains(&self.chosen, slot) {
+        if self.proposals.is_chosen(slot) {
             return Ok(Why::Same);
         }
-        self.chosen.push(slot)?;
+        self.proposals.note(slot)?;
         Ok(Why::Chosen)
-    }
-
-    fn propose_again(&self, own: &Entry, placed: &Placed, out: &mut Outbox) -> Result<(), NoMemory>
-        requires spare { 1 ≤ out.old.spare }
-        requires round { IsTrue (field.round.fits own.now.round) }
-        requires placed { IsProposal self.now.volatile.cw self.now.volatile.next placed.now }
-        ensures list { OnOk result (out.new.list ≡ out.old.list ++ map (propose_to self.now.cluster self.now.me own.now self.now.volatile.cw) (filter (λ (p : PlacedOf). not (is_in p.slot self.now.volatile.chosen)) (placed.now ∷ []))) }
-        ensures spare { OnOk result (out.old.spare ≤ out.new.spare + 1) }
-    {
-        if contains(&self.chosen, placed.slot) {
-            return Ok(());
-        }
-        let value = placed.value.copy(self.alloc)?;
-        out.push(proposal(&self.cluster, self.index, own, self.cw, placed.slot, value));
-        Ok(())
-    }
-
-    /// Proposes again each value that is not known to be chosen; want of memory may leave some sent.
-    pub(crate) fn propose_open(&self, own: &Entry, out: &mut Outbox) -> Result<(), NoMemory>
-        requires spare { length self.now.volatile.proposed ≤ out.old.spare }
-        requires round { IsTrue (field.round.fits own.now.round) }
-        ensures list { OnOk result (out.new.list ≡ out.old.list ++ map (propose_to self.now.cluster self.now.me own.now self.now.volatile.cw) (open_values self.now.volatile)) }
-        ensures spare { OnOk result (out.old.spare ≤ out.new.spare + length self.now.volatile.proposed) }
-    {
-        for placed in &self.proposed {
-            self.propose_again(own, placed, out)?;
-        }
-        Ok(())
     }
 }

@@ -1,8 +1,8 @@
-//! Which rounds follow one another, and the order to begin one.
+//! Which rounds follow one another, and the orders to begin one.
 
-ghost use Rattle.std.specs.Prelude.{◌≡◌, ◌==◌, ◌&&◌, ◌+◌, ◌*◌, [], true, Some, IfOk, IsErrOf, IsTrue};
+ghost use Rattle.std.specs.Prelude.{◌≡◌, ◌==◌, ◌&&◌, ◌+◌, [], true, Some, IfOk, IsErrOf, IsTrue};
 ghost use Rattle.cx_base.specs.Round.{same_round};
-ghost use Rattle.cx_model.specs.Leader.{round_of, follows, lead_in, lead_row, leader_rules};
+ghost use Rattle.cx_model.specs.Leader.{round_of, follows, begin_in, lead_row, change_row, leader_rules};
 ghost use Rattle.cx_model.specs.Names.{names_round, names_grid};
 ghost use Rattle.cx_model.specs.Rules.{IsFit};
 ghost use Rattle.cx_field.specs.Fields as field;
@@ -10,8 +10,9 @@ ghost use Rattle.cx_role.specs.declared.role.StepFault.TheVariants as fault;
 ghost use Rattle.cx_role.specs.Role.{Steps, StaysAt, FailsAt};
 
 use crate::Leader;
-use crate::sending::ask_matchmakers;
+use crate::sending::{ask_matchmakers, matchmakers};
 use cx_base::{Cluster, Grid, Round, Why};
+use cx_collect::Collector;
 use cx_field::{Entry, grid_fits};
 use cx_keeper::{KeepFault, Keeper};
 use cx_model::Mode;
@@ -60,14 +61,8 @@ pub fn may_begin(cluster: &Cluster, leader: u16, own: Round, round: Round, grid:
         && follows(own, round)
 }
 
-/// How many matchmakers a cluster has.
-pub fn matchmakers(cluster: &Cluster) -> u16
-    ensures { result ≡ 2 * cluster.now.f + 1 }
-{
-    2 * u16::from(cluster.f) + 1
-}
-
 impl Leader {
+    // The round is kept before the matchmakers are asked to record it.
     #[tactic(auto, unfolding(cx_msg::specs::Records::kept_record, cx_msg::specs::Records::round_grid))]
     fn begin<K: Keeper>(
         &mut self,
@@ -79,9 +74,10 @@ impl Leader {
         requires live { self.old.live ≡ true }
         requires empty { out.old.list ≡ [] }
         requires round { IsTrue (field.round.fits round) }
-        ensures ok { IfOk result (λ why. Steps K.append_gives leader_rules self.old (lead_in self.old.cluster self.old.me self.old.volatile grid.now (Some round)) why keeper.old keeper.new self.new out.new.list) }
+        requires own { round.id ≡ self.old.me.index }
+        ensures ok { IfOk result (λ why. Steps K.append_gives leader_rules self.old (begin_in self.old.cluster self.old.me self.old.volatile grid.now (Some round)) why keeper.old keeper.new self.new out.new.list) }
         ensures no_memory { IsErrOf result StepFault.NoMemory → StaysAt K.kept self.old self.new keeper.old keeper.new out.new.list }
-        ensures failed { IsErrOf result StepFault.Failed → FailsAt K.append_gives (lead_in self.old.cluster self.old.me self.old.volatile grid.now (Some round)) keeper.old keeper.new self.new out.new.list }
+        ensures failed { IsErrOf result StepFault.Failed → FailsAt K.append_gives (begin_in self.old.cluster self.old.me self.old.volatile grid.now (Some round)) keeper.old keeper.new self.new out.new.list }
     {
         let count = matchmakers(&self.cluster);
         out.room(usize::from(count))?;
@@ -97,12 +93,14 @@ impl Leader {
         self.own = Some(Entry { round, grid: *grid });
         self.mode = Mode::Matching;
         self.told.clear();
+        self.phase1 = None;
+        self.collector = Collector::off();
         ask_matchmakers(self.index, round, grid, count, out);
         Ok(Why::Started)
     }
 
-    /// The order to lead: a round above all that it has seen, kept before the matchmakers are asked to record it.
-    #[tactic(auto, using(crate::proofs::Fits::lead_fits), unfolding(cx_field::specs::Fields::round, cx_wire::specs::Format::u16, cx_wire::specs::Format::u32))]
+    /// The order to lead: a round above all that it has seen.
+    #[tactic(auto, unfolding(cx_field::specs::Fields::round, cx_wire::specs::Format::u16, cx_wire::specs::Format::u32))]
     pub(crate) fn lead<K: Keeper>(
         &mut self,
         keeper: &mut K,
@@ -120,6 +118,33 @@ impl Leader {
             return Ok(Why::Stranger);
         }
         match Round::lead_after(round_of(&self.own), self.seen, self.index) {
+            None => Ok(Why::End),
+            Some(round) => self.begin(keeper, round, grid, out),
+        }
+    }
+
+    /// The order to go on with another grid: the next round of its own (JSys 2021).
+    #[tactic(auto, unfolding(cx_field::specs::Fields::round, cx_wire::specs::Format::u16, cx_wire::specs::Format::u32))]
+    pub(crate) fn change<K: Keeper>(
+        &mut self,
+        keeper: &mut K,
+        grid: &Grid,
+        out: &mut Outbox,
+    ) -> Result<Why, StepFault>
+        requires live { self.old.live ≡ true }
+        requires empty { out.old.list ≡ [] }
+        ensures ok { IfOk result (λ why. Steps K.append_gives leader_rules self.old (change_row self.old.cluster self.old.me self.old.durable self.old.volatile grid.now) why keeper.old keeper.new self.new out.new.list) }
+        ensures no_memory { IsErrOf result StepFault.NoMemory → StaysAt K.kept self.old self.new keeper.old keeper.new out.new.list }
+        ensures failed { IsErrOf result StepFault.Failed → FailsAt K.append_gives (change_row self.old.cluster self.old.me self.old.durable self.old.volatile grid.now) keeper.old keeper.new self.new out.new.list }
+        ensures fits { IsFit leader_rules self.old.cluster self.old.me self.old.durable (change_row self.old.cluster self.old.me self.old.durable self.old.volatile grid.now).kept }
+    {
+        if !names_grid(&self.cluster, grid) {
+            return Ok(Why::Stranger);
+        }
+        if !matches!(self.mode, Mode::Leading) {
+            return Ok(Why::Idle);
+        }
+        match Round::change_after(round_of(&self.own)) {
             None => Ok(Why::End),
             Some(round) => self.begin(keeper, round, grid, out),
         }

@@ -1,18 +1,27 @@
 //! What a leader sends to several roles, by rising index. Room in the outbox was taken beforehand.
 
-ghost use Rattle.std.specs.Prelude.{◌≡◌, ◌≤◌, ◌<◌, ◌+◌, ◌^◌, ◌++◌, map, IsTrue};
+ghost use Rattle.std.specs.Prelude.{◌≡◌, ◌≤◌, ◌+◌, ◌++◌, ◌*◌, ◌^◌, map, IsTrue};
 ghost use Rattle.cx_base.specs.declared.role.Kind.{Kind as KindOf};
 ghost use Rattle.cx_base.specs.Lists.{below};
 ghost use Rattle.cx_base.specs.Role.{role};
 ghost use Rattle.cx_field.specs.Fields as field;
-ghost use Rattle.cx_model.specs.Leader.{match_a_to, phase1a_to, leads_to, propose_to, members_of, live_entries, matchmakers};
+ghost use Rattle.cx_model.specs.Leader.{match_a_to, phase1a_to, leads_to, propose_to, inform_to, garbage_a_to};
+ghost use Rattle.cx_model.specs.Matched.{members_of, members_in};
+ghost use Rattle.cx_leader.specs.Proposing.{IsSlot};
 
-use crate::matching::is_live_member;
 use cx_base::{Cluster, Grid, Kind, Round, Value};
 use cx_field::Entry;
-use cx_model::MatchAnswer;
-use cx_msg::{Datagram, leads, match_a, phase1a, propose};
+use cx_grid::is_member;
+use cx_msg::{Datagram, garbage_a, inform, leads, match_a, phase1a, propose};
+use cx_phase1::Phase1;
 use cx_role::Outbox;
+
+/// How many matchmakers a cluster has.
+pub fn matchmakers(cluster: &Cluster) -> u16
+    ensures { result ≡ 2 * cluster.now.f + 1 }
+{
+    2 * u16::from(cluster.f) + 1
+}
 
 /// Asks so many matchmakers to record the round and its grid.
 pub fn ask_matchmakers(leader: u16, round: Round, grid: &Grid, count: u16, out: &mut Outbox)
@@ -25,21 +34,47 @@ pub fn ask_matchmakers(leader: u16, round: Round, grid: &Grid, count: u16, out: 
     }
 }
 
-/// Asks the members of the grids that were told and are not retired to promise the round.
-pub fn ask_members(
+/// Asks so many matchmakers to forget the rounds below the leader's own.
+pub fn ask_to_forget(leader: u16, own: &Entry, count: u16, out: &mut Outbox)
+    requires spare { count ≤ out.old.spare }
+    requires round { IsTrue (field.round.fits own.now.round) }
+    ensures { out.new.list ≡ out.old.list ++ map (garbage_a_to (role Kind.Leader leader) own.now) (below count) }
+{
+    for matchmaker in 0..count {
+        out.push(garbage_a(leader, matchmaker, own.round, own.grid));
+    }
+}
+
+/// Asks the acceptors of the first phase to promise the round.
+pub fn ask_acceptors(
     leader: u16,
     round: Round,
     cluster: &Cluster,
-    told: &[MatchAnswer],
+    phase1: &Phase1,
     out: &mut Outbox,
 )
     requires spare { cluster.now.acceptors ≤ out.old.spare }
     requires round { IsTrue (field.round.fits round) }
-    ensures { out.new.list ≡ out.old.list ++ map (phase1a_to (role Kind.Leader leader) round) (members_of cluster.now (live_entries told.now)) }
+    ensures { out.new.list ≡ out.old.list ++ map (phase1a_to (role Kind.Leader leader) round) (members_of cluster.now phase1.now.live) }
 {
     for acceptor in 0..cluster.acceptors {
-        if is_live_member(told, acceptor) {
+        if phase1.asks(acceptor) {
             out.push(phase1a(leader, acceptor, round));
+        }
+    }
+}
+
+/// Tells the members of the leader's grid that enough replicas hold so many slots.
+#[tactic(auto, unfolding(cx_field::specs::Fields::mark, cx_wire::specs::Format::u64))]
+pub fn inform_members(leader: u16, own: &Entry, mark: u64, cluster: &Cluster, out: &mut Outbox)
+    requires spare { cluster.now.acceptors ≤ out.old.spare }
+    requires round { IsTrue (field.round.fits own.now.round) }
+    requires mark { mark ≤ 2 ^ 40 }
+    ensures { out.new.list ≡ out.old.list ++ map (inform_to (role Kind.Leader leader) own.now.round mark) (members_in cluster.now own.now.grid) }
+{
+    for acceptor in 0..cluster.acceptors {
+        if is_member(&own.grid, acceptor) {
+            out.push(inform(leader, acceptor, own.round, mark));
         }
     }
 }
@@ -48,7 +83,8 @@ pub fn ask_members(
 pub fn tell_batchers(leader: u16, round: Round, count: u16, out: &mut Outbox)
     requires spare { count ≤ out.old.spare }
     requires round { IsTrue (field.round.fits round) }
-    ensures { out.new.list ≡ out.old.list ++ map (leads_to (role Kind.Leader leader) round) (below count) }
+    ensures list { out.new.list ≡ out.old.list ++ map (leads_to (role Kind.Leader leader) round) (below count) }
+    ensures spare { out.old.spare ≤ out.new.spare + count }
 {
     for batcher in 0..count {
         out.push(leads(leader, batcher, round));
@@ -66,9 +102,7 @@ pub fn proposal(
     value: Value,
 ) -> Datagram
     requires round { IsTrue (field.round.fits own.now.round) }
-    requires low { cw ≤ slot }
-    requires window { slot < cw + 32 }
-    requires end { slot < 2 ^ 40 }
+    requires slot { IsSlot cw slot }
     requires value { IsTrue (field.value.fits value) }
     ensures { result ≡ propose_to cluster.now (role Kind.Leader leader) own.now cw (record { slot = slot; value = value }) }
 {

@@ -1,16 +1,18 @@
 //! What a leader asks again while it waits.
 
-ghost use Rattle.std.specs.Prelude.{◌≡◌, [], Some, IfOk, IsTrue, OnErr};
+ghost use Rattle.std.specs.Prelude.{◌≡◌, ◌≤◌, ◌+◌, ◌*◌, ◌++◌, [], Some, IfOk, IsTrue, OnErr};
 ghost use Rattle.cx_model.specs.declared.states.Mode.TheVariants as mode;
-ghost use Rattle.cx_model.specs.Leader.{tick_in, leader_rules};
+ghost use Rattle.cx_model.specs.Leader.{stage_sends, tick_in, leader_rules};
 ghost use Rattle.cx_field.specs.Fields as field;
 ghost use Rattle.cx_role.specs.Role.{Replies};
 
 use crate::Leader;
-use crate::rounds::matchmakers;
-use crate::sending::{ask_matchmakers, ask_members, tell_batchers};
+use crate::sending::{
+    ask_acceptors, ask_matchmakers, ask_to_forget, inform_members, matchmakers, tell_batchers,
+};
 use cx_base::{NoMemory, Why};
 use cx_field::Entry;
+use cx_model::Stage;
 use cx_role::Outbox;
 
 impl Leader {
@@ -29,17 +31,39 @@ impl Leader {
 
     /// It asks the acceptors of earlier grids again.
     pub(crate) fn phase1_again(&self, own: &Entry, out: &mut Outbox) -> Result<Why, NoMemory>
+        requires mode { self.now.volatile.mode ≡ mode.Phase1 }
         requires round { IsTrue (field.round.fits own.now.round) }
         requires empty { out.old.list ≡ [] }
         ensures ok { IfOk result (λ why. Replies leader_rules self.now (tick_in self.now.cluster self.now.me self.now.volatile mode.Phase1 (Some own.now)) why self.now out.new.list) }
         ensures err { OnErr result (out.new.list ≡ []) }
     {
+        let Some(phase1) = &self.phase1 else {
+            return Ok(Why::Resent);
+        };
         out.room(usize::from(self.cluster.acceptors))?;
-        ask_members(self.index, own.round, &self.cluster, &self.told, out);
+        ask_acceptors(self.index, own.round, &self.cluster, phase1, out);
         Ok(Why::Resent)
     }
 
-    /// It proposes what is not known to be chosen, and tells again that it leads.
+    // It asks again what the present stage of retiring asks.
+    fn stage_again(&self, own: &Entry, out: &mut Outbox)
+        requires round { IsTrue (field.round.fits own.now.round) }
+        requires acceptors { self.now.cluster.acceptors ≤ out.old.spare }
+        requires matchmakers { 2 * self.now.cluster.f + 1 ≤ out.old.spare }
+        ensures { out.new.list ≡ out.old.list ++ stage_sends self.now.cluster self.now.me own.now self.now.volatile.collection }
+    {
+        match self.collector.stage() {
+            Stage::Informing => {
+                inform_members(self.index, own, self.collector.mark(), &self.cluster, out);
+            }
+            Stage::Collecting => {
+                ask_to_forget(self.index, own, matchmakers(&self.cluster), out);
+            }
+            Stage::Off | Stage::Retired => {}
+        }
+    }
+
+    /// It proposes what is not known to be chosen, tells again that it leads, and asks again what retiring asks.
     pub(crate) fn lead_again(&self, own: &Entry, out: &mut Outbox) -> Result<Why, NoMemory>
         requires round { IsTrue (field.round.fits own.now.round) }
         requires empty { out.old.list ≡ [] }
@@ -47,8 +71,12 @@ impl Leader {
         ensures err { OnErr result (out.new.list ≡ []) }
     {
         let batchers = self.cluster.batchers;
-        out.room(self.proposed.len() + usize::from(batchers))?;
-        match self.propose_open(own, out) {
+        let asked = self.cluster.acceptors + matchmakers(&self.cluster);
+        out.room(32 + usize::from(batchers + asked))?;
+        match self
+            .proposals
+            .propose_open(self.alloc, &self.cluster, self.index, own, out)
+        {
             Ok(()) => {}
             Err(NoMemory) => {
                 out.clear();
@@ -56,6 +84,7 @@ impl Leader {
             }
         }
         tell_batchers(self.index, own.round, batchers, out);
+        self.stage_again(own, out);
         Ok(Why::Resent)
     }
 }

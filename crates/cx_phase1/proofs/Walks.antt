@@ -4,7 +4,8 @@ use Rattle.std.proofs.Common.{drop, get_or, drop-cons, append_assoc, arith, ap, 
 use Rattle.std.proofs.lemmas.List.{drop_all}
 use Rattle.cx_base.specs.Lists.{numbers}
 
-next_left : {X : Type 0} (xs : List X) (i : ℕ) (x : X) → i < length xs → x ≡ get_or xs i x → drop i xs ≡ x ∷ drop (i + 1) xs
+-- what is left at a place is the value there and what is left behind it
+pub next_left : {X : Type 0} (xs : List X) (i : ℕ) (x : X) → i < length xs → x ≡ get_or xs i x → drop i xs ≡ x ∷ drop (i + 1) xs
 next_left xs i x lt is = let k : i + 1 ≡ suc i = omega arith in drop-cons xs i x lt ∙ rw (← is, k) refl
 
 -- Of what is left f gives the whole answer. If g takes the next value in, then it gives the answer of what is left behind it.

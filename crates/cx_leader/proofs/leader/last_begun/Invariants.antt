@@ -10,6 +10,6 @@ abbrev pub invariant-loop-index : goal.invariant-loop-index
 invariant-loop-index l = record {
   folded : folded_from leader_rules (record { own = l.own }) (drop l.index l.records) ≡ folded leader_rules l.records;
   refused : refused_from leader_rules l.cluster l.me (record { own = l.own }) l.index (drop l.index l.records) ≡ refused leader_rules l.cluster l.me l.records;
-  own : IsTrue (own_fits l.own);
+  own : IsTrue (own_fits l.me.index l.own);
   rest : IsTrue (all_fit (drop l.index l.records));
 }

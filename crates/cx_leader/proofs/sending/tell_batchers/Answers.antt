@@ -11,4 +11,5 @@ loop-batcher-preserved c =
     record {
       list = rw (c.push.ensures.list, c.leads.ensures) (sent_on send c.loop-batcher.out.list _ c.loop-batcher.batcher c.args.count c.loop-batcher-test.true c.loop-batcher.invariant.list);
       spare = omega arith;
+      left = omega arith;
     }

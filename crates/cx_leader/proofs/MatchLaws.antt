@@ -1,0 +1,71 @@
+-- What matchmakers told, one answer after the other.
+use Rattle.std.specs.Prelude.{◌≡◌, ◌<◌, ◌≤◌, ◌+◌, ◌^◌, ℕ, Bool, true, false, ◌&&◌, if◌then◌else◌, max, nat_lt, nat_le, filter, List, [], ◌∷◌, ◌++◌, All, IsTrue, refl}
+use Rattle.std.specs.List.{list_all}
+use Rattle.std.proofs.Common.{ap, append_assoc, arith, sym, ◌∙◌}
+use Rattle.std.proofs.lemmas.Bool.{and_parts, and_from, lt-ltb, ltb-true}
+use Rattle.std.proofs.lemmas.List.{append-nil}
+use Rattle.std.proofs.lemmas.List.Folds.{list_all-append}
+use Rattle.std.proofs.lemmas.List.Elements.{filter-append, All-filter, All-head, All-tail}
+use Rattle.cx_base.specs.declared.cluster.Cluster.{Cluster}
+use Rattle.cx_base.specs.declared.round.Round.{Round}
+use Rattle.cx_base.specs.Round.{is_before}
+use Rattle.cx_field.specs.declared.parts.Entry.{Entry}
+use Rattle.cx_model.specs.declared.states.MatchAnswer.{MatchAnswer}
+use Rattle.cx_model.specs.Leader.{reaching, greatest_of, held_by}
+use Rattle.cx_model.specs.Matched.{entries_told, live_entries}
+use Rattle.cx_model.specs.Matchmaker.{entries_from}
+use Rattle.cx_model.specs.Names.{names_entry, names_round, names_grid}
+use Rattle.cx_phase1.specs.Counting.{are_ids}
+use Rattle.cx_leader.specs.State.{is_named}
+
+entries_told-push : (told : List MatchAnswer) (a : MatchAnswer) → entries_told (told ++ a ∷ []) ≡ entries_told told ++ a.entries
+entries_told-push [] a = append-nil a.entries
+entries_told-push (b ∷ told) a = ap (λ es. b.entries ++ es) (entries_told-push told a) ∙ sym (append_assoc b.entries (entries_told told) a.entries)
+
+-- the entries from a round on, with those of one more answer
+pub entries_from-push : (w : Round) (told : List MatchAnswer) (a : MatchAnswer) → entries_from w (entries_told (told ++ a ∷ [])) ≡ entries_from w (entries_told told) ++ entries_from w a.entries
+entries_from-push w told a = ap (entries_from w) (entries_told-push told a) ∙ filter-append _ (entries_told told) a.entries
+
+greatest_high : (ns : List ℕ) (k : ℕ) → All (λ n. n ≤ k) ns → greatest_of ns ≤ k
+greatest_high [] k all = omega arith
+greatest_high (n ∷ ns) k all =
+    let here : n ≤ k = All-head (λ x. x ≤ k) n ns all in
+    omega (arith, here, greatest_high ns k (All-tail (λ x. x ≤ k) n ns all))
+
+-- what enough replicas hold is a number that one of them told
+pub held_high : (count k : ℕ) (held : List ℕ) → All (λ n. n ≤ k) held → held_by count held ≤ k
+held_high count k held all = greatest_high (filter (λ n. nat_le count (reaching n held)) held) k (All-filter (λ n. nat_le count (reaching n held)) (λ x. x ≤ k) held all)
+
+-- ---- names of what was told
+
+named_below : (n k : ℕ) (ids : List ℕ) → n ≤ k → list_all (λ id. nat_lt id n) ids ≡ true → list_all (λ id. nat_lt id k) ids ≡ true
+named_below n k [] le h = refl
+named_below n k (id ∷ ids) le h =
+    let p = and_parts (nat_lt id n) (list_all (λ x. nat_lt x n) ids) h in
+    let here : nat_lt id k ≡ true = lt-ltb id k (omega (arith, ltb-true id n p.0)) in
+    and_from (nat_lt id k) (list_all (λ x. nat_lt x k) ids) here (named_below n k ids le p.1)
+
+entries_named : (c : Cluster) (told : List MatchAnswer) → list_all (λ (a : MatchAnswer). is_named c a) told ≡ true → list_all (λ (e : Entry). names_entry c e) (entries_told told) ≡ true
+entries_named c [] h = refl
+entries_named c (a ∷ told) h =
+    let p = and_parts (is_named c a) (list_all (λ (x : MatchAnswer). is_named c x) told) h in
+    list_all-append (λ (e : Entry). names_entry c e) a.entries (entries_told told) ∙ and_from (is_named c a) (list_all (λ (e : Entry). names_entry c e) (entries_told told)) p.0 (entries_named c told p.1)
+
+filter_ids_by : (c : Cluster) (b : Bool) (e : Entry) (es : List Entry) → names_entry c e ≡ true → are_ids es ≡ true → are_ids (if b then e ∷ es else es) ≡ true
+filter_ids_by c true e es named rest =
+    let p = and_parts (names_round c e.round) (names_grid c e.grid) named in
+    and_from (list_all (λ id. nat_lt id 64) e.grid.members) (are_ids es) (named_below c.acceptors 64 e.grid.members c.acceptors_fit p.1) rest
+filter_ids_by c false e es named rest = rest
+
+filter_ids : (c : Cluster) (p : Entry → Bool) (es : List Entry) → list_all (λ (e : Entry). names_entry c e) es ≡ true → are_ids (filter p es) ≡ true
+filter_ids c p [] h = refl
+filter_ids c p (e ∷ es) h =
+    let q = and_parts (names_entry c e) (list_all (λ (x : Entry). names_entry c x) es) h in
+    filter_ids_by c (p e) e (filter p es) q.0 (filter_ids c p es q.1)
+
+-- the members of the live grids are ids
+pub live_ids : (c : Cluster) (told : List MatchAnswer) → list_all (λ (a : MatchAnswer). is_named c a) told ≡ true → are_ids (live_entries told) ≡ true
+live_ids c told h = filter_ids c _ (entries_told told) (entries_named c told h)
+
+pub named_more : (c : Cluster) (told : List MatchAnswer) (a : MatchAnswer) → list_all (λ (x : MatchAnswer). is_named c x) told ≡ true → is_named c a ≡ true → list_all (λ (x : MatchAnswer). is_named c x) (told ++ a ∷ []) ≡ true
+named_more c told a h k = list_all-append (λ (x : MatchAnswer). is_named c x) told (a ∷ []) ∙ and_from (list_all (λ (x : MatchAnswer). is_named c x) told) (is_named c a && true) h (and_from (is_named c a) true k refl)

@@ -1,5 +1,0 @@
-use Rattle.std.proofs.Common.{length}
-use Rattle.cx_leader.proofs.matching.+greatest_watermark.Given as goal
-
-abbrev pub decreases-greatest_watermark : goal.decreases-greatest_watermark
-decreases-greatest_watermark l = length l.told.now

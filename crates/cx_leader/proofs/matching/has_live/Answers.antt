@@ -1,9 +1,0 @@
-use Rattle.std.proofs.Common.{◌∙◌}
-use Rattle.cx_model.specs.Leader.{greatest_watermark}
-use Rattle.cx_leader.proofs.Live.{some_live_told}
-use Rattle.cx_leader.proofs.matching.has_live.Goals as goal
-
-pub returns : goal.returns
-returns c =
-    let told = c.args.told.now in
-    c.some_live_told.ensures ∙ rw c.greatest_watermark.ensures (some_live_told (greatest_watermark told) told)

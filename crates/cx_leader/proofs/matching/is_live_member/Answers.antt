@@ -1,9 +1,0 @@
-use Rattle.std.proofs.Common.{◌∙◌}
-use Rattle.cx_model.specs.Leader.{greatest_watermark}
-use Rattle.cx_leader.proofs.Live.{live_with_told}
-use Rattle.cx_leader.proofs.matching.is_live_member.Goals as goal
-
-pub returns : goal.returns
-returns c =
-    let told = c.args.told.now in
-    c.live_with_told.ensures ∙ rw c.greatest_watermark.ensures (live_with_told (greatest_watermark told) c.args.acceptor told)

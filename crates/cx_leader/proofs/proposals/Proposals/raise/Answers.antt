@@ -1,0 +1,7 @@
+use Rattle.cx_leader.proofs.Proposed.{proposed_raised}
+use Rattle.cx_leader.proofs.proposals.Proposals.raise.Goals as goal
+
+pub invariant_of-self : goal.invariant_of-self
+invariant_of-self c =
+    let p = c.self.inside in
+    rw (c.drop_proposed.ensures, c.cw-cw.ensures.cw, c.raise.ensures) (proposed_raised p.slots.cw p.slots.next c.args.cw p.list.items c.self.invariant c.requires)

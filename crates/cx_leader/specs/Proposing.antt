@@ -1,0 +1,80 @@
+-- What a leader proposed, as contracts see it.
+use Rattle.std.specs.Prelude.{◌≡◌, ◌≤◌, ◌<◌, ◌+◌, ◌-◌, ◌^◌, ℕ, Bool, true, false, not, nat_le, max, map, filter, List, [], ◌∷◌, ◌++◌, All, Option, None, Some, IsTrue}
+use Rattle.std.specs.List.{list_all}
+use Rattle.cx_base.specs.declared.command.Placed.{Placed}
+use Rattle.cx_base.specs.declared.command.Value.{Value}
+use Rattle.cx_base.specs.Grid.{is_in}
+use Rattle.cx_base.specs.Lists.{numbers}
+use Rattle.cx_model.specs.declared.states.Plan.{Plan}
+use Rattle.cx_model.specs.Plan.{placed_from}
+use Rattle.cx_field.specs.Fields as field
+use Rattle.cx_phase1.specs.Window.{IsWindow, is_used_up}
+
+-- the chosen watermark and the next free slot; the slot before which it proposed when its first phase was done; what it proposed
+-- from the watermark on, and which of these slots it knows to be chosen
+pub record Proposing : Type 0 where
+  pub cw : ℕ
+  pub next : ℕ
+  pub end : ℕ
+  pub proposed : List Placed
+  pub chosen : List ℕ
+
+-- nothing is proposed from this slot on
+abbrev pub nothing_from : ℕ → Proposing
+nothing_from cw = record { cw = cw; next = cw; end = cw; proposed = []; chosen = [] }
+
+-- what a plan proposes
+abbrev pub planned : Plan → Proposing
+planned p = record { cw = p.cw; next = p.end; end = p.end; proposed = placed_from p.cw p.values; chosen = [] }
+
+-- a value at the next slot
+abbrev pub with_value : Value → Proposing → Proposing
+with_value v p = record p { next = p.next + 1; proposed = p.proposed ++ record { slot = p.next; value = v } ∷ [] }
+
+-- whether no slot is free
+abbrev pub is_full : Proposing → Bool
+is_full p = is_used_up (record { cw = p.cw; next = p.next })
+
+abbrev pub with_chosen : ℕ → Proposing → Proposing
+with_chosen s p = record p { chosen = p.chosen ++ s ∷ [] }
+
+-- a greater watermark
+abbrev pub raised : ℕ → Proposing → Proposing
+raised cw p =
+    record {
+      cw = max p.cw cw;
+      next = max p.next (max p.cw cw);
+      end = p.end;
+      proposed = filter (λ (x : Placed). nat_le (max p.cw cw) x.slot) p.proposed;
+      chosen = filter (λ s. nat_le (max p.cw cw) s) p.chosen;
+    }
+
+-- whether all that it proposed when its first phase was done is known to be chosen, or held
+abbrev pub is_settled : Proposing → Bool
+is_settled p = list_all (λ s. is_in s p.chosen) (numbers p.cw (p.end - p.cw))
+
+-- the values that aren't known to be chosen
+abbrev pub open_values : Proposing → List Placed
+open_values p = filter (λ (x : Placed). not (is_in x.slot p.chosen)) p.proposed
+
+-- a slot that a leader with this watermark may propose at
+pub record IsSlot (cw s : ℕ) : Type 0 where
+  pub low : cw ≤ s
+  pub high : s < cw + 32
+  pub end : s < 2 ^ 40
+
+-- a value that has a spelling, at such a slot
+pub record IsProposal (cw : ℕ) (p : Placed) : Type 0 where
+  pub slot : IsSlot cw p.slot
+  pub value : IsTrue (field.value.fits p.value)
+
+-- the slots from the watermark on have one value each, up to the next free one
+pub record IsProposing (cw next : ℕ) (proposed : List Placed) : Type 0 where
+  pub window : IsWindow cw next
+  pub slots : map (λ (p : Placed). p.slot) proposed ≡ numbers cw (next - cw)
+  pub values : All (IsProposal cw) proposed
+
+-- a value gets the next slot, if one is free
+abbrev pub Adds : Value → Proposing → Option ℕ → Proposing → Type 0
+Adds v old None new = (is_full old ≡ true) × (new ≡ old)
+Adds v old (Some s) new = (is_full old ≡ false) × (s ≡ old.next) × IsSlot old.cw s × (new ≡ with_value v old)

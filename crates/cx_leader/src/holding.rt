@@ -1,0 +1,46 @@
+//! How many slots the replicas hold. What f + 1 of them hold is never lost (this project's own).
+
+ghost use Rattle.std.specs.Prelude.{◌≡◌, ◌≤◌, ◌<◌, ◌^◌, [], IsTrue};
+ghost use Rattle.cx_model.specs.Leader.{reaching, held_by, held_row, leader_rules};
+ghost use Rattle.cx_role.specs.Role.{Replies};
+
+use crate::Leader;
+use cx_base::{RoleId, Why};
+
+// How many of the numbers reach this one.
+fn reaching(held: &[u64], n: u64) -> usize
+    ensures { result ≡ reaching n held.now }
+{
+    held.iter().filter(|other| **other >= n).count()
+}
+
+// The greatest of the numbers that so many of them reach.
+fn held_by(held: &[u64], count: usize) -> u64
+    ensures { result ≡ held_by count held.now }
+{
+    let mut greatest = 0;
+    for n in held {
+        if reaching(held, *n) >= count {
+            greatest = greatest.max(*n);
+        }
+    }
+    greatest
+}
+
+impl Leader {
+    /// A replica tells how many slots it holds. What enough of them hold is the chosen watermark, if it is greater.
+    pub(crate) fn replica_holds(&mut self, from: RoleId, n: u64) -> Why
+        requires replica { from.index < self.old.cluster.replicas }
+        requires mark { n ≤ 2 ^ 40 }
+        ensures { Replies leader_rules self.old (held_row self.old.cluster self.old.volatile from n) result self.new [] }
+    {
+        let place = usize::from(from.index);
+        if n <= self.held[place] {
+            return Why::Same;
+        }
+        self.held[place] = n;
+        let cw = held_by(&self.held, usize::from(self.cluster.f) + 1);
+        self.proposals.raise(cw);
+        Why::Held
+    }
+}

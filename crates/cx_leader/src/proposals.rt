@@ -1,0 +1,224 @@
+//! What a leader proposed, and what it knows to be chosen.
+
+ghost use Rattle.std.specs.Prelude.{◌≡◌, ◌≤◌, ◌<◌, ◌+◌, ◌-◌, ◌^◌, ◌++◌, ◌∷◌, [], not, max, map, filter, nat_le, length, None, Some, All, IsTrue, IfOk, IfSome, OnOk, OnErr};
+ghost use Rattle.std.specs.List.{list_all};
+ghost use Rattle.cx_base.specs.declared.command.Placed.{Placed as PlacedOf};
+ghost use Rattle.cx_base.specs.declared.role.Kind.{Kind as KindOf};
+ghost use Rattle.cx_base.specs.Grid.{is_in};
+ghost use Rattle.cx_base.specs.Lists.{numbers};
+ghost use Rattle.cx_base.specs.Role.{role};
+ghost use Rattle.cx_field.specs.Fields as field;
+ghost use Rattle.cx_model.specs.Leader.{propose_to};
+ghost use Rattle.cx_model.specs.Plan.{placed_from};
+ghost use Rattle.cx_phase1.specs.Planned.{IsPlan};
+ghost use Rattle.cx_phase1.specs.Window.{IsWindow, is_used_up};
+ghost use Rattle.cx_leader.specs.Proposing.{Proposing, Adds, IsSlot, IsProposal, nothing_from, planned, with_value, with_chosen, raised, is_settled, open_values};
+
+use crate::sending::proposal;
+use cx_base::{Cluster, Duplicate, Kind, NoMemory, Placed, Value};
+use cx_field::Entry;
+use cx_model::Plan;
+use cx_phase1::Slots;
+use cx_role::Outbox;
+use std::alloc::Global;
+use std::marker::Model;
+
+/// The values that a leader proposed from the chosen watermark on, one a slot, and which of these slots it knows to be chosen
+/// in its round.
+#[derive(Drop)]
+pub struct Proposals {
+    slots: Slots,
+    // The slot before which it proposed when its first phase was done.
+    end: u64,
+    list: Vec<Placed>,
+    chosen: Vec<u64>,
+}
+
+impl Model for Proposals {
+    ghost use Rattle.cx_leader.specs.Proposing.{Proposing, IsProposing};
+
+    ghost Value = { Proposing };
+
+    ghost view = { λ p. record { cw = p.slots.cw; next = p.slots.next; end = p.end; proposed = p.list.items; chosen = p.chosen.items } };
+
+    ghost invariant = { λ p. IsProposing p.slots.cw p.slots.next p.list.items };
+}
+
+fn contains(slots: &[u64], slot: u64) -> bool
+    ensures { result ≡ is_in slot slots.now }
+{
+    slots.iter().any(|other| *other == slot)
+}
+
+fn drop_proposed(list: &mut Vec<Placed>, cw: u64)
+    ensures { list.new.items ≡ filter (λ (p : PlacedOf). nat_le cw p.slot) list.old.items }
+{
+    list.retain(|placed| placed.slot >= cw);
+}
+
+fn drop_chosen(list: &mut Vec<u64>, cw: u64)
+    ensures { list.new.items ≡ filter (λ s. nat_le cw s) list.old.items }
+{
+    list.retain(|slot| *slot >= cw);
+}
+
+// Whether each of these slots is known to be chosen.
+#[tactic(auto, using(cx_grid::proofs::Crossing::numbers_more))]
+fn are_chosen(slots: &[u64], first: u64, count: u64) -> bool
+    requires { first + count < 2 ^ 64 }
+    ensures { result ≡ list_all (λ s. is_in s slots.now) (numbers first count) }
+{
+    for slot in first..first + count {
+        if !contains(slots, slot) {
+            return false;
+        }
+    }
+    true
+}
+
+// Values at the slots from the first on.
+fn placed(alloc: Global, first: u64, values: &[Value]) -> Result<Vec<Placed>, NoMemory>
+    requires { first + length values.now < 2 ^ 64 }
+    ensures { IfOk result (λ list. list.items ≡ placed_from first values.now) }
+{
+    let mut list = Vec::with_capacity(alloc, values.len())?;
+    let mut slot = first;
+    for value in values {
+        list.push(Placed {
+            slot,
+            value: value.copy(alloc)?,
+        })?;
+        slot += 1;
+    }
+    Ok(list)
+}
+
+impl Proposals {
+    /// Nothing proposed from the first slot on. It takes no memory.
+    pub fn new(alloc: Global) -> Self
+        ensures { result ≡ nothing_from 0 }
+    {
+        Proposals {
+            slots: Slots::new(0, 0),
+            end: 0,
+            list: Vec::new(alloc),
+            chosen: Vec::new(alloc),
+        }
+    }
+
+    /// What a plan proposes.
+    pub fn planned(alloc: Global, plan: &Plan) -> Result<Self, NoMemory>
+        requires { IsPlan plan.now }
+        ensures { IfOk result (λ proposals. proposals ≡ planned plan.now) }
+    {
+        Ok(Proposals {
+            slots: Slots::new(plan.cw, plan.end),
+            end: plan.end,
+            list: placed(alloc, plan.cw, plan.values.as_slice())?,
+            chosen: Vec::new(alloc),
+        })
+    }
+
+    /// Forgets all that was proposed from the watermark on. It takes no memory.
+    pub fn clear(&mut self)
+        ensures { self.new ≡ nothing_from self.old.cw }
+    {
+        let cw = self.slots.cw();
+        self.slots = Slots::new(cw, cw);
+        self.end = cw;
+        self.list.clear();
+        self.chosen.clear();
+    }
+
+    /// Gives a value the next slot, or answers None where no slot is free.
+    pub fn add(&mut self, alloc: Global, value: &Value) -> Result<Option<u64>, NoMemory>
+        requires { IsTrue (field.value.fits value.now) }
+        ensures ok { IfOk result (λ slot. Adds value.now self.old slot self.new) }
+        ensures no_memory { OnErr result (self.new ≡ self.old) }
+    {
+        let mut slots = self.slots;
+        let Some(slot) = slots.next_slot() else {
+            return Ok(None);
+        };
+        let value = value.copy(alloc)?;
+        self.list.push(Placed { slot, value })?;
+        self.slots = slots;
+        Ok(Some(slot))
+    }
+
+    /// Notes that a slot is chosen.
+    pub fn note(&mut self, slot: u64) -> Result<(), NoMemory>
+        ensures ok { OnOk result (self.new ≡ with_chosen slot self.old) }
+        ensures no_memory { OnErr result (self.new ≡ self.old) }
+    {
+        self.chosen.push(slot)?;
+        Ok(())
+    }
+
+    /// Raises the chosen watermark, a number of slots of at most 2^40, or leaves a greater one: the slots below it are forgotten,
+    /// and none of them is free. It takes no memory.
+    pub fn raise(&mut self, cw: u64)
+        requires { cw ≤ 2 ^ 40 }
+        ensures { self.new ≡ raised cw self.old }
+    {
+        self.slots.raise(cw);
+        let cw = self.slots.cw();
+        drop_proposed(&mut self.list, cw);
+        drop_chosen(&mut self.chosen, cw);
+    }
+
+    /// Proposes each value that is not known to be chosen, at most 32 of them; want of memory may leave some sent.
+    #[tactic(auto, using(crate::proofs::Proposed::at_most_32))]
+    pub fn propose_open(
+        &self,
+        alloc: Global,
+        cluster: &Cluster,
+        leader: u16,
+        own: &Entry,
+        out: &mut Outbox,
+    ) -> Result<(), NoMemory>
+        requires spare { 32 ≤ out.old.spare }
+        requires round { IsTrue (field.round.fits own.now.round) }
+        ensures list { OnOk result (out.new.list ≡ out.old.list ++ map (propose_to cluster.now (role Kind.Leader leader) own.now self.now.cw) (open_values self.now)) }
+        ensures spare { OnOk result (out.old.spare ≤ out.new.spare + 32) }
+    {
+        let cw = self.slots.cw();
+        for placed in &self.list {
+            if !contains(&self.chosen, placed.slot) {
+                let value = placed.value.copy(alloc)?;
+                out.push(proposal(cluster, leader, own, cw, placed.slot, value));
+            }
+        }
+        Ok(())
+    }
+
+    /// The chosen watermark, a number of slots.
+    pub fn cw(&self) -> u64
+        ensures cw { result ≡ self.now.cw }
+        ensures range { self.now.cw ≤ 2 ^ 40 }
+    {
+        self.slots.cw()
+    }
+
+    /// The next free slot.
+    pub fn next(&self) -> u64
+        ensures { result ≡ self.now.next }
+    {
+        self.slots.next()
+    }
+
+    /// Whether a slot is known to be chosen.
+    pub fn is_chosen(&self, slot: u64) -> bool
+        ensures { result ≡ is_in slot self.now.chosen }
+    {
+        contains(&self.chosen, slot)
+    }
+
+    /// Whether all that it proposed when its first phase was done is known to be chosen, or held by enough replicas.
+    pub fn is_settled(&self) -> bool
+        ensures { result ≡ is_settled self.now }
+    {
+        let cw = self.slots.cw();
+        are_chosen(&self.chosen, cw, self.end.saturating_sub(cw))
+    }
+}
