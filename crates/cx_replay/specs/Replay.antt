@@ -9,7 +9,7 @@ use Rattle.cx_base.specs.Lists.{below}
 use Rattle.cx_edge.specs.Sink.{AppendsPart}
 use Rattle.cx_model.specs.Chosen.{chosen_prefix}
 use Rattle.cx_model.specs.World.{World, change, step, run, start}
-use Rattle.cx_replay.specs.Input.{one_of_each, input_of}
+use Rattle.cx_replay.specs.Input.{Input, input_of}
 use Rattle.cx_trace.specs.Trace.{event_text, datagrams_text}
 use Rattle.cx_trace.specs.Summary.{summary_text}
 use Rattle.cx_world.specs.Folded.{folded_of}
@@ -29,23 +29,23 @@ abbrev pub summary : World → List ℕ
 summary w = summary_text (chosen_prefix w.kept) (map (λ p. folded_of p w.kept) (below w.cluster.replicas))
 
 -- the whole text of a run
-unfoldable pub output : List Event → List ℕ
-output es = trace (start one_of_each) es ++ summary (run one_of_each es)
+unfoldable pub output : Input → List ℕ
+output i = trace (start i.cluster) i.events ++ summary (run i.cluster i.events)
 
--- the whole text of the input's events was written, and there are events
-abbrev pub Prints : Option (List Event) → Option (List ℕ) → Option (List ℕ) → Type 0
+-- the whole text of the input's run was written, and there is an input
+abbrev pub Prints : Option Input → Option (List ℕ) → Option (List ℕ) → Type 0
 Prints None old new = ⊥
-Prints (Some es) old new = Appends old new (output es)
+Prints (Some i) old new = Appends old new (output i)
 
--- a part of that text was written, and there are events
-abbrev pub PrintsPart : Option (List Event) → Option (List ℕ) → Option (List ℕ) → Type 0
+-- a part of that text was written, and there is an input
+abbrev pub PrintsPart : Option Input → Option (List ℕ) → Option (List ℕ) → Type 0
 PrintsPart None old new = ⊥
-PrintsPart (Some es) old new = AppendsPart old new (output es)
+PrintsPart (Some i) old new = AppendsPart old new (output i)
 
--- a part of that text was written, nothing where the input has no events
-abbrev pub PrintsPartOrNothing : Option (List Event) → Option (List ℕ) → Option (List ℕ) → Type 0
+-- a part of that text was written, nothing where there is no input
+abbrev pub PrintsPartOrNothing : Option Input → Option (List ℕ) → Option (List ℕ) → Type 0
 PrintsPartOrNothing None old new = Keeps old new
-PrintsPartOrNothing (Some es) old new = AppendsPart old new (output es)
+PrintsPartOrNothing (Some i) old new = AppendsPart old new (output i)
 
 -- no other status comes of a replay
 abbrev pub ComesOfReplay : Status → Type 0
@@ -80,7 +80,7 @@ pub record Replayed (left left_after : Option (List ℕ)) (reads reads_after : �
   pub reads_stay : (s ≡ status.ReadFault → ⊥) → reads_after ≡ reads
   pub writes_stay : (s ≡ status.WriteFault → ⊥) → writes_after ≡ writes
 
--- With events in the input, and no fault of source or sink, the answer is Done or want of memory.
+-- With an input of the form, and no fault of source or sink, the answer is Done or want of memory.
 abbrev pub Completes : Option (List ℕ) → ℕ → ℕ → ℕ → ℕ → Status → Type 0
 Completes left reads reads_after writes writes_after s =
-    IfSome left (λ bytes. (es : List Event) → input_of bytes ≡ Some es → (Rises reads reads_after → ⊥) → (Rises writes writes_after → ⊥) → (s ≡ status.Done) ⊎ (s ≡ status.NoMemory))
+    IfSome left (λ bytes. (i : Input) → input_of bytes ≡ Some i → (Rises reads reads_after → ⊥) → (Rises writes writes_after → ⊥) → (s ≡ status.Done) ⊎ (s ≡ status.NoMemory))

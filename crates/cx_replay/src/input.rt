@@ -1,51 +1,93 @@
-//! The events of a whole input, behind the one header that is taken so far.
+//! What a whole input says: its header's cluster, and the events of the lines behind it.
 
-ghost use Rattle.std.specs.Prelude.{◌≡◌, IfOk, IfSome, IsTrue};
+ghost use Rattle.std.specs.Prelude.{◌≡◌, IfOk, IsTrue};
 ghost use Rattle.std.specs.List.{list_all};
-ghost use Rattle.std.specs.Option.{option_map};
 ghost use Rattle.cx_base.specs.Asked.{takes_event};
-ghost use Rattle.cx_replay.specs.Input.{one_of_each, input_of};
+ghost use Rattle.cx_cluster.specs.Reading.{header_cluster};
+ghost use Rattle.cx_script.specs.Lines.{schedule_of};
+ghost use Rattle.cx_replay.specs.Input.{ClusterIs, of_schedule, input_of};
 
 use cx_base::{Cluster, Event, NoMemory};
-use cx_script::{events, spelled_events_are_taken};
+use cx_cluster::{ClusterFault, read};
+use cx_script::{Schedule, read_schedule, spelled_events_are_taken, split_header};
 use std::alloc::Global;
+use std::marker::Model;
 
 /// The most bytes that an input of the form can have, with room to spare.
 pub const LIMIT: usize = 68_000_000;
 
-const HEADER: &str =
-    "f = 0\nleaders = 1\nproxies = 1\nacceptors = 1\nreplicas = 1\nbatchers = 1\nunbatchers = 1\nreaders = 1\nclients = 1\nbatch = 1\n---\n";
+/// A cluster, and events that the world takes.
+#[derive(Drop)]
+pub struct Input {
+    cluster: Cluster,
+    schedule: Schedule,
+}
 
-/// The cluster of that header: one role of each kind.
-pub fn one_of_each() -> Cluster
-    ensures { result ≡ one_of_each }
-{
-    Cluster {
-        f: 0,
-        leaders: 1,
-        proxies: 1,
-        acceptors: 1,
-        replicas: 1,
-        batchers: 1,
-        unbatchers: 1,
-        readers: 1,
-        clients: 1,
-        batch: 1,
-        base_port: None,
+impl Model for Input {
+    ghost use Rattle.std.specs.Prelude.{IsTrue};
+    ghost use Rattle.std.specs.List.{list_all};
+    ghost use Rattle.cx_base.specs.Asked.{takes_event};
+    ghost use Rattle.cx_replay.specs.Input.{Input as InputOf};
+
+    ghost Value = { InputOf };
+
+    ghost view = { λ i. record { cluster = i.cluster; events = i.schedule.events } };
+
+    ghost invariant = { λ i. IsTrue (list_all takes_event i.schedule.events) };
+}
+
+impl Input {
+    /// Its cluster.
+    pub fn cluster(&self) -> Cluster
+        ensures { result ≡ self.now.cluster }
+    {
+        self.cluster
+    }
+
+    /// Its events, in order.
+    pub fn events(&self) -> &[Event]
+        ensures events { result.now ≡ self.now.events }
+        ensures taken { IsTrue (list_all takes_event self.now.events) }
+    {
+        self.schedule.events()
     }
 }
 
-/// The events that an input spells, None exactly where it has another form.
-pub fn read_input(alloc: Global, bytes: &[u8]) -> Result<Option<Vec<Event>>, NoMemory>
-    ensures events { IfOk result (λ events. option_map (λ es. es.items) events ≡ input_of bytes.now) }
-    ensures taken { IfOk result (λ events. IfSome events (λ es. IsTrue (list_all takes_event es.items))) }
+// The cluster of a header's text, None where there is none.
+fn cluster_of(alloc: Global, header: &[u8]) -> Result<Option<Cluster>, NoMemory>
+    ensures { IfOk result (λ cluster. ClusterIs cluster (header_cluster header.now)) }
+{
+    match read(alloc, header) {
+        Ok(cluster) => Ok(Some(cluster)),
+        Err(ClusterFault::NoMemory) => Err(NoMemory),
+        Err(_) => Ok(None),
+    }
+}
+
+// The events of the lines behind a header with this cluster.
+fn input_behind(alloc: Global, cluster: Cluster, rest: &[u8]) -> Result<Option<Input>, NoMemory>
+    ensures { IfOk result (λ input. input ≡ of_schedule cluster (schedule_of cluster rest.now)) }
 {
     spelled_events_are_taken();
+    let schedule = read_schedule(alloc, &cluster, rest)?;
+    if schedule.bad().is_some() {
+        return Ok(None);
+    }
+    Ok(Some(Input { cluster, schedule }))
+}
+
+/// What an input says, None exactly where it has another form.
+pub fn read_input(alloc: Global, bytes: &[u8]) -> Result<Option<Input>, NoMemory>
+    ensures { IfOk result (λ input. input ≡ input_of bytes.now) }
+{
     if bytes.len() > LIMIT {
         return Ok(None);
     }
-    match bytes.strip_prefix(HEADER.as_bytes()) {
-        Some(rest) => events(alloc, rest),
-        None => Ok(None),
-    }
+    let Some((header, rest)) = split_header(alloc, bytes)? else {
+        return Ok(None);
+    };
+    let Some(cluster) = cluster_of(alloc, &header)? else {
+        return Ok(None);
+    };
+    input_behind(alloc, cluster, rest)
 }

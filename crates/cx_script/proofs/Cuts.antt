@@ -1,5 +1,5 @@
 -- The parts of a list round the first place where a test passes.
-use Rattle.std.proofs.Common.{◌≡◌, ℕ, ◌<◌, ◌+◌, Bool, true, false, List, [], ◌∷◌, take, drop, length, None, Some, refl, subst, if◌then◌else◌, nat_lt, arith}
+use Rattle.std.proofs.Common.{◌≡◌, ℕ, ◌<◌, ◌+◌, Bool, true, false, List, [], ◌∷◌, take, drop, get_or, length, None, Some, refl, subst, if◌then◌else◌, nat_lt, arith}
 use Rattle.std.specs.List.{slice_split, position, position_or_len}
 use Rattle.std.proofs.lemmas.Bool.Decides.{nat_tests}
 use Rattle.std.proofs.lemmas.List.Elements.{All-from_get_or}
@@ -21,11 +21,15 @@ below n m h = grind (arith, nat_tests)
 at_least : (n m i : ℕ) → nat_lt n m ≡ false → i < m → i < n
 at_least n m i h k = grind (arith, nat_tests)
 
-pub split_none : (p : ℕ → Bool) (xs : List ℕ) → position p xs ≡ None → slice_split p xs ≡ xs ∷ []
-split_none p xs h =
+-- where none passes, each fails
+pub none_passes : (p : ℕ → Bool) (xs : List ℕ) → position p xs ≡ None → (k : ℕ) → k < length xs → p (get_or xs k 0) ≡ false
+none_passes p xs h k l =
     let n = position_or_len p xs in
     let fails : nat_lt n (length xs) ≡ false = not_chosen (nat_lt n (length xs)) n h in
-    slice_split_none p xs (All-from_get_or (λ x. p x ≡ false) xs 0 (λ i k. fails_before_first p xs i 0 (at_least n (length xs) i fails k)))
+    fails_before_first p xs k 0 (at_least n (length xs) k fails l)
+
+pub split_none : (p : ℕ → Bool) (xs : List ℕ) → position p xs ≡ None → slice_split p xs ≡ xs ∷ []
+split_none p xs h = slice_split_none p xs (All-from_get_or (λ x. p x ≡ false) xs 0 (none_passes p xs h))
 
 pub split_some : (p : ℕ → Bool) (xs : List ℕ) (i : ℕ) → position p xs ≡ Some i → slice_split p xs ≡ take i xs ∷ slice_split p (drop (i + 1) xs)
 split_some p xs i h =

@@ -1,3 +1,8 @@
 pub mod Cuts
-pub mod LineLemmas
+pub mod Digits
+pub mod Generated
+pub mod Members
+pub mod Parts
+pub mod Schedules
+pub mod Splitting
 pub mod Takes

@@ -1,92 +1,138 @@
--- The world takes each event that words, lines and schedules spell.
-use Rattle.std.proofs.Common.{◌≡◌, ◌==◌, ◌&&◌, ℕ, Bool, true, false, List, [], ◌∷◌, length, Option, None, Some, option_and_then, IfSome, refl, subst, nat_le, if◌then◌else◌, codes}
+-- The world takes each event that a line or a schedule spells, and its names lie in the cluster.
+use Rattle.std.proofs.Common.{◌≡◌, ◌&&◌, ◌+◌, ℕ, Bool, true, false, nat_lt, List, [], ◌∷◌, length, codes, Option, None, Some, Result, Ok, Err, IfOk, IfSome, refl, subst, if◌then◌else◌}
 use Rattle.std.specs.List.{list_all}
-use Rattle.std.specs.Option.{option_map}
 use Rattle.std.specs.Str.{bytes_eq}
 use Rattle.cx_base.specs.Asked.{takes_event}
-use Rattle.cx_base.specs.declared.command.Op.TheVariants.{Put}
-use Rattle.cx_base.specs.declared.event.Cut.TheVariants.{Whole}
+use Rattle.cx_base.specs.declared.cluster.Cluster.{Cluster}
 use Rattle.cx_base.specs.declared.event.Event.{Event}
-use Rattle.cx_base.specs.declared.event.Event.TheVariants.{Write, Deliver, Order}
-use Rattle.cx_base.specs.declared.event.Order.TheVariants.{Lead}
-use Rattle.cx_base.specs.Grid.{make_grid}
-use Rattle.cx_base.specs.Name.{name_of}
-use Rattle.cx_script.specs.Words.{number_of, some_number, event_of, deliver_words, lead_words, put_words, write_words}
-use Rattle.cx_script.specs.Lines.{line_event, with_event, events_from, lines_of, line_count, leads_in, at_most_one_lead, events_of, words_of}
+use Rattle.cx_base.specs.declared.event.Event.TheVariants as event
+use Rattle.cx_base.specs.declared.event.Event.TheVariants.{Write, Read, Deliver, Tick, Crash, Restart}
+use Rattle.cx_base.specs.declared.event.Order.TheVariants.{Collect}
+use Rattle.cx_base.specs.declared.event.Cut.{Cut}
+use Rattle.cx_base.specs.declared.event.Cut.TheVariants.{Whole}
+use Rattle.cx_base.specs.Grid.{Shape}
+use Rattle.cx_base.specs.declared.role.Kind.TheVariants.{Client, Batcher, Leader, Replica, Reader}
+use Rattle.cx_script.specs.declared.fault.LineFault.{LineFault}
+use Rattle.cx_script.specs.declared.fault.LineFault.TheVariants.{Long}
+use Rattle.cx_script.specs.Grammar.{◌>>=◌, next, op_at, cut_at, grid_at, write_event, read_event, deliver_event, round_of, collect_event, server_of, event_of, is_comment, event_in, line_event}
+use Rattle.cx_script.specs.Lines.{Spelled, with_line, spelled_from, lines_of, schedule_of}
+use Rattle.cx_script.specs.Names.{names_event, names_members, names_server}
+use Rattle.cx_script.specs.Places.{seq_word, number_word, key_word, index_word, server_word}
+use Rattle.cx_script.specs.Words.{words_of}
+use Rattle.cx_script.proofs.Parts.{then_ok, either_ok, next_ok, ended_ok, whatever, seq_ok, index_ok, server_ok, grid_ok}
 
--- the world takes the event, if there is one
-abbrev Taken : Option Event → Type 0
-Taken o = IfSome o (λ e. takes_event e ≡ true)
+-- the world takes the event, and its names lie in the cluster
+pub record IsGood (c : Cluster) (e : Event) : Type 0 where
+  pub taken : takes_event e ≡ true
+  pub named : names_event c e ≡ true
 
--- the world takes the events, if there are any
-abbrev AllTaken : Option (List Event) → Type 0
-AllTaken o = IfSome o (λ es. list_all takes_event es ≡ true)
+all_three : (a b d : Bool) → a ≡ true → b ≡ true → d ≡ true → (a && b && d) ≡ true
+all_three a b d h k l = rw (h, k, l) refl
 
-if_some : {A : Type 0} (P : A → Type 0) (b : Bool) (o : Option A) → IfSome o P → IfSome (if b then o else None) P
-if_some P true o h = h
-if_some P false o h = tt
+write_ok : (c : Cluster) (words : List (List ℕ)) → IfOk (write_event c words) (IsGood c)
+unfolding write_event
+write_ok c words =
+    then_ok _ (IsGood c) (next (index_word c Client) words) _ (next_ok _ (index_word c Client) (index_ok c Client) words) (λ (client, words) h.
+    then_ok _ (IsGood c) (next seq_word words) _ (next_ok _ seq_word seq_ok words) (λ (seq, words) k.
+    then_ok _ (IsGood c) (next (index_word c Batcher) words) _ (next_ok _ (index_word c Batcher) (index_ok c Batcher) words) (λ (batcher, words) l.
+    then_ok _ (IsGood c) (op_at words) _ (whatever (op_at words)) (λ (op, words) m.
+    ended_ok (IsGood c) (Write (record { client = client; seq = seq; op = op }) batcher) words (record { taken = k; named = rw (h, l) refl })))))
 
-deliver_taken : (o : Option ℕ) → Taken (option_map (λ n. Deliver n Whole) o)
-deliver_taken None = tt
-deliver_taken (Some n) = refl
+read_ok : (c : Cluster) (words : List (List ℕ)) → IfOk (read_event c words) (IsGood c)
+unfolding read_event
+read_ok c words =
+    then_ok _ (IsGood c) (next (index_word c Client) words) _ (next_ok _ (index_word c Client) (index_ok c Client) words) (λ (client, words) h.
+    then_ok _ (IsGood c) (next seq_word words) _ (next_ok _ seq_word seq_ok words) (λ (seq, words) k.
+    then_ok _ (IsGood c) (next (index_word c Reader) words) _ (next_ok _ (index_word c Reader) (index_ok c Reader) words) (λ (reader, words) l.
+    then_ok _ (IsGood c) (next (index_word c Replica) words) _ (next_ok _ (index_word c Replica) (index_ok c Replica) words) (λ (replica, words) m.
+    then_ok _ (IsGood c) (next key_word words) _ (whatever (next key_word words)) (λ (key, words) n.
+    ended_ok (IsGood c) (Read client seq reader replica key) words (record { taken = k; named = rw (h, l, m) refl }))))))
 
-some_number_is : (b : Bool) (n : ℕ) → nat_le 1 n ≡ b → IfSome (if b then Some n else None) (λ m. nat_le 1 m ≡ true)
-some_number_is true n h = h
-some_number_is false n h = tt
+deliver_ok : (c : Cluster) (words : List (List ℕ)) → IfOk (deliver_event words) (IsGood c)
+unfolding deliver_event
+deliver_ok c words =
+    then_ok _ (IsGood c) (next number_word words) _ (whatever (next number_word words)) (λ (number, words) h.
+    then_ok _ (IsGood c) (cut_at words) _ (whatever (cut_at words)) (λ cut k. record { taken = refl; named = refl }))
 
-number_taken : (o : Option ℕ) → IfSome (option_and_then some_number o) (λ n. nat_le 1 n ≡ true)
-number_taken None = tt
-number_taken (Some n) = some_number_is (nat_le 1 n) n refl
+-- a leader and a grid of the cluster
+abbrev IsNamed : Cluster → ℕ × Shape × Cut → Type 0
+IsNamed c (leader, grid, cut) = (nat_lt leader c.leaders && names_members c grid) ≡ true
 
-put_taken : (seq : Option ℕ) (key text : Option (List ℕ)) → IfSome seq (λ n. nat_le 1 n ≡ true) →
-    Taken (option_and_then (λ n. option_and_then (λ k. option_map (λ t. Write (record { client = 0; seq = n; op = Put k t }) 0) text) key) seq)
-put_taken None key text h = tt
-put_taken (Some n) None text h = tt
-put_taken (Some n) (Some k) None h = tt
-put_taken (Some n) (Some k) (Some t) h = h
+round_ok : (c : Cluster) (words : List (List ℕ)) → IfOk (round_of c words) (IsNamed c)
+unfolding round_of
+round_ok c words =
+    then_ok _ (IsNamed c) (next (index_word c Leader) words) _ (next_ok _ (index_word c Leader) (index_ok c Leader) words) (λ (leader, words) h.
+    then_ok _ (IsNamed c) (grid_at c words) _ (grid_ok c words) (λ (grid, words) k.
+    then_ok _ (IsNamed c) (cut_at words) _ (whatever (cut_at words)) (λ cut l. rw (h, k) refl)))
 
-words_taken : (words : List (List ℕ)) → Taken (event_of words)
-unfolding deliver_words lead_words put_words write_words
-words_taken [] = tt
-words_taken (a ∷ []) = tt
-words_taken (a ∷ b ∷ []) = if_some (λ e. takes_event e ≡ true) (bytes_eq a (codes "deliver")) (option_map (λ n. Deliver n Whole) (number_of b)) (deliver_taken (number_of b))
-words_taken (a ∷ b ∷ c ∷ []) = tt
-words_taken (a ∷ b ∷ c ∷ d ∷ []) =
-    if_some (λ e. takes_event e ≡ true) (bytes_eq a (codes "lead") && bytes_eq b (codes "leader:0") && bytes_eq c (codes "1x1") && bytes_eq d (codes "0")) (Some (Order 0 (Lead (make_grid 1 1 (0 ∷ []))) Whole)) refl
-words_taken (a ∷ b ∷ c ∷ d ∷ e ∷ []) = tt
-words_taken (a ∷ b ∷ c ∷ d ∷ e ∷ f ∷ []) = tt
-words_taken (a ∷ b ∷ c ∷ d ∷ e ∷ f ∷ g ∷ []) =
-    if_some (λ e. takes_event e ≡ true) (bytes_eq a (codes "write") && bytes_eq b (codes "client:0") && bytes_eq d (codes "batcher:0") && bytes_eq e (codes "put")) (put_words c f g) (put_taken (option_and_then some_number (number_of c)) (name_of 32 f) (name_of 64 g) (number_taken (number_of c)))
-words_taken (a ∷ b ∷ c ∷ d ∷ e ∷ f ∷ g ∷ h ∷ more) = tt
+collect_ok : (c : Cluster) (words : List (List ℕ)) → IfOk (collect_event c words) (IsGood c)
+unfolding collect_event
+collect_ok c words =
+    then_ok _ (IsGood c) (next (index_word c Leader) words) _ (next_ok _ (index_word c Leader) (index_ok c Leader) words) (λ (leader, words) h.
+    ended_ok (IsGood c) (event.Order leader Collect Whole) words (record { taken = refl; named = rw h refl }))
 
-line_taken : (line : List ℕ) → Taken (line_event line)
+servers_ok : (c : Cluster) (words : List (List ℕ)) → IfOk (server_of c words) (λ role. names_server c role ≡ true)
+unfolding server_of
+servers_ok c words =
+    then_ok _ (λ role. names_server c role ≡ true) (next (server_word c) words) _ (next_ok _ (server_word c) (server_ok c) words) (λ (role, words) h.
+    ended_ok (λ r. names_server c r ≡ true) role words h)
+
+event_ok : (c : Cluster) (verb : List ℕ) (words : List (List ℕ)) → IfOk (event_of c verb words) (IsGood c)
+unfolding event_of
+event_ok c verb words =
+    let server = servers_ok c words in
+    let round = round_ok c words in
+    let or_else : (b : Bool) (r s : Result Event LineFault) → IfOk r (IsGood c) → IfOk s (IsGood c) → IfOk (if b then r else s) (IsGood c) = λ b r s. either_ok (IsGood c) b r s in
+    or_else (bytes_eq verb (codes "write")) _ _ (write_ok c words) (
+    or_else (bytes_eq verb (codes "read")) _ _ (read_ok c words) (
+    or_else (bytes_eq verb (codes "deliver")) _ _ (deliver_ok c words) (
+    or_else (bytes_eq verb (codes "tick")) _ _ (then_ok _ (IsGood c) (server_of c words) _ server (λ role h. record { taken = refl; named = h })) (
+    or_else (bytes_eq verb (codes "lead")) _ _ (then_ok _ (IsGood c) (round_of c words) _ round (λ (leader, grid, cut) h. record { taken = refl; named = h })) (
+    or_else (bytes_eq verb (codes "change")) _ _ (then_ok _ (IsGood c) (round_of c words) _ round (λ (leader, grid, cut) h. record { taken = refl; named = h })) (
+    or_else (bytes_eq verb (codes "collect")) _ _ (collect_ok c words) (
+    or_else (bytes_eq verb (codes "crash")) _ _ (then_ok _ (IsGood c) (server_of c words) _ server (λ role h. record { taken = refl; named = h })) (
+    or_else (bytes_eq verb (codes "restart")) _ _ (then_ok _ (IsGood c) (server_of c words) _ server (λ role h. record { taken = refl; named = h })) tt))))))))
+
+-- the event of a line, if it has one
+abbrev IsGoodLine : Cluster → Option Event → Type 0
+IsGoodLine c event = IfSome event (IsGood c)
+
+words_ok : (c : Cluster) (words : List (List ℕ)) → IfOk (event_in c words) (IsGoodLine c)
+words_ok c [] = tt
+words_ok c (verb ∷ words) =
+    either_ok (IsGoodLine c) (is_comment verb) (Ok None) (event_of c verb words >>= (λ event. Ok (Some event))) tt
+    (then_ok (IsGood c) (IsGoodLine c) (event_of c verb words) (λ event. Ok (Some event)) (event_ok c verb words) (λ event h. h))
+
+line_ok : (c : Cluster) (line : List ℕ) → IfOk (line_event c line) (IsGoodLine c)
 unfolding line_event
-line_taken line = if_some (λ e. takes_event e ≡ true) (nat_le (length line) 1024) (event_of (words_of line)) (words_taken (words_of line))
+line_ok c line = either_ok (IsGoodLine c) (nat_lt 1024 (length line)) (Err Long) (event_in c (words_of line)) tt (words_ok c (words_of line))
 
-with_taken : (o : Option Event) (later : Option (List Event)) → Taken o → AllTaken later → AllTaken (with_event o later)
-with_taken None later h k = tt
-with_taken (Some e) None h k = tt
-with_taken (Some e) (Some es) h k = rw h k
+pub spelled_is_good : (c : Cluster) (line : List ℕ) (event : Event) → line_event c line ≡ Ok (Some event) → IsGood c event
+spelled_is_good c line event is = subst (λ (r : Result (Option Event) LineFault). IfOk r (IsGoodLine c)) is (line_ok c line)
 
-end_taken : (b : Bool) (o : Option (List Event)) (a : Bool) → AllTaken o → AllTaken (if b then (if a then Some [] else None) else o)
-end_taken true o true h = refl
-end_taken true o false h = tt
-end_taken false o a h = h
+-- a test that each event of a line passes
+with_good : (test : Event → Bool) (n : ℕ) (r : Result (Option Event) LineFault) (later : Spelled) → IfOk r (λ o. IfSome o (λ e. test e ≡ true)) → list_all test later.events ≡ true → list_all test (with_line n r later).events ≡ true
+with_good test n (Err fault) later h rest = refl
+with_good test n (Ok None) later h rest = rest
+with_good test n (Ok (Some e)) later h rest = rw (h, rest) refl
 
-parts_taken : (parts : List (List ℕ)) → AllTaken (events_from parts)
-parts_taken [] = tt
-parts_taken (part ∷ parts) =
-    end_taken (length parts == 0) (with_event (line_event part) (events_from parts)) (length part == 0)
-    (with_taken (line_event part) (events_from parts) (line_taken part) (parts_taken parts))
+-- passes each event of a schedule
+where_good : (test : Event → Bool) (b : Bool) (n : ℕ) (later : Spelled) → list_all test later.events ≡ true → list_all test (if b then record { events = []; bad = Some n } else later).events ≡ true
+where_good test true n later h = refl
+where_good test false n later h = h
 
-one_lead_taken : (o : Option (List Event)) → AllTaken o → AllTaken (option_and_then at_most_one_lead o)
-one_lead_taken None h = tt
-one_lead_taken (Some es) h = if_some (λ es. list_all takes_event es ≡ true) (nat_le (leads_in es) 1) (Some es) h
+all_good : (c : Cluster) (test : Event → Bool) → ((line : List ℕ) → IfOk (line_event c line) (λ o. IfSome o (λ e. test e ≡ true))) → (n : ℕ) (lines : List (List ℕ)) → list_all test (spelled_from c n lines).events ≡ true
+all_good c test each n [] = refl
+all_good c test each n (line ∷ lines) =
+    where_good test (nat_lt 65535 n) n (with_line n (line_event c line) (spelled_from c (n + 1) lines))
+    (with_good test n (line_event c line) (spelled_from c (n + 1) lines) (each line) (all_good c test each (n + 1) lines))
 
-schedule_taken : (bytes : List ℕ) → AllTaken (events_of bytes)
-schedule_taken bytes =
-    if_some (λ es. list_all takes_event es ≡ true) (nat_le (line_count bytes) 65535) (option_and_then at_most_one_lead (events_from (lines_of bytes)))
-    (one_lead_taken (events_from (lines_of bytes)) (parts_taken (lines_of bytes)))
+-- a part of what is true of a line's event
+weaker : (c : Cluster) (test : Event → Bool) (r : Result (Option Event) LineFault) → ((e : Event) → IsGood c e → test e ≡ true) → IfOk r (IsGoodLine c) → IfOk r (λ o. IfSome o (λ e. test e ≡ true))
+weaker c test (Err fault) part h = tt
+weaker c test (Ok None) part h = tt
+weaker c test (Ok (Some e)) part h = part e h
 
-pub spelled_taken : (bytes : List ℕ) (es : List Event) → events_of bytes ≡ Some es → list_all takes_event es ≡ true
-spelled_taken bytes es h = subst AllTaken h (schedule_taken bytes)
+pub schedule_is_good : (c : Cluster) (test : Event → Bool) → ((e : Event) → IsGood c e → test e ≡ true) → (bytes : List ℕ) → list_all test (schedule_of c bytes).events ≡ true
+unfolding schedule_of
+schedule_is_good c test part bytes = all_good c test (λ line. weaker c test (line_event c line) part (line_ok c line)) 1 (lines_of bytes)

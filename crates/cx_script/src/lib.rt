@@ -1,13 +1,34 @@
-//! The events that a schedule's lines spell.
+//! What the bytes of a schedule say: the header's text, the events of the lines behind it, and generated events.
 //!
-//! The theorem: `events` gives exactly the events that the grammar says, or none where the bytes have another form. And
-//! each event that bytes spell is one that the world takes.
+//! The theorems: `line` answers for every cluster and every line what the grammar says, the event or the first fault from the
+//! left; `read_schedule` gives exactly the events up to the first bad line, and its number; `split_header` cuts exactly behind
+//! the line `---`; `Gen` makes exactly the events of its sequence. Each event that bytes spell and each generated one is one
+//! that the world takes, with its names in the cluster (`spelled_events_are_taken`, `generated_events_are_taken`).
+//!
+//! The bytes are given whole here. Where a source fails in the middle, its reader has only whole lines to go by: a line that
+//! isn't ended by a line feed is then no line, except that more than 1,024 bytes of it, or 16,384 in the header, are a fault
+//! by themselves. So that reader calls `line` for each whole line in turn, which is what `read_schedule` says of the bytes up
+//! to the last line feed.
 #![tactic(auto)]
 
-mod cut;
+mod blank;
+mod count;
+mod event;
+mod fault;
+mod generator;
+mod grid;
+mod header;
+mod law;
 mod lines;
+mod number;
+mod place;
 #[cfg(test)]
 mod tests;
 mod words;
 
-pub use lines::{MAX_LINE_LENGTH, MAX_LINES, events, spelled_events_are_taken};
+pub use event::{MAX_LINE_LENGTH, line};
+pub use fault::LineFault;
+pub use generator::{Gen, gen_cluster};
+pub use header::{MAX_HEADER_LENGTH, split_header};
+pub use law::{generated_events_are_taken, spelled_events_are_taken};
+pub use lines::{MAX_LINES, Schedule, read_schedule};

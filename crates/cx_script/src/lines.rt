@@ -1,93 +1,103 @@
-//! The events of all lines.
+//! The lines behind a header, and their events.
 
-ghost use Rattle.std.specs.Prelude.{◌≡◌, ◌==◌, List, Some, true, IfOk, ℕ, option_and_then};
-ghost use Rattle.std.specs.List.{list_all};
-ghost use Rattle.std.specs.Option.{option_map};
-ghost use Rattle.cx_base.specs.Asked.{takes_event};
-ghost use Rattle.cx_base.specs.declared.event.Event.{Event};
-ghost use Rattle.cx_script.specs.Lines.{line_event, line_count, lines_of, leads_in, is_lead, at_most_one_lead, events_from, events_of};
+ghost use Rattle.std.specs.Prelude.{◌≡◌, ◌∷◌, ◌++◌, ◌<◌, [], length, IfOk, IfNone, IfSome, OnOk, option_to_list};
+ghost use Rattle.std.specs.Str.Lines.{strip_carriage_return};
+ghost use Rattle.cx_script.specs.Lines.{lines_of, schedule_of};
 
-use crate::cut::cut;
-use crate::words::event;
-use cx_base::{Event, NoMemory, Order};
+use crate::blank::{first_part, or_empty};
+use crate::event::line;
+use cx_base::{Cluster, Event, NoMemory};
 use std::alloc::Global;
+use std::marker::Model;
 
-/// The greatest length of a line, in bytes without its line feed.
-pub const MAX_LINE_LENGTH: usize = 1024;
-
-/// The greatest number of lines.
-pub const MAX_LINES: usize = 65535;
+/// The greatest number of lines behind the header.
+pub const MAX_LINES: u64 = 65535;
 
 const LINE_FEED: u8 = b'\n';
 
-#[tactic(auto, unfolding(crate::specs::Lines::line_event))]
-fn line_event(line: &[u8]) -> Option<Event>
-    ensures { result ≡ line_event line.now }
+/// What was read of a schedule: the events up to the first bad line and its number, or all events.
+#[derive(Debug, Drop)]
+pub struct Schedule {
+    events: Vec<Event>,
+    bad: Option<u64>,
+}
+
+impl Model for Schedule {
+    ghost use Rattle.cx_script.specs.Lines.{Spelled};
+
+    ghost Value = { Spelled };
+
+    ghost view = { λ schedule. record { events = schedule.events.items; bad = schedule.bad } };
+}
+
+impl Schedule {
+    /// The events, in the order of their lines.
+    pub fn events(&self) -> &[Event]
+        ensures { result.now ≡ self.now.events }
+    {
+        &self.events
+    }
+
+    /// The first bad line, counted from 1; None where all lines are events, comments or blank.
+    pub fn bad(&self) -> Option<u64>
+        ensures { result ≡ self.now.bad }
+    {
+        self.bad
+    }
+}
+
+/// A part without one carriage return at its end.
+pub fn without_return(part: &[u8]) -> &[u8]
+    ensures { result.now ≡ strip_carriage_return part.now }
 {
-    if line.len() > MAX_LINE_LENGTH {
+    match part {
+        [line @ .., b'\r'] => line,
+        _ => part,
+    }
+}
+
+/// The first line of what is left, and what stands behind it, or None at the end.
+fn first_line(bytes: &[u8]) -> Option<(&[u8], &[u8])>
+    ensures none { IfNone result (lines_of bytes.now ≡ []) }
+    ensures some { IfSome result (λ p. lines_of bytes.now ≡ p.0.now ∷ lines_of p.1.now) }
+    ensures shorter { IfSome result (λ p. length p.1.now < length bytes.now) }
+{
+    if bytes.is_empty() {
         return None;
     }
-    event(line)
+    let (part, behind) = first_part(bytes, LINE_FEED);
+    Some((without_return(part), or_empty(behind)))
 }
 
-fn line_count(bytes: &[u8]) -> usize
-    ensures { result ≡ line_count bytes.now }
+fn keep<T: Copy + Drop>(list: &mut Vec<T>, value: &Option<T>) -> Result<(), NoMemory>
+    ensures { OnOk result (list.new.items ≡ list.old.items ++ option_to_list value.now) }
 {
-    bytes.iter().filter(|byte| **byte == LINE_FEED).count()
+    if let Some(value) = value {
+        list.push(*value)?;
+    }
+    Ok(())
 }
 
-fn is_lead(event: &Event) -> bool
-    ensures { result ≡ is_lead event.now }
-{
-    matches!(
-        event,
-        Event::Order {
-            order: Order::Lead(_),
-            ..
-        }
-    )
-}
-
-fn leads_in(events: &[Event]) -> usize
-    ensures { result ≡ leads_in events.now }
-{
-    events.iter().filter(|event| is_lead(event)).count()
-}
-
-fn events_of_lines(alloc: Global, bytes: &[u8]) -> Result<Option<Vec<Event>>, NoMemory>
-    ensures { IfOk result (λ events. option_map (λ es. es.items) events ≡ option_and_then at_most_one_lead (events_from (lines_of bytes.now))) }
+/// What the bytes behind a header spell. A line ends with a line feed, which the last may lack, and loses one carriage return
+/// at its end. Lines count from 1, comments and blank ones too, and the 65,536th is bad.
+#[tactic(auto, unfolding(crate::specs::Lines::schedule_of))]
+pub fn read_schedule(alloc: Global, cluster: &Cluster, bytes: &[u8]) -> Result<Schedule, NoMemory>
+    ensures { IfOk result (λ schedule. schedule ≡ schedule_of cluster.now bytes.now) }
 {
     let mut events = Vec::new(alloc);
     let mut rest = bytes;
-    while let Some((line, after)) = cut(rest, LINE_FEED) {
-        let Some(event) = line_event(line) else {
-            return Ok(None);
+    let mut number = 0;
+    while let Some((text, behind)) = first_line(rest) {
+        number += 1;
+        let bad = Some(number);
+        if number > MAX_LINES {
+            return Ok(Schedule { events, bad });
+        }
+        let Ok(event) = line(cluster, text) else {
+            return Ok(Schedule { events, bad });
         };
-        events.push(event)?;
-        rest = after;
+        keep(&mut events, &event)?;
+        rest = behind;
     }
-    if !rest.is_empty() || leads_in(&events) > 1 {
-        return Ok(None);
-    }
-    Ok(Some(events))
+    Ok(Schedule { events, bad: None })
 }
-
-/// The events that the bytes spell, one a line, in their order, or None where they have another form.
-///
-/// A line has at most 1,024 bytes and then a line feed, its words are parted by one space each, and it is one of
-/// `lead leader:0 1x1 0`, `write client:0 SEQ batcher:0 put K V` and `deliver N`: SEQ is from 1 to 2^64 - 1 and N from 0 to
-/// 2^64 - 1, in decimal digits, K is a key and V a text. There are at most 65,535 lines, and at most one of them is a lead
-/// (this project's own form).
-pub fn events(alloc: Global, bytes: &[u8]) -> Result<Option<Vec<Event>>, NoMemory>
-    ensures { IfOk result (λ events. option_map (λ es. es.items) events ≡ events_of bytes.now) }
-{
-    if line_count(bytes) > MAX_LINES {
-        return Ok(None);
-    }
-    events_of_lines(alloc, bytes)
-}
-
-/// A law, whatever the bytes: each event that they spell is one that the world takes.
-pub fn spelled_events_are_taken()
-    ensures { (bytes : List ℕ) (es : List Event) → events_of bytes ≡ Some es → list_all takes_event es ≡ true }
-{}

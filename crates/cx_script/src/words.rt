@@ -1,128 +1,143 @@
-//! The event that the words of a line spell.
+//! The words of a line, read from left to right.
 
-ghost use Rattle.std.specs.Prelude.{◌≡◌, ◌&&◌, option_and_then};
-ghost use Rattle.std.specs.Str.{bytes_eq};
-ghost use Rattle.cx_script.specs.Lines.{words_of};
-ghost use Rattle.cx_script.specs.Words.{number_of, some_number, event_of, deliver_words, lead_words, put_words, write_words};
+ghost use Rattle.std.specs.Prelude.{◌≡◌, ◌∷◌, [], MatchResult};
+ghost use Rattle.cx_script.specs.declared.fault.LineFault.TheVariants.{Word};
+ghost use Rattle.cx_script.specs.Grammar.{next, grid_at, op_at, ended, cut_at};
+ghost use Rattle.cx_script.specs.Places.{seq_word, number_word, key_word, text_word, index_word, server_word};
+ghost use Rattle.cx_script.specs.Reading.{Reads};
 
-use crate::cut::cut;
-use cx_base::{Command, Cut, Event, Grid, Key, Op, Order, Text};
+use crate::blank::first_word;
+use crate::fault::LineFault;
+use crate::grid::{members_word, sides_word};
+use crate::place::{index_word, is, key_word, number_word, seq_word, server_word, text_word};
+use cx_base::{Cluster, Cut, Grid, Key, Kind, Op, RoleId, Text};
+use std::marker::Model;
 
-const SPACE: u8 = b' ';
+/// The words of a line that are not read yet.
+#[derive(Drop)]
+pub struct Words<'a> {
+    line: &'a [u8],
+}
 
-/// The number that these digits spell, or None where there is none, one is no digit, or the number has more than 64 bits.
-fn number(word: &[u8]) -> Option<u64>
-    ensures { result ≡ number_of word.now }
-{
-    if word.is_empty() {
-        return None;
+impl<'a> Model for Words<'a> {
+    ghost use Rattle.std.specs.Prelude.{ℕ, List};
+    ghost use Rattle.cx_script.specs.Words.{words_of};
+
+    ghost Value = { List (List ℕ) };
+
+    ghost view = { λ words. words_of words.line.now };
+}
+
+impl<'a> Words<'a> {
+    ghost use Rattle.cx_script.specs.Words.{words_of};
+
+    /// The words of a line.
+    pub fn new(line: &'a [u8]) -> Self
+        ensures { result ≡ words_of line.now }
+    {
+        Words { line }
     }
-    let mut number: u64 = 0;
-    for byte in word {
-        if !byte.is_ascii_digit() {
-            return None;
+
+    /// The next word.
+    pub fn next(&mut self) -> Result<&'a [u8], LineFault>
+        ensures { MatchResult result (λ word. self.old ≡ word.now ∷ self.new) (λ fault. (self.old ≡ []) × (fault ≡ Word)) }
+    {
+        let (word, rest) = first_word(self.line).ok_or(LineFault::Word)?;
+        self.line = rest;
+        Ok(word)
+    }
+
+    /// A request's number.
+    pub fn seq(&mut self) -> Result<u64, LineFault>
+        ensures { Reads result self.new (next seq_word self.old) }
+    {
+        seq_word(self.next()?)
+    }
+
+    /// Any number.
+    pub fn number(&mut self) -> Result<u64, LineFault>
+        ensures { Reads result self.new (next number_word self.old) }
+    {
+        number_word(self.next()?)
+    }
+
+    /// A key.
+    pub fn key(&mut self) -> Result<Key, LineFault>
+        ensures { Reads result self.new (next key_word self.old) }
+    {
+        key_word(self.next()?)
+    }
+
+    /// A text.
+    pub fn text(&mut self) -> Result<Text, LineFault>
+        ensures { Reads result self.new (next text_word self.old) }
+    {
+        text_word(self.next()?)
+    }
+
+    /// The index of a role of this kind.
+    pub fn index(&mut self, cluster: &Cluster, kind: Kind) -> Result<u16, LineFault>
+        ensures { Reads result self.new (next (index_word cluster.now kind) self.old) }
+    {
+        index_word(cluster, kind, self.next()?)
+    }
+
+    /// Any role but a client.
+    pub fn server(&mut self, cluster: &Cluster) -> Result<RoleId, LineFault>
+        ensures { Reads result self.new (next (server_word cluster.now) self.old) }
+    {
+        server_word(cluster, self.next()?)
+    }
+
+    /// A grid of acceptors.
+    pub fn grid(&mut self, cluster: &Cluster) -> Result<Grid, LineFault>
+        ensures { Reads result self.new (grid_at cluster.now self.old) }
+    {
+        let (rows, cols) = sides_word(self.next()?)?;
+        members_word(cluster, rows, cols, self.next()?)
+    }
+
+    /// What to do: `put K T`, `del K` or `app K T`.
+    pub fn op(&mut self) -> Result<Op, LineFault>
+        ensures { Reads result self.new (op_at self.old) }
+    {
+        let verb = self.next()?;
+        if is(verb, "put") {
+            Ok(Op::Put(self.key()?, self.text()?))
+        } else if is(verb, "del") {
+            Ok(Op::Del(self.key()?))
+        } else if is(verb, "app") {
+            Ok(Op::App(self.key()?, self.text()?))
+        } else {
+            Err(LineFault::Word)
         }
-        number = number
-            .checked_mul(10)?
-            .checked_add(u64::from(*byte - b'0'))?;
     }
-    Some(number)
-}
 
-fn request_number(word: &[u8]) -> Option<u64>
-    ensures { result ≡ option_and_then some_number (number_of word.now) }
-{
-    let number = number(word)?;
-    if number >= 1 { Some(number) } else { None }
-}
-
-fn is(word: &[u8], text: &str) -> bool
-    ensures { result ≡ bytes_eq word.now text.now }
-{
-    word == text.as_bytes()
-}
-
-#[tactic(auto, unfolding(crate::specs::Words::deliver_words))]
-fn deliver(verb: &[u8], word: &[u8]) -> Option<Event>
-    ensures { result ≡ deliver_words verb.now word.now }
-{
-    if !is(verb, "deliver") {
-        return None;
+    /// The end of the line.
+    pub fn end(self) -> Result<(), LineFault>
+        ensures { result ≡ ended tt self.entry }
+    {
+        match first_word(self.line) {
+            Some(_) => Err(LineFault::Word),
+            None => Ok(()),
+        }
     }
-    let number = number(word)?;
-    Some(Event::Deliver {
-        number,
-        cut: Cut::Whole,
-    })
-}
 
-#[tactic(auto, unfolding(crate::specs::Words::lead_words))]
-fn lead(verb: &[u8], leader: &[u8], sides: &[u8], members: &[u8]) -> Option<Event>
-    ensures { result ≡ lead_words verb.now leader.now sides.now members.now }
-{
-    if is(verb, "lead") && is(leader, "leader:0") && is(sides, "1x1") && is(members, "0") {
-        Some(Event::Order {
-            leader: 0,
-            order: Order::Lead(Grid::from_parts(1, 1, &[0])),
-            cut: Cut::Whole,
-        })
-    } else {
-        None
+    /// The end of the line, before which a word may stand: `torn` or `kept`.
+    pub fn cut(self) -> Result<Cut, LineFault>
+        ensures { result ≡ cut_at self.entry }
+    {
+        let Some((word, rest)) = first_word(self.line) else {
+            return Ok(Cut::Whole);
+        };
+        let cut = if is(word, "torn") {
+            Cut::Torn
+        } else if is(word, "kept") {
+            Cut::Kept
+        } else {
+            return Err(LineFault::Word);
+        };
+        Words::new(rest).end()?;
+        Ok(cut)
     }
-}
-
-#[tactic(auto, unfolding(crate::specs::Words::put_words))]
-fn put(seq: &[u8], key: &[u8], text: &[u8]) -> Option<Event>
-    ensures { result ≡ put_words seq.now key.now text.now }
-{
-    let seq = request_number(seq)?;
-    let key = Key::from_bytes(key)?;
-    let text = Text::from_bytes(text)?;
-    Some(Event::Write {
-        command: Command {
-            client: 0,
-            seq,
-            op: Op::Put(key, text),
-        },
-        batcher: 0,
-    })
-}
-
-#[tactic(auto, unfolding(crate::specs::Words::write_words))]
-fn write(
-    verb: &[u8],
-    client: &[u8],
-    seq: &[u8],
-    batcher: &[u8],
-    op: &[u8],
-    key: &[u8],
-    text: &[u8],
-) -> Option<Event>
-    ensures { result ≡ write_words verb.now client.now seq.now batcher.now op.now key.now text.now }
-{
-    if is(verb, "write") && is(client, "client:0") && is(batcher, "batcher:0") && is(op, "put") {
-        put(seq, key, text)
-    } else {
-        None
-    }
-}
-
-/// The event that the words of a line spell.
-pub fn event(line: &[u8]) -> Option<Event>
-    ensures { result ≡ event_of (words_of line.now) }
-{
-    let (verb, rest) = cut(line, SPACE)?;
-    let Some((first, rest)) = cut(rest, SPACE) else {
-        return deliver(verb, rest);
-    };
-    let (second, rest) = cut(rest, SPACE)?;
-    let Some((third, rest)) = cut(rest, SPACE) else {
-        return lead(verb, first, second, rest);
-    };
-    let (op, rest) = cut(rest, SPACE)?;
-    let (key, text) = cut(rest, SPACE)?;
-    if let Some((_text, _more)) = cut(text, SPACE) {
-        return None;
-    }
-    write(verb, first, second, third, op, key, text)
 }

@@ -13,10 +13,10 @@ world_of s = s.world
 pub loop-event-init : goal.loop-event-init
 unfolding output
 loop-event-init g c =
-    let e : c.in-Ok.world.world ≡ start c.one_of_each.result = ap world_of c.in-Ok.ensures in
+    let e : c.in-Ok.world.world ≡ start c.args.cluster = ap world_of c.in-Ok.ensures in
     record {
       running = search rules;
-      on_track = rw (e, c.one_of_each.ensures) (begins_on_track (g.W.Sink.taken c.args.out.now) (output c.args.events.now));
+      on_track = rw e (begins_on_track (g.W.Sink.taken c.args.out.now) (output (record { cluster = c.args.cluster; events = c.args.events.now })));
       still = refl;
     }
 

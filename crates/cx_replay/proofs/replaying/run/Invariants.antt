@@ -6,6 +6,6 @@ use Rattle.cx_replay.proofs.replaying.run.Given as goal
 abbrev pub invariant-loop-event : goal.invariant-loop-event
 invariant-loop-event g l = record {
   running : l.world.spent ≡ false;
-  on_track : OnTrack (g.W.Sink.taken l.fn.out) (g.W.Sink.taken l.out) (output l.events) (rest_of l.world.world (drop l.event-index l.events));
+  on_track : OnTrack (g.W.Sink.taken l.fn.out) (g.W.Sink.taken l.out) (output (record { cluster = l.fn.cluster; events = l.events })) (rest_of l.world.world (drop l.event-index l.events));
   still : g.W.Sink.faults l.out ≡ g.W.Sink.faults l.fn.out;
 }

@@ -1,0 +1,25 @@
+-- The keys of a header.
+use Rattle.std.specs.Prelude.{ℕ, List, Bool, codes}
+use Rattle.std.specs.List.{list_any}
+use Rattle.std.specs.Str.{bytes_eq}
+use Rattle.cx_cluster.specs.declared.key.ClusterKey.{ClusterKey}
+use Rattle.cx_cluster.specs.declared.key.ClusterKey.TheVariants.{F, Leaders, Proxies, Acceptors, Replicas, Batchers, Unbatchers, Readers, Clients, Batch, BasePort}
+use Rattle.cx_cluster.specs.declared.key.TheConstants.{KEYS}
+
+-- how a key is written
+abbrev pub key_name : ClusterKey → List ℕ
+key_name F = codes "f"
+key_name Leaders = codes "leaders"
+key_name Proxies = codes "proxies"
+key_name Acceptors = codes "acceptors"
+key_name Replicas = codes "replicas"
+key_name Batchers = codes "batchers"
+key_name Unbatchers = codes "unbatchers"
+key_name Readers = codes "readers"
+key_name Clients = codes "clients"
+key_name Batch = codes "batch"
+key_name BasePort = codes "base_port"
+
+-- whether a text is a key of a header
+abbrev pub is_key : List ℕ → Bool
+is_key text = list_any (λ key. bytes_eq (key_name key) text) KEYS

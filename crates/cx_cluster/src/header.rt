@@ -1,0 +1,134 @@
+//! Reading a header.
+
+ghost use Rattle.std.specs.Prelude.{◌≡◌, ◌≢◌, option_map, string_bytes, find, not, IfOk, IfErr, Ok, Err};
+ghost use Rattle.std.specs.Option.{option_copied};
+ghost use Rattle.std.specs.BTreeMap.{keys, IsOrdered};
+ghost use Rattle.std.specs.String.{string_cmp};
+ghost use Rattle.cx_cluster.specs.Reading.{IsNumber, ranged, number_of, number_at, port_of, port_at, cluster_at, header_cluster};
+ghost use Rattle.cx_cluster.specs.declared.fault.ClusterFault.TheVariants.{NoMemory, Unknown};
+ghost use Rattle.cx_cluster.specs.Keys.{key_name, is_key};
+ghost use Rattle.toml.specs.Data.{get_member};
+ghost use Rattle.toml.specs.View.{table_view, view};
+
+use crate::fault::{ClusterFault, UnknownKey};
+use crate::key::{ClusterKey, is_key};
+use cx_base::Cluster;
+use std::alloc::Global;
+use toml::{Table, Value};
+
+/// A number, where it is from `low` to `high`.
+fn number_within(key: ClusterKey, number: i64, low: u16, high: u16) -> Result<u16, ClusterFault>
+    ensures { IsNumber result (ranged key low high number) }
+{
+    match u16::try_from(number) {
+        Ok(small) if low <= small && small <= high => Ok(small),
+        _ => Err(ClusterFault::Range(key, number)),
+    }
+}
+
+/// The value under a key.
+fn member(table: &Table, key: ClusterKey) -> Option<&Value>
+    ensures { option_map (λ value. view value.now) result ≡ get_member (key_name key) (table_view table.now) }
+{
+    table.get(key.name())
+}
+
+/// A value as a number from `low` to `high`.
+fn number_of(key: ClusterKey, value: &Value, low: u16, high: u16) -> Result<u16, ClusterFault>
+    ensures { IsNumber result (number_of key low high (view value.now)) }
+{
+    match value.as_integer() {
+        Some(number) => number_within(key, number, low, high),
+        None => Err(ClusterFault::NotNumber(key)),
+    }
+}
+
+/// The number under a key, from `low` to `high`.
+fn number(table: &Table, key: ClusterKey, low: u16, high: u16) -> Result<u16, ClusterFault>
+    ensures { IsNumber result (number_at (table_view table.now) key low high) }
+{
+    match member(table, key) {
+        Some(value) => number_of(key, value, low, high),
+        None => Err(ClusterFault::Missing(key)),
+    }
+}
+
+/// The port, which may be left out.
+fn port(table: &Table) -> Result<Option<u16>, ClusterFault>
+    ensures { result ≡ port_at (table_view table.now) }
+{
+    match member(table, ClusterKey::BasePort) {
+        Some(value) => Ok(Some(number_of(ClusterKey::BasePort, value, 1024, 60000)?)),
+        None => Ok(None),
+    }
+}
+
+/// The cluster of a table, or the fault of the first key that has one.
+#[tactic(auto, unfolding(crate::specs::Reading::cluster_at))]
+fn cluster_of(table: &Table) -> Result<Cluster, ClusterFault>
+    ensures { result ≡ cluster_at (table_view table.now) }
+{
+    let f = number(table, ClusterKey::F, 0, 3)?;
+    let leaders = number(table, ClusterKey::Leaders, 1, 8)?;
+    let proxies = number(table, ClusterKey::Proxies, 1, 16)?;
+    let acceptors = number(table, ClusterKey::Acceptors, 1, 64)?;
+    let replicas = number(table, ClusterKey::Replicas, f + 1, 8)?;
+    let batchers = number(table, ClusterKey::Batchers, 1, 8)?;
+    let unbatchers = number(table, ClusterKey::Unbatchers, 1, 8)?;
+    let readers = number(table, ClusterKey::Readers, 1, 8)?;
+    let clients = number(table, ClusterKey::Clients, 1, 64)?;
+    let batch = number(table, ClusterKey::Batch, 1, 8)?;
+    let base_port = port(table)?;
+    Ok(Cluster {
+        f: f as u8,
+        leaders,
+        proxies,
+        acceptors,
+        replicas,
+        batchers,
+        unbatchers,
+        readers,
+        clients,
+        batch: batch as u8,
+        base_port,
+    })
+}
+
+/// The first key of a table that no header has. The keys of a table ascend.
+fn first_unknown(table: &Table) -> Option<&String>
+    ensures found { option_copied result ≡ find (λ key. not (is_key (string_bytes key))) (keys table.now) }
+    ensures ordered { IsOrdered string_cmp table.now }
+{
+    table.keys().find(|key| !is_key(key.as_str()))
+}
+
+fn unknown(alloc: Global, key: &str) -> ClusterFault
+    ensures { result ≢ NoMemory → result ≡ Unknown key.now }
+{
+    match String::from_str(alloc, key) {
+        Ok(text) => ClusterFault::Unknown(UnknownKey::from_text(text)),
+        Err(_) => ClusterFault::NoMemory,
+    }
+}
+
+/// The cluster that a header says, or the first fault, in this order: the bytes are no TOML document; a key that no header
+/// has, the least in byte order; then for each key in the order of `ClusterKey`, that it is missing (the port may be), no
+/// whole number, or outside its range.
+///
+/// The ranges: `f` 0 to 3, `leaders` 1 to 8, `proxies` 1 to 16, `acceptors` 1 to 64, `replicas` f + 1 to 8, `batchers`,
+/// `unbatchers` and `readers` 1 to 8, `clients` 1 to 64, `batch` 1 to 8, `base_port` 1024 to 60000 (this project's own
+/// form; TOML is that of the crate `toml`).
+pub fn read(alloc: Global, bytes: &[u8]) -> Result<Cluster, ClusterFault>
+    ensures cluster { IfOk result (λ cluster. header_cluster bytes.now ≡ Ok cluster) }
+    ensures fault { IfErr result (λ fault. fault ≢ NoMemory → header_cluster bytes.now ≡ Err fault) }
+{
+    let table = match toml::table_from_slice(alloc, bytes) {
+        Ok(table) => table,
+        Err(fault) if fault.is_memory() => return Err(ClusterFault::NoMemory),
+        Err(_) => return Err(ClusterFault::Toml),
+    };
+    if let Some(key) = first_unknown(&table) {
+        return Err(unknown(alloc, key.as_str()));
+    }
+    cluster_of(&table)
+}

@@ -1,0 +1,69 @@
+//! The keys of a header.
+
+ghost use Rattle.std.specs.Prelude.{◌≡◌};
+ghost use Rattle.cx_cluster.specs.Keys.{key_name, is_key};
+
+/// A key of the header: a count of a cluster, or the port of its first role.
+#[derive(Clone, Copy, Debug, PartialEq, Eq)]
+pub enum ClusterKey {
+    F,
+    Leaders,
+    Proxies,
+    Acceptors,
+    Replicas,
+    Batchers,
+    Unbatchers,
+    Readers,
+    Clients,
+    Batch,
+    BasePort,
+}
+
+/// The keys, in the order in which their faults are told.
+const KEYS: [ClusterKey; 11] = [
+    ClusterKey::F,
+    ClusterKey::Leaders,
+    ClusterKey::Proxies,
+    ClusterKey::Acceptors,
+    ClusterKey::Replicas,
+    ClusterKey::Batchers,
+    ClusterKey::Unbatchers,
+    ClusterKey::Readers,
+    ClusterKey::Clients,
+    ClusterKey::Batch,
+    ClusterKey::BasePort,
+];
+
+impl ClusterKey {
+    /// How it is written. It takes no memory.
+    pub fn name(self) -> &'static str
+        ensures { result.now ≡ key_name self }
+    {
+        match self {
+            ClusterKey::F => "f",
+            ClusterKey::Leaders => "leaders",
+            ClusterKey::Proxies => "proxies",
+            ClusterKey::Acceptors => "acceptors",
+            ClusterKey::Replicas => "replicas",
+            ClusterKey::Batchers => "batchers",
+            ClusterKey::Unbatchers => "unbatchers",
+            ClusterKey::Readers => "readers",
+            ClusterKey::Clients => "clients",
+            ClusterKey::Batch => "batch",
+            ClusterKey::BasePort => "base_port",
+        }
+    }
+}
+
+impl std::fmt::Display for ClusterKey {
+    fn fmt<W: std::fmt::Write>(&self, f: &mut std::fmt::Formatter<W>) -> std::fmt::Result {
+        f.write_str(self.name())
+    }
+}
+
+/// Whether a text is a key of a header.
+pub fn is_key(text: &str) -> bool
+    ensures { result ≡ is_key text.now }
+{
+    KEYS.iter().any(|key| key.name() == text)
+}

@@ -1,0 +1,25 @@
+-- The text of a header, and the bytes behind it.
+use Rattle.std.specs.Prelude.{ℕ, Bool, ◌==◌, nat_le, List, [], ◌∷◌, ◌++◌, length, codes, Option, None, Some, option_map, option_and_then, if◌then◌else◌}
+use Rattle.std.specs.List.{slice_split, join_with_byte}
+use Rattle.std.specs.Str.{bytes_eq}
+use Rattle.std.specs.Str.Lines.{strip_carriage_return}
+
+-- the line that ends a header
+abbrev pub is_rule : List ℕ → Bool
+is_rule line = bytes_eq line (codes "---")
+
+-- the lines up to that one, each with a line feed at its end, and the parts behind it
+abbrev pub header_in : List (List ℕ) → Option (List ℕ × List (List ℕ))
+header_in [] = None
+header_in (part ∷ parts) =
+    if is_rule (strip_carriage_return part)
+    then Some ([], parts)
+    else option_map (λ (header, behind). ((strip_carriage_return part ++ 10 ∷ []) ++ header, behind)) (header_in parts)
+
+-- a header of at most 16,384 bytes, and the bytes behind
+abbrev pub of_length : List ℕ × List (List ℕ) → Option (List ℕ × List ℕ)
+of_length (header, behind) = if nat_le (length header) 16384 then Some (header, join_with_byte 10 behind) else None
+
+-- the header's text and the bytes behind it, none where there is no such line or the header is longer
+unfoldable pub header_of : List ℕ → Option (List ℕ × List ℕ)
+header_of bytes = option_and_then of_length (header_in (slice_split (λ b. b == 10) bytes))

@@ -1,0 +1,59 @@
+-- Which roles a cluster has, and which names of an event lie in it.
+use Rattle.std.specs.Prelude.{ℕ, ◌+◌, ◌*◌, Bool, true, false, ◌&&◌, not, nat_lt}
+use Rattle.std.specs.List.{list_all}
+use Rattle.cx_base.specs.declared.cluster.Cluster.{Cluster}
+use Rattle.cx_base.specs.declared.event.Event.{Event}
+use Rattle.cx_base.specs.declared.event.Event.TheVariants as event
+use Rattle.cx_base.specs.declared.event.Event.TheVariants.{Write, Read, Deliver, Tick, Crash, Restart}
+use Rattle.cx_base.specs.declared.event.Order.{Order}
+use Rattle.cx_base.specs.declared.event.Order.TheVariants.{Lead, Change, Collect}
+use Rattle.cx_base.specs.declared.role.Kind.{Kind}
+use Rattle.cx_base.specs.declared.role.Kind.TheVariants.{Client, Batcher, Leader, Proxy, Acceptor, Matchmaker, Replica, Unbatcher, Reader}
+use Rattle.cx_base.specs.declared.role.RoleId.{RoleId}
+use Rattle.cx_base.specs.Grid.{Shape}
+
+-- how many roles of a kind there are
+abbrev pub count_of : Cluster → Kind → ℕ
+count_of c Client = c.clients
+count_of c Batcher = c.batchers
+count_of c Leader = c.leaders
+count_of c Proxy = c.proxies
+count_of c Acceptor = c.acceptors
+count_of c Matchmaker = 2 * c.f + 1
+count_of c Replica = c.replicas
+count_of c Unbatcher = c.unbatchers
+count_of c Reader = c.readers
+
+abbrev pub is_client : Kind → Bool
+is_client Client = true
+is_client Batcher = false
+is_client Leader = false
+is_client Proxy = false
+is_client Acceptor = false
+is_client Matchmaker = false
+is_client Replica = false
+is_client Unbatcher = false
+is_client Reader = false
+
+-- whether it is a role of the cluster, and no client
+abbrev pub names_server : Cluster → RoleId → Bool
+names_server c role = not (is_client role.kind) && nat_lt role.index (count_of c role.kind)
+
+-- whether each member of a grid is an acceptor of the cluster
+abbrev pub names_members : Cluster → Shape → Bool
+names_members c grid = list_all (λ id. nat_lt id c.acceptors) grid.members
+
+abbrev pub names_order : Cluster → Order → Bool
+names_order c (Lead grid) = names_members c grid
+names_order c (Change grid) = names_members c grid
+names_order c Collect = true
+
+-- whether each name of an event lies in the cluster, and each role that ticks, crashes or restarts is no client
+abbrev pub names_event : Cluster → Event → Bool
+names_event c (Write command batcher) = nat_lt command.client c.clients && nat_lt batcher c.batchers
+names_event c (Read client seq reader replica key) = nat_lt client c.clients && nat_lt reader c.readers && nat_lt replica c.replicas
+names_event c (Deliver number cut) = true
+names_event c (Tick role) = names_server c role
+names_event c (event.Order leader order cut) = nat_lt leader c.leaders && names_order c order
+names_event c (Crash role) = names_server c role
+names_event c (Restart role) = names_server c role

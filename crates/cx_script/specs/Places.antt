@@ -1,0 +1,87 @@
+-- What a word says in its place, or the place's fault.
+use Rattle.std.specs.Prelude.{ℕ, ◌*◌, Bool, ◌==◌, ◌&&◌, nat_le, nat_lt, List, [], ◌∷◌, find, is_none, Option, Some, None, option_map, option_and_then, ok_or, Result, Err, if◌then◌else◌}
+use Rattle.std.specs.List.{before_first, after_first, slice_split}
+use Rattle.std.specs.Str.{bytes_eq}
+use Rattle.cx_base.specs.declared.cluster.Cluster.{Cluster}
+use Rattle.cx_base.specs.declared.role.Kind.{Kind}
+use Rattle.cx_base.specs.declared.role.Kind.TheVariants.{Batcher, Leader, Proxy, Acceptor, Matchmaker, Replica, Unbatcher, Reader}
+use Rattle.cx_base.specs.declared.role.RoleId.{RoleId}
+use Rattle.cx_base.specs.Grid.{Shape, make_grid, grid_fault}
+use Rattle.cx_base.specs.Name.{name_of}
+use Rattle.cx_base.specs.Role.{kind_text, role}
+use Rattle.cx_script.specs.declared.fault.LineFault.{LineFault}
+use Rattle.cx_script.specs.declared.fault.LineFault.TheVariants.{Number, Role, Grid, Key}
+use Rattle.cx_script.specs.Names.{count_of}
+use Rattle.cx_script.specs.Words.{number_of}
+
+-- SEQ: a request's number, at least 1
+abbrev pub from_one : ℕ → Option ℕ
+from_one number = if nat_le 1 number then Some number else None
+
+abbrev pub seq_word : List ℕ → Result ℕ LineFault
+seq_word word = ok_or (option_and_then from_one (number_of word)) Number
+
+-- N: any number
+abbrev pub number_word : List ℕ → Result ℕ LineFault
+number_word word = ok_or (number_of word) Number
+
+-- K and T: a key, a text
+abbrev pub key_word : List ℕ → Result (List ℕ) LineFault
+key_word word = ok_or (name_of 32 word) Key
+
+abbrev pub text_word : List ℕ → Result (List ℕ) LineFault
+text_word word = ok_or (name_of 64 word) Key
+
+-- the number that digits spell, where it is below a count
+abbrev pub below : ℕ → ℕ → Option ℕ
+below count number = if nat_lt number count then Some number else None
+
+abbrev pub index_below : ℕ → List ℕ → Option ℕ
+index_below count digits = option_and_then (below count) (number_of digits)
+
+-- a role's text is its kind, a colon and its index
+abbrev pub kind_part : List ℕ → List ℕ
+kind_part word = before_first (λ b. b == 58) word
+
+abbrev pub index_part : List ℕ → List ℕ
+index_part word = after_first (λ b. b == 58) word
+
+-- client:C and the like: the index of a role of this kind
+abbrev pub index_word : Cluster → Kind → List ℕ → Result ℕ LineFault
+index_word c kind word =
+    if bytes_eq (kind_part word) (kind_text kind) then ok_or (index_below (count_of c kind) (index_part word)) Role else Err Role
+
+-- ROLE: any role but a client
+abbrev pub server_kinds : List Kind
+server_kinds = Batcher ∷ Leader ∷ Proxy ∷ Acceptor ∷ Matchmaker ∷ Replica ∷ Unbatcher ∷ Reader ∷ []
+
+abbrev pub server_kind : List ℕ → Option Kind
+server_kind text = find (λ kind. bytes_eq text (kind_text kind)) server_kinds
+
+abbrev pub server_in : Cluster → List ℕ → Option Kind → Option RoleId
+server_in c digits None = None
+server_in c digits (Some kind) = option_map (role kind) (index_below (count_of c kind) digits)
+
+abbrev pub server_word : Cluster → List ℕ → Result RoleId LineFault
+server_word c word = ok_or (server_in c (index_part word) (server_kind (kind_part word))) Role
+
+-- RxC: the sides of a grid that some members fill
+abbrev pub sides_fit : ℕ → ℕ → Bool
+sides_fit rows cols = nat_le 1 rows && nat_le 1 cols && nat_le (rows * cols) 16
+
+abbrev pub sides_of : Option ℕ → Option ℕ → Option (ℕ × ℕ)
+sides_of rows cols = option_and_then (λ r. option_and_then (λ c. if sides_fit r c then Some (r, c) else None) cols) rows
+
+abbrev pub sides_word : List ℕ → Result (ℕ × ℕ) LineFault
+sides_word word = ok_or (sides_of (number_of (before_first (λ b. b == 120) word)) (number_of (after_first (λ b. b == 120) word))) Grid
+
+-- a,b,..: the members of such a grid, acceptors of the cluster
+abbrev pub ids_of : ℕ → List (List ℕ) → Option (List ℕ)
+ids_of count [] = Some []
+ids_of count (part ∷ parts) = option_and_then (λ id. option_map (λ ids. id ∷ ids) (ids_of count parts)) (index_below count part)
+
+abbrev pub grid_of : ℕ → ℕ → List ℕ → Option Shape
+grid_of rows cols ids = if is_none (grid_fault rows cols ids) then Some (make_grid rows cols ids) else None
+
+abbrev pub members_word : Cluster → ℕ → ℕ → List ℕ → Result Shape LineFault
+members_word c rows cols word = ok_or (option_and_then (grid_of rows cols) (ids_of c.acceptors (slice_split (λ b. b == 44) word))) Grid
