@@ -8,6 +8,8 @@ mod line;
 #[cfg(test)]
 mod tests;
 mod top;
+#[cfg(test)]
+mod worked;
 
 use crate::top::top;
 use cx_base::Status;

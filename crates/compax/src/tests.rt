@@ -1,6 +1,7 @@
 //! The worked schedules, over sources and sinks in memory.
 
 use crate::top::top;
+use crate::worked::CASES;
 use cx_base::Status;
 use cx_edge::{MemSink, MemSource};
 use std::alloc::Global;
@@ -182,5 +183,24 @@ fn tells_why_it_stopped(rt: HostRuntime) -> Result<(), Fail> {
     assert!(rt; comes_to(alloc, &["compax"], &[], Vec::new(alloc), &bad_words)?);
     let more = ["compax", "replay", "x"];
     assert!(rt; comes_to(alloc, &more, &[], Vec::new(alloc), &bad_words)?);
+    Ok(())
+}
+
+// Torn appends, a grid, a later round, a collection, reads, catching up, and a repeated command.
+#[test]
+fn prints_what_another_implementation_prints(rt: HostRuntime) -> Result<(), Fail> {
+    let alloc = rt.alloc();
+    let replay = ["compax", "replay"];
+    for (name, schedule, printed) in &CASES {
+        let wanted = Wanted {
+            status: Status::Done,
+            printed: &[printed],
+            line: "",
+        };
+        assert!(rt;
+            comes_to(alloc, &replay, &[schedule], Vec::new(alloc), &wanted)?,
+            "{name}"
+        );
+    }
     Ok(())
 }
