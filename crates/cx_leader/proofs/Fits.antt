@@ -1,5 +1,5 @@
 -- What a leader takes, it keeps no record of.
-use Rattle.std.specs.Prelude.{◌≡◌, ◌==◌, ◌&&◌, ◌||◌, not, ℕ, nat_lt, nat_le, List, [], ◌∷◌, ◌++◌, length, slice_index_or, Option, None, Some, refl}
+use Rattle.std.specs.Prelude.{◌==◌, ◌&&◌, ◌||◌, not, ℕ, nat_lt, nat_le, List, [], ◌∷◌, ◌++◌, length, slice_index_or, Option, None, Some}
 use Rattle.cx_base.specs.declared.cluster.Cluster.{Cluster}
 use Rattle.cx_base.specs.declared.command.Command.{Command}
 use Rattle.cx_base.specs.declared.role.RoleId.{RoleId}
@@ -12,10 +12,8 @@ use Rattle.cx_field.specs.declared.parts.Entry.{Entry}
 use Rattle.cx_field.specs.declared.parts.Vote.{Vote}
 use Rattle.cx_msg.specs.declared.message.Msg.{Msg}
 use Rattle.cx_msg.specs.declared.message.Msg.TheVariants as msg
-use Rattle.cx_model.specs.declared.states.MatchAnswer.{MatchAnswer}
-use Rattle.cx_model.specs.declared.states.Promised.{Promised}
-use Rattle.cx_model.specs.Collection.{Collection, is_informing, is_collecting, with_informed}
-use Rattle.cx_model.specs.Leader.{LeaderDurable, LeaderVolatile, is_idle, is_matching, is_promising, is_leading, is_own, is_past_window, matched_by, match_counted, match_b_row, promise_counted, phase1b_row, nack_row, match_nack_row, propose_in, batch_row, chosen_in_row, held_row, informed_counted, informed_in, informed_row, garbage_b_row, leader_takes, leader_row, leader_rules}
+use Rattle.cx_model.specs.Collection.{is_informing, is_collecting, with_informed}
+use Rattle.cx_model.specs.Leader.{LeaderDurable, LeaderVolatile, is_idle, is_matching, is_promising, is_leading, is_own, is_past_window, matched_by, match_counted, match_b_row, promise_counted, phase1b_row, propose_in, chosen_in_row, informed_in, leader_takes, leader_row, leader_rules}
 use Rattle.cx_model.specs.Matched.{enough, is_counted, is_member_of, live_entries, rows_whole}
 use Rattle.cx_model.specs.Names.{names}
 use Rattle.cx_model.specs.Outcome.{Outcome, either_way}

@@ -1,25 +1,17 @@
 -- The row of an acceptor's answer, by what the answer comes to.
-use Rattle.std.specs.Prelude.{◌≡◌, ◌≤◌, ◌+◌, ◌&&◌, not, ℕ, Bool, true, false, List, [], ◌∷◌, ◌++◌, length, map, Option, None, Some, IsTrue, refl, if◌then◌else◌}
-use Rattle.std.specs.List.{list_all}
-use Rattle.std.proofs.Common.{ap, arith, length-append, subst, sym}
+use Rattle.std.specs.Prelude.{◌≡◌, ◌&&◌, ℕ, Bool, true, false, List, [], ◌∷◌, ◌++◌, Option, Some, refl}
+use Rattle.std.proofs.Common.{ap, subst, sym}
 use Rattle.cx_base.specs.declared.cluster.Cluster.{Cluster}
 use Rattle.cx_base.specs.declared.role.RoleId.{RoleId}
 use Rattle.cx_base.specs.declared.round.Round.{Round}
-use Rattle.cx_base.specs.declared.why.Why.TheVariants as why
 use Rattle.cx_field.specs.declared.parts.Entry.{Entry}
 use Rattle.cx_field.specs.declared.parts.Vote.{Vote}
-use Rattle.cx_model.specs.declared.states.MatchAnswer.{MatchAnswer}
-use Rattle.cx_model.specs.declared.states.Mode.{Mode}
-use Rattle.cx_model.specs.declared.states.Mode.TheVariants as mode
 use Rattle.cx_model.specs.declared.states.Promised.{Promised}
-use Rattle.cx_model.specs.Leader.{LeaderDurable, LeaderVolatile, is_matching, is_promising, is_own, phase1b_row}
-use Rattle.cx_model.specs.Matched.{live_entries, is_member_of, members_of, rows_whole}
-use Rattle.cx_model.specs.Outcome.{Outcome, replied}
+use Rattle.cx_model.specs.Leader.{LeaderDurable, LeaderVolatile, is_promising, is_own, phase1b_row}
+use Rattle.cx_model.specs.Matched.{live_entries, is_member_of, rows_whole}
 use Rattle.cx_model.specs.Plan.{has_promised, promised_by}
 use Rattle.cx_phase1.specs.Counting.{Counting, told_by}
 use Rattle.cx_leader.specs.Promising.{promised_row}
-use Rattle.cx_leader.specs.State.{IsMatched, is_named}
-use Rattle.cx_leader.proofs.MatchLaws.{named_more}
 
 abbrev counting : LeaderVolatile → Counting
 counting v = record { live = live_entries v.told; promises = v.promises }

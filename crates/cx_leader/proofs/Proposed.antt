@@ -1,8 +1,8 @@
 -- What a leader proposed stays one value a slot.
-use Rattle.std.specs.Prelude.{◌≡◌, ◌≢◌, ◌≤◌, ◌<◌, ◌+◌, ◌-◌, ◌^◌, ◌==◌, ◌||◌, ℕ, zero, suc, Bool, true, false, not, max, nat_le, map, filter, List, [], ◌∷◌, ◌++◌, length, Option, None, Some, All, IsTrue, refl, if◌then◌else◌}
-use Rattle.std.proofs.Common.{ap, arith, sym, subst, ◌∙◌}
+use Rattle.std.specs.Prelude.{◌≡◌, ◌≢◌, ◌≤◌, ◌<◌, ◌+◌, ◌-◌, ◌^◌, ◌==◌, ℕ, zero, suc, Bool, true, false, not, max, nat_le, map, filter, List, [], ◌∷◌, ◌++◌, length, None, Some, All, IsTrue, refl, if◌then◌else◌}
+use Rattle.std.proofs.Common.{ap, arith, ◌∙◌}
 use Rattle.std.proofs.lemmas.Bool.{leb-true, leb-false, or_parts, eqb-false}
-use Rattle.std.proofs.lemmas.List.Elements.{All-nil, All-cons, All-push, All-weaker, All-filter, All-head, All-tail, filter_passes}
+use Rattle.std.proofs.lemmas.List.Elements.{All-nil, All-cons, All-push, All-head, All-tail}
 use Rattle.cx_base.specs.declared.command.Placed.{Placed}
 use Rattle.cx_base.specs.declared.command.Value.{Value}
 use Rattle.cx_base.specs.Grid.{is_in}
@@ -12,7 +12,7 @@ use Rattle.cx_model.specs.declared.states.Plan.{Plan}
 use Rattle.cx_model.specs.Plan.{placed_from}
 use Rattle.cx_phase1.specs.Planned.{IsPlan}
 use Rattle.cx_phase1.specs.Window.{Window, IsWindow, is_used_up, free_slot}
-use Rattle.cx_leader.specs.Proposing.{Proposing, IsSlot, IsProposal, IsProposing, planned, open_values}
+use Rattle.cx_leader.specs.Proposing.{IsSlot, IsProposal, IsProposing, planned, open_values}
 
 -- ---- a value at the next slot
 

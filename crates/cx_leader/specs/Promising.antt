@@ -1,5 +1,5 @@
 -- What a leader knows of its first phase.
-use Rattle.std.specs.Prelude.{ℕ, List, [], ◌∷◌, ◌++◌, Option, None, Some}
+use Rattle.std.specs.Prelude.{List, [], ◌∷◌, ◌++◌, Option}
 use Rattle.std.specs.Option.{option_map, option_map_or}
 use Rattle.cx_base.specs.declared.cluster.Cluster.{Cluster}
 use Rattle.cx_base.specs.declared.role.RoleId.{RoleId}

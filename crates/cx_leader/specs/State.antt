@@ -1,9 +1,8 @@
 -- What the parts of a leader owe one another.
-use Rattle.std.specs.Prelude.{◌≡◌, ◌≤◌, ◌<◌, ◌+◌, ◌^◌, ◌==◌, ℕ, Bool, true, ◌&&◌, ◌||◌, not, is_some, length, Option, None, Some, IsTrue, List, [], All}
+use Rattle.std.specs.Prelude.{◌≡◌, ◌≤◌, ◌<◌, ◌+◌, ◌^◌, ◌==◌, ℕ, Bool, true, ◌&&◌, ◌||◌, not, is_some, length, Option, None, Some, IsTrue, List, All}
 use Rattle.std.specs.List.{list_all}
 use Rattle.std.specs.Option.{option_map}
 use Rattle.cx_base.specs.declared.cluster.Cluster.{Cluster}
-use Rattle.cx_base.specs.Grid.{Shape}
 use Rattle.cx_collect.specs.Collecting.{Collecting}
 use Rattle.cx_field.specs.Fields as field
 use Rattle.cx_field.specs.declared.parts.Entry.{Entry}

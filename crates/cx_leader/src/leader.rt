@@ -1,17 +1,12 @@
 //! The leader's state.
 
-ghost use Rattle.std.specs.Prelude.{◌≡◌, [], None, map, IfOk, IfErr, OnErr, IsTrue};
-ghost use Rattle.cx_base.specs.Lists.{below};
-ghost use Rattle.cx_keeper.specs.Keeper.{all_fit};
+ghost use Rattle.std.specs.Prelude.{◌≡◌, [], IfOk, OnErr, IsTrue};
 ghost use Rattle.cx_model.specs.Leader.{LeaderDurable, LeaderVolatile, is_idle, leader_takes, leader_rules};
-ghost use Rattle.cx_model.specs.Rules.{Running, folded, refused};
 ghost use Rattle.cx_model.specs.Names.{names};
 ghost use Rattle.cx_role.specs.Role.{Replies};
-ghost use Rattle.cx_role.specs.Wake.{IsWakeFault};
-ghost use Rattle.cx_leader.specs.State.{own_fits};
 
+use crate::opening::{last_begun, none_held};
 use crate::proposals::Proposals;
-use crate::rounds::{may_begin, round_of};
 use cx_base::{Cluster, Kind, NoMemory, Order, RoleId, Round, Why};
 use cx_collect::Collector;
 use cx_field::Entry;
@@ -64,42 +59,6 @@ impl Leader {
     {
         matches!(self.mode, Mode::Idle)
     }
-}
-
-// No replica told anything.
-fn none_held(alloc: Global, replicas: u16) -> Result<Vec<u64>, NoMemory>
-    ensures { IfOk result (λ held. held.items ≡ map (λ r. 0) (below replicas)) }
-{
-    let mut held = Vec::with_capacity(alloc, usize::from(replicas))?;
-    for _ in 0..replicas {
-        held.push(0)?;
-    }
-    Ok(held)
-}
-
-// The round that these records leave, with its grid.
-#[tactic(auto, unfolding(cx_msg::specs::Records::kept_record, cx_msg::specs::Records::round_grid))]
-fn last_begun(cluster: &Cluster, me: RoleId, records: &[Record]) -> Result<Option<Entry>, WakeFault>
-    requires { IsTrue (all_fit records.now) }
-    ensures own { IfOk result (λ own. record { own = own } ≡ folded leader_rules records.now) }
-    ensures whole { IfOk result (λ _. refused leader_rules cluster.now me records.now ≡ None) }
-    ensures fits { IfOk result (λ own. IsTrue (own_fits me.index own)) }
-    ensures fault { IfErr result (IsWakeFault (refused leader_rules cluster.now me records.now)) }
-{
-    let mut own = None;
-    for (index, record) in records.iter().enumerate() {
-        let Record::Round { round, grid } = record else {
-            return Err(WakeFault::Record { index });
-        };
-        if !may_begin(cluster, me.index, round_of(&own), *round, grid) {
-            return Err(WakeFault::Record { index });
-        }
-        own = Some(Entry {
-            round: *round,
-            grid: *grid,
-        });
-    }
-    Ok(own)
 }
 
 impl Leader {

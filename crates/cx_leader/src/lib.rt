@@ -6,18 +6,20 @@
 //! as it was, and a failed append sends nothing.
 #![tactic(auto)]
 
+mod entries;
 mod holding;
 mod leader;
 mod leading;
 mod matching;
+mod opening;
 mod promising;
 mod proposals;
 mod refusing;
 mod retiring;
 mod rounds;
 mod sending;
-// #[cfg(test)]
-// mod tests;
+#[cfg(test)]
+mod tests;
 mod ticks;
 
 pub use leader::Leader;

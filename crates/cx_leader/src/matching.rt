@@ -1,71 +1,147 @@
-//! What the matchmakers answered (JSys 2021): the greatest watermark, and the grids that are not retired.
+//! A leader that asks the matchmakers which grids earlier rounds used (JSys 2021).
 
-ghost use Rattle.std.specs.Prelude.{◌≡◌, ◌≤◌, ◌∷◌, ◌++◌, [], not, IfOk};
-ghost use Rattle.cx_base.specs.Round.{is_before};
-ghost use Rattle.cx_model.specs.Matched.{later_round, is_counted, greatest_watermark, entries_told, live_entries};
-ghost use Rattle.cx_model.specs.Matchmaker.{entries_from};
+ghost use Rattle.std.specs.Prelude.{◌≡◌, ◌++◌, ◌∷◌, [], Some, map, IsTrue, IfOk, OnErr};
+ghost use Rattle.std.specs.List.{list_all};
+ghost use Rattle.cx_base.specs.declared.why.Why.TheVariants as reason;
+ghost use Rattle.cx_model.specs.declared.states.Mode.TheVariants as mode;
+ghost use Rattle.cx_model.specs.Leader.{is_matching, finish, phase1a_to, matched_by, match_counted, match_b_row, leader_rules};
+ghost use Rattle.cx_model.specs.Matched.{live_entries, members_of};
+ghost use Rattle.cx_model.specs.Names.{names_entry};
+ghost use Rattle.cx_model.specs.Outcome.{replied};
 ghost use Rattle.cx_field.specs.declared.parts.Entry.{Entry as EntryOf};
+ghost use Rattle.cx_role.specs.Role.{Replies};
+ghost use Rattle.cx_leader.specs.State.{is_named};
 
-use cx_base::{NoMemory, Round};
-use cx_field::Entry;
-use cx_model::MatchAnswer;
-use std::alloc::Global;
+use crate::Leader;
+use crate::entries::{is_counted, live_entries};
+use crate::rounds::{is_same, round_of};
+use crate::sending::{ask_acceptors, tell_batchers};
+use cx_base::{Duplicate, NoMemory, RoleId, Round, Why};
+use cx_field::{Entries, Entry};
+use cx_model::{MatchAnswer, Mode};
+use cx_phase1::Phase1;
+use cx_role::Outbox;
 
-/// The later one of two rounds.
-pub fn later(a: Round, b: Round) -> Round
-    ensures { result ≡ later_round a b }
-{
-    if a.is_before(&b) { b } else { a }
-}
-
-/// Whether an answer of this matchmaker was counted.
-pub fn is_counted(told: &[MatchAnswer], matchmaker: u16) -> bool
-    ensures { result ≡ is_counted matchmaker told.now }
-{
-    told.iter().any(|answer| answer.matchmaker == matchmaker)
-}
-
-// The greatest watermark of these answers and one more.
-fn watermark(told: &[MatchAnswer], last: &MatchAnswer) -> Round
-    ensures { result ≡ greatest_watermark (told.now ++ last.now ∷ []) }
-{
-    match told {
-        [] => later(last.watermark, Round::ZERO),
-        [answer, rest @ ..] => later(answer.watermark, watermark(rest, last)),
+impl Leader {
+    // No earlier grid is live, so there is nobody to ask, and nothing to propose.
+    fn lead_alone(
+        &mut self,
+        answer: MatchAnswer,
+        own: &Entry,
+        out: &mut Outbox,
+    ) -> Result<Why, NoMemory>
+        requires mode { IsTrue (is_matching self.old.volatile.mode) }
+        requires own { self.old.durable.own ≡ Some own.now }
+        requires named { IsTrue (is_named self.old.cluster answer) }
+        requires empty { out.old.list ≡ [] }
+        ensures ok { IfOk result (λ why. Replies leader_rules self.old (finish self.old.cluster self.old.me own.now (record self.old.volatile { told = self.old.volatile.told ++ answer ∷ [] })) why self.new out.new.list) }
+        ensures no_memory { OnErr result (self.new ≡ self.old) }
+        ensures sends { OnErr result (out.new.list ≡ []) }
+    {
+        self.told.reserve(1)?;
+        out.room(usize::from(self.cluster.batchers))?;
+        self.told.push_reserved(answer);
+        self.mode = Mode::Leading;
+        self.proposals.clear();
+        tell_batchers(self.index, own.round, self.cluster.batchers, out);
+        Ok(Why::Leads)
     }
-}
 
-fn is_live(entry: &Entry, watermark: Round) -> bool
-    ensures { result ≡ not (is_before entry.now.round watermark) }
-{
-    !entry.round.is_before(&watermark)
-}
+    // The acceptors of the live grids are asked.
+    fn ask(
+        &mut self,
+        answer: MatchAnswer,
+        live: &[Entry],
+        own: &Entry,
+        out: &mut Outbox,
+    ) -> Result<Why, NoMemory>
+        requires mode { IsTrue (is_matching self.old.volatile.mode) }
+        requires own { self.old.durable.own ≡ Some own.now }
+        requires named { IsTrue (is_named self.old.cluster answer) }
+        requires live { live.now ≡ live_entries (self.old.volatile.told ++ answer ∷ []) }
+        requires empty { out.old.list ≡ [] }
+        ensures ok { IfOk result (λ why. Replies leader_rules self.old (replied reason.Phase1 (record self.old.volatile { told = self.old.volatile.told ++ answer ∷ []; mode = mode.Phase1 }) (map (phase1a_to self.old.me own.now.round) (members_of self.old.cluster live.now))) why self.new out.new.list) }
+        ensures no_memory { OnErr result (self.new ≡ self.old) }
+        ensures sends { OnErr result (out.new.list ≡ []) }
+    {
+        let phase1 = Phase1::new(self.alloc, live)?;
+        self.told.reserve(1)?;
+        out.room(usize::from(self.cluster.acceptors))?;
+        self.told.push_reserved(answer);
+        ask_acceptors(self.index, own.round, &self.cluster, &phase1, out);
+        self.phase1 = Some(phase1);
+        self.mode = Mode::Phase1;
+        Ok(Why::Phase1)
+    }
 
-// The entries from the watermark on, behind those of a list.
-fn add_live(live: &mut Vec<Entry>, entries: &[Entry], watermark: Round) -> Result<(), NoMemory>
-    ensures { IfOk result (λ _. live.new.items ≡ live.old.items ++ entries_from watermark entries.now) }
-{
-    for entry in entries {
-        if is_live(entry, watermark) {
-            live.push(*entry)?;
+    // Enough matchmakers have answered.
+    fn matched(
+        &mut self,
+        answer: MatchAnswer,
+        own: &Entry,
+        out: &mut Outbox,
+    ) -> Result<Why, NoMemory>
+        requires mode { IsTrue (is_matching self.old.volatile.mode) }
+        requires own { self.old.durable.own ≡ Some own.now }
+        requires named { IsTrue (is_named self.old.cluster answer) }
+        requires empty { out.old.list ≡ [] }
+        ensures ok { IfOk result (λ why. Replies leader_rules self.old (matched_by self.old.cluster self.old.me own.now (record self.old.volatile { told = self.old.volatile.told ++ answer ∷ [] }) (live_entries (self.old.volatile.told ++ answer ∷ []))) why self.new out.new.list) }
+        ensures no_memory { OnErr result (self.new ≡ self.old) }
+        ensures sends { OnErr result (out.new.list ≡ []) }
+    {
+        let live = live_entries(self.alloc, &self.told, &answer)?;
+        match live.as_slice() {
+            [] => self.lead_alone(answer, own, out),
+            [_, ..] => self.ask(answer, &live, own, out),
         }
     }
-    Ok(())
-}
 
-/// The entries of these answers and one more that are not retired.
-pub fn live_entries(
-    alloc: Global,
-    told: &[MatchAnswer],
-    last: &MatchAnswer,
-) -> Result<Vec<Entry>, NoMemory>
-    ensures { IfOk result (λ live. live.items ≡ live_entries (told.now ++ last.now ∷ [])) }
-{
-    let watermark = watermark(told, last);
-    let mut live = Vec::new(alloc);
-    for answer in told {
-        add_live(&mut live, answer.entries.as_slice(), watermark)?;
+    // One more matchmaker has answered.
+    fn count(&mut self, answer: MatchAnswer, own: &Entry, out: &mut Outbox) -> Result<Why, NoMemory>
+        requires mode { IsTrue (is_matching self.old.volatile.mode) }
+        requires own { self.old.durable.own ≡ Some own.now }
+        requires named { IsTrue (is_named self.old.cluster answer) }
+        requires empty { out.old.list ≡ [] }
+        ensures ok { IfOk result (λ why. Replies leader_rules self.old (match_counted self.old.cluster self.old.me self.old.durable.own (record self.old.volatile { told = self.old.volatile.told ++ answer ∷ [] })) why self.new out.new.list) }
+        ensures no_memory { OnErr result (self.new ≡ self.old) }
+        ensures sends { OnErr result (out.new.list ≡ []) }
+    {
+        if self.told.len() == usize::from(self.cluster.f) {
+            return self.matched(answer, own, out);
+        }
+        self.told.push(answer)?;
+        Ok(Why::Counted)
     }
-    add_live(&mut live, last.entries.as_slice(), watermark)?;
-    Ok(live)
+
+    /// A matchmaker answers with its watermark and its entries.
+    pub(crate) fn match_answer(
+        &mut self,
+        from: RoleId,
+        round: Round,
+        watermark: Round,
+        entries: &Entries,
+        out: &mut Outbox,
+    ) -> Result<Why, NoMemory>
+        requires empty { out.old.list ≡ [] }
+        requires named { IsTrue (list_all (λ (e : EntryOf). names_entry self.old.cluster e) entries.now) }
+        ensures ok { IfOk result (λ why. Replies leader_rules self.old (match_b_row self.old.cluster self.old.me self.old.durable self.old.volatile from round watermark entries.now) why self.new out.new.list) }
+        ensures no_memory { OnErr result (self.new ≡ self.old) }
+        ensures sends { OnErr result (out.new.list ≡ []) }
+    {
+        if !matches!(self.mode, Mode::Matching) || !is_same(round, round_of(&self.own)) {
+            return Ok(Why::Old);
+        }
+        if is_counted(&self.told, from.index) {
+            return Ok(Why::Same);
+        }
+        let Some(own) = self.own else {
+            return Ok(Why::Old);
+        };
+        let answer = MatchAnswer {
+            matchmaker: from.index,
+            watermark,
+            entries: entries.copy(self.alloc)?,
+        };
+        self.count(answer, &own, out)
+    }
 }

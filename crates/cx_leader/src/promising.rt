@@ -1,153 +1,22 @@
-//! The first phase: matchmakers tell which grids were used, and the acceptors of these promise the round (JSys 2021, VLDB 2021).
+//! A leader that asks the acceptors of earlier grids to promise its round (VLDB 2021).
 
-ghost use Rattle.std.specs.Prelude.{◌≡◌, ◌&&◌, ◌++◌, ◌∷◌, [], Some, map, IsTrue, IfOk, OnErr};
-ghost use Rattle.std.specs.List.{list_all};
-ghost use Rattle.cx_model.specs.declared.states.Mode.TheVariants as mode;
-ghost use Rattle.cx_model.specs.Leader.{is_matching, is_promising, is_own, finish, phase1a_to, matched_by, match_counted, match_b_row, phase1b_row, leader_rules};
-ghost use Rattle.cx_model.specs.Matched.{live_entries, members_of};
-ghost use Rattle.cx_model.specs.Outcome.{replied};
-ghost use Rattle.cx_base.specs.declared.why.Why.TheVariants as reason;
-ghost use Rattle.cx_model.specs.Names.{names_entry};
+ghost use Rattle.std.specs.Prelude.{◌≡◌, ◌&&◌, [], Some, IsTrue, IfOk, OnErr};
+ghost use Rattle.cx_model.specs.Leader.{is_promising, is_own, phase1b_row, leader_rules};
+ghost use Rattle.cx_model.specs.Matched.{live_entries};
 ghost use Rattle.cx_field.specs.Fields as field;
-ghost use Rattle.cx_field.specs.declared.parts.Entry.{Entry as EntryOf};
 ghost use Rattle.cx_phase1.specs.Counting.{told_by};
 ghost use Rattle.cx_role.specs.Role.{Replies};
 ghost use Rattle.cx_leader.specs.Promising.{promised_row};
-ghost use Rattle.cx_leader.specs.State.{is_named};
 
 use crate::Leader;
-use crate::matching::{is_counted, live_entries};
 use crate::rounds::{is_same, round_of};
-use crate::sending::{ask_acceptors, tell_batchers};
 use cx_base::{Duplicate, NoMemory, RoleId, Round, Why};
-use cx_field::{Entries, Entry, Votes};
-use cx_model::{MatchAnswer, Mode};
-use cx_phase1::{Phase1, Told};
+use cx_field::{Entry, Votes};
+use cx_model::Mode;
+use cx_phase1::Told;
 use cx_role::Outbox;
 
 impl Leader {
-    // No earlier grid is live, so there is nobody to ask, and nothing to propose.
-    fn lead_alone(
-        &mut self,
-        answer: MatchAnswer,
-        own: &Entry,
-        out: &mut Outbox,
-    ) -> Result<Why, NoMemory>
-        requires mode { IsTrue (is_matching self.old.volatile.mode) }
-        requires own { self.old.durable.own ≡ Some own.now }
-        requires named { IsTrue (is_named self.old.cluster answer) }
-        requires empty { out.old.list ≡ [] }
-        ensures ok { IfOk result (λ why. Replies leader_rules self.old (finish self.old.cluster self.old.me own.now (record self.old.volatile { told = self.old.volatile.told ++ answer ∷ [] })) why self.new out.new.list) }
-        ensures no_memory { OnErr result (self.new ≡ self.old) }
-        ensures sends { OnErr result (out.new.list ≡ []) }
-    {
-        self.told.reserve(1)?;
-        out.room(usize::from(self.cluster.batchers))?;
-        self.told.push_reserved(answer);
-        self.mode = Mode::Leading;
-        self.proposals.clear();
-        tell_batchers(self.index, own.round, self.cluster.batchers, out);
-        Ok(Why::Leads)
-    }
-
-    // The acceptors of the live grids are asked.
-    fn ask(
-        &mut self,
-        answer: MatchAnswer,
-        live: &[Entry],
-        own: &Entry,
-        out: &mut Outbox,
-    ) -> Result<Why, NoMemory>
-        requires mode { IsTrue (is_matching self.old.volatile.mode) }
-        requires own { self.old.durable.own ≡ Some own.now }
-        requires named { IsTrue (is_named self.old.cluster answer) }
-        requires live { live.now ≡ live_entries (self.old.volatile.told ++ answer ∷ []) }
-        requires empty { out.old.list ≡ [] }
-        ensures ok { IfOk result (λ why. Replies leader_rules self.old (replied reason.Phase1 (record self.old.volatile { told = self.old.volatile.told ++ answer ∷ []; mode = mode.Phase1 }) (map (phase1a_to self.old.me own.now.round) (members_of self.old.cluster live.now))) why self.new out.new.list) }
-        ensures no_memory { OnErr result (self.new ≡ self.old) }
-        ensures sends { OnErr result (out.new.list ≡ []) }
-    {
-        let phase1 = Phase1::new(self.alloc, live)?;
-        self.told.reserve(1)?;
-        out.room(usize::from(self.cluster.acceptors))?;
-        self.told.push_reserved(answer);
-        ask_acceptors(self.index, own.round, &self.cluster, &phase1, out);
-        self.phase1 = Some(phase1);
-        self.mode = Mode::Phase1;
-        Ok(Why::Phase1)
-    }
-
-    // Enough matchmakers have answered.
-    fn matched(
-        &mut self,
-        answer: MatchAnswer,
-        own: &Entry,
-        out: &mut Outbox,
-    ) -> Result<Why, NoMemory>
-        requires mode { IsTrue (is_matching self.old.volatile.mode) }
-        requires own { self.old.durable.own ≡ Some own.now }
-        requires named { IsTrue (is_named self.old.cluster answer) }
-        requires empty { out.old.list ≡ [] }
-        ensures ok { IfOk result (λ why. Replies leader_rules self.old (matched_by self.old.cluster self.old.me own.now (record self.old.volatile { told = self.old.volatile.told ++ answer ∷ [] }) (live_entries (self.old.volatile.told ++ answer ∷ []))) why self.new out.new.list) }
-        ensures no_memory { OnErr result (self.new ≡ self.old) }
-        ensures sends { OnErr result (out.new.list ≡ []) }
-    {
-        let live = live_entries(self.alloc, &self.told, &answer)?;
-        match live.as_slice() {
-            [] => self.lead_alone(answer, own, out),
-            [_, ..] => self.ask(answer, &live, own, out),
-        }
-    }
-
-    // One more matchmaker has answered.
-    fn count(&mut self, answer: MatchAnswer, own: &Entry, out: &mut Outbox) -> Result<Why, NoMemory>
-        requires mode { IsTrue (is_matching self.old.volatile.mode) }
-        requires own { self.old.durable.own ≡ Some own.now }
-        requires named { IsTrue (is_named self.old.cluster answer) }
-        requires empty { out.old.list ≡ [] }
-        ensures ok { IfOk result (λ why. Replies leader_rules self.old (match_counted self.old.cluster self.old.me self.old.durable.own (record self.old.volatile { told = self.old.volatile.told ++ answer ∷ [] })) why self.new out.new.list) }
-        ensures no_memory { OnErr result (self.new ≡ self.old) }
-        ensures sends { OnErr result (out.new.list ≡ []) }
-    {
-        if self.told.len() == usize::from(self.cluster.f) {
-            return self.matched(answer, own, out);
-        }
-        self.told.push(answer)?;
-        Ok(Why::Counted)
-    }
-
-    /// A matchmaker answers with its watermark and its entries.
-    pub(crate) fn match_answer(
-        &mut self,
-        from: RoleId,
-        round: Round,
-        watermark: Round,
-        entries: &Entries,
-        out: &mut Outbox,
-    ) -> Result<Why, NoMemory>
-        requires empty { out.old.list ≡ [] }
-        requires named { IsTrue (list_all (λ (e : EntryOf). names_entry self.old.cluster e) entries.now) }
-        ensures ok { IfOk result (λ why. Replies leader_rules self.old (match_b_row self.old.cluster self.old.me self.old.durable self.old.volatile from round watermark entries.now) why self.new out.new.list) }
-        ensures no_memory { OnErr result (self.new ≡ self.old) }
-        ensures sends { OnErr result (out.new.list ≡ []) }
-    {
-        if !matches!(self.mode, Mode::Matching) || !is_same(round, round_of(&self.own)) {
-            return Ok(Why::Old);
-        }
-        if is_counted(&self.told, from.index) {
-            return Ok(Why::Same);
-        }
-        let Some(own) = self.own else {
-            return Ok(Why::Old);
-        };
-        let answer = MatchAnswer {
-            matchmaker: from.index,
-            watermark,
-            entries: entries.copy(self.alloc)?,
-        };
-        self.count(answer, &own, out)
-    }
-
     // Whether it asks acceptors to promise this round.
     fn asks(&self, round: Round) -> bool
         ensures { result ≡ (is_promising self.now.volatile.mode && is_own self.now.durable round) }

@@ -5,7 +5,7 @@ ghost use Rattle.cx_model.specs.Leader.{nack_row, match_nack_row, leader_rules};
 ghost use Rattle.cx_role.specs.Role.{Replies};
 
 use crate::Leader;
-use crate::matching::later;
+use crate::entries::later;
 use crate::rounds::{is_same, round_of};
 use cx_base::{Round, Why};
 use cx_model::Mode;

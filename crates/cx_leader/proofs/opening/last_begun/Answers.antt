@@ -6,7 +6,7 @@ use Rattle.std.specs.Prelude.{◌==◌}
 use Rattle.cx_field.specs.Fields as field
 use Rattle.cx_msg.specs.Records.{kept_record}
 use Rattle.cx_phase1.proofs.Walks.{next_left}
-use Rattle.cx_leader.proofs.leader.last_begun.Goals as goal
+use Rattle.cx_leader.proofs.opening.last_begun.Goals as goal
 
 pub loop-index-preserved : goal.loop-index-preserved
 unfolding kept_record

@@ -1,5 +1,5 @@
 use Rattle.std.proofs.Common.{length}
-use Rattle.cx_leader.proofs.matching.+watermark.Given as goal
+use Rattle.cx_leader.proofs.entries.+watermark.Given as goal
 
 abbrev pub decreases-watermark : goal.decreases-watermark
 decreases-watermark l = length l.told.now

@@ -4,7 +4,7 @@ use Rattle.cx_keeper.specs.Keeper.{all_fit}
 use Rattle.cx_model.specs.Leader.{leader_rules}
 use Rattle.cx_model.specs.Rules.{folded_from, folded, refused_from, refused}
 use Rattle.cx_leader.specs.State.{own_fits}
-use Rattle.cx_leader.proofs.leader.last_begun.Given as goal
+use Rattle.cx_leader.proofs.opening.last_begun.Given as goal
 
 abbrev pub invariant-loop-index : goal.invariant-loop-index
 invariant-loop-index l = record {

@@ -5,7 +5,7 @@ use Rattle.cx_model.specs.Matched.{entries_told}
 use Rattle.cx_model.specs.Matchmaker.{entries_from}
 use Rattle.cx_phase1.proofs.Walks.{carried_out}
 use Rattle.cx_leader.proofs.MatchLaws.{entries_from-push}
-use Rattle.cx_leader.proofs.matching.live_entries.Goals as goal
+use Rattle.cx_leader.proofs.entries.live_entries.Goals as goal
 
 pub returns : goal.returns
 returns c =

@@ -1,6 +1,6 @@
 use Rattle.std.proofs.Common.{◌≡◌, ◌++◌, drop}
 use Rattle.cx_model.specs.Matchmaker.{entries_from}
-use Rattle.cx_leader.proofs.matching.add_live.Given as goal
+use Rattle.cx_leader.proofs.entries.add_live.Given as goal
 
 abbrev pub invariant-loop-entry : goal.invariant-loop-entry
 invariant-loop-entry l = l.live.items ++ entries_from l.watermark (drop l.entry-index l.entries) ≡ l.fn.live.items ++ entries_from l.watermark l.entries
