@@ -1,10 +1,9 @@
 -- The keys of a header.
-use Rattle.std.specs.Prelude.{ℕ, List, Bool, codes}
+use Rattle.std.specs.Prelude.{ℕ, List, [], ◌∷◌, Bool, codes}
 use Rattle.std.specs.List.{list_any}
 use Rattle.std.specs.Str.{bytes_eq}
 use Rattle.cx_cluster.specs.declared.key.ClusterKey.{ClusterKey}
 use Rattle.cx_cluster.specs.declared.key.ClusterKey.TheVariants.{F, Leaders, Proxies, Acceptors, Replicas, Batchers, Unbatchers, Readers, Clients, Batch, BasePort}
-use Rattle.cx_cluster.specs.declared.key.TheConstants.{KEYS}
 
 -- how a key is written
 abbrev pub key_name : ClusterKey → List ℕ
@@ -20,6 +19,9 @@ key_name Clients = codes "clients"
 key_name Batch = codes "batch"
 key_name BasePort = codes "base_port"
 
+abbrev pub all_keys : List ClusterKey
+all_keys = F ∷ Leaders ∷ Proxies ∷ Acceptors ∷ Replicas ∷ Batchers ∷ Unbatchers ∷ Readers ∷ Clients ∷ Batch ∷ BasePort ∷ []
+
 -- whether a text is a key of a header
 abbrev pub is_key : List ℕ → Bool
-is_key text = list_any (λ key. bytes_eq (key_name key) text) KEYS
+is_key text = list_any (λ key. bytes_eq (key_name key) text) all_keys

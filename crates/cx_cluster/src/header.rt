@@ -4,7 +4,7 @@ ghost use Rattle.std.specs.Prelude.{◌≡◌, ◌≢◌, option_map, string_byt
 ghost use Rattle.std.specs.Option.{option_copied};
 ghost use Rattle.std.specs.BTreeMap.{keys, IsOrdered};
 ghost use Rattle.std.specs.String.{string_cmp};
-ghost use Rattle.cx_cluster.specs.Reading.{IsNumber, ranged, number_of, number_at, port_of, port_at, cluster_at, header_cluster};
+ghost use Rattle.cx_cluster.specs.Reading.{IsNumber, ranged, number_of, number_at, port_at, cluster_at, header_cluster};
 ghost use Rattle.cx_cluster.specs.declared.fault.ClusterFault.TheVariants.{NoMemory, Unknown};
 ghost use Rattle.cx_cluster.specs.Keys.{key_name, is_key};
 ghost use Rattle.toml.specs.Data.{get_member};

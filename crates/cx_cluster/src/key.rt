@@ -19,7 +19,6 @@ pub enum ClusterKey {
     BasePort,
 }
 
-/// The keys, in the order in which their faults are told.
 const KEYS: [ClusterKey; 11] = [
     ClusterKey::F,
     ClusterKey::Leaders,

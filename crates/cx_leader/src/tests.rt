@@ -1,9 +1,11 @@
 //! A leader's rows over the worked schedules, with the bodies of the datagrams that it takes.
 
-ghost use Rattle.std.specs.Prelude.{◌<◌};
+ghost use Rattle.std.specs.Prelude.{◌<◌, IsTrue};
+ghost use Rattle.cx_msg.specs.Records.{fits};
 
 use crate::Leader;
 use cx_base::{Cluster, Cut, Grid, Kind, Order, RoleId, Round, Why};
+use cx_field::grid_fits;
 use cx_keeper::{Keeper, MemKeeper};
 use cx_msg::{Datagram, Record, decode, encode_into};
 use cx_role::{Outbox, Role, WakeFault};
@@ -437,6 +439,20 @@ const MATCHED: [(Step, Why, usize); 2] = [
     (Step::Take(MATCH_B, 0, &ALONE), Why::Leads, 1),
 ];
 
+// Leader 0 began the last round that it can lead.
+#[tactic(auto, unfolding(cx_field::specs::Fields::round, cx_wire::specs::Format::u16, cx_wire::specs::Format::u32))]
+fn last_round(grid: Grid) -> Record
+    ensures { IsTrue (fits result) }
+{
+    grid_fits(&grid);
+    let round = Round {
+        r: 4_294_967_295,
+        id: 0,
+        s: 0,
+    };
+    Record::Round { round, grid }
+}
+
 // The window has 32 slots, and rounds end.
 #[test]
 fn ends(rt: HostRuntime) -> Result<(), Fail> {
@@ -453,14 +469,7 @@ fn ends(rt: HostRuntime) -> Result<(), Fail> {
         bench.given(&Step::Take(BATCH, 0, &COMMAND)),
         Some(Why::Window)
     );
-    let last = Record::Round {
-        round: Round {
-            r: 4_294_967_295,
-            id: 0,
-            s: 0,
-        },
-        grid: Grid::new(1, 1, &[0])?,
-    };
+    let last = last_round(Grid::new(1, 1, &[0])?);
     bench.leader = Leader::open(alloc, &TWO, RoleId::new(Kind::Leader, 0), &[last])?;
     assert_eq!(rt; bench.given(&Step::Lead(0)), Some(Why::End));
     Ok(())

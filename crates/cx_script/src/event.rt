@@ -3,9 +3,9 @@
 ghost use Rattle.std.specs.Prelude.{◌≡◌};
 ghost use Rattle.cx_script.specs.Grammar.{write_event, read_event, deliver_event, round_of, collect_event, server_of, event_of, line_event};
 
-use crate::blank::first_word;
 use crate::fault::LineFault;
 use crate::place::is;
+use crate::split::first_word;
 use crate::words::Words;
 use cx_base::{Cluster, Command, Cut, Event, Grid, Kind, Order, RoleId};
 

@@ -1,6 +1,6 @@
 //! Events made from a seed.
 
-ghost use Rattle.std.specs.Prelude.{◌≡◌, ◌<◌, ◌^◌, ◌-◌, ◌*◌, ◌+◌, ◌%◌, Ok};
+ghost use Rattle.std.specs.Prelude.{◌≡◌, ◌<◌, ◌^◌, ◌+◌};
 ghost use Rattle.cx_script.specs.Generator.{gen_cluster, gen_server, gen_grid, gen_number, gen_cut, gen_key, gen_text, gen_op, gen_event, later_event, next_number, drawn};
 
 use cx_base::{Cluster, Command, Cut, Event, Grid, Key, Kind, Op, Order, RoleId, Text};
@@ -105,6 +105,17 @@ fn op(c: u64, d: u64) -> Op
     }
 }
 
+fn ordered(leader: u16, order: Order) -> Event
+    ensures { result ≡ Event.Order leader order Cut.Whole }
+{
+    Event::Order {
+        leader,
+        order,
+        cut: Cut::Whole,
+    }
+}
+
+// An event after the first, by what is left of the first draw over 100.
 fn later_event(made: u64, sent: u64, a: u64, b: u64, c: u64, d: u64) -> Event
     requires { made + 1 < 2 ^ 64 }
     ensures { result ≡ later_event made sent a b c d }
@@ -133,21 +144,9 @@ fn later_event(made: u64, sent: u64, a: u64, b: u64, c: u64, d: u64) -> Event
             key: key(c),
         },
         82..=90 => Event::Tick(server(b)),
-        91 => Event::Order {
-            leader,
-            order: Order::Lead(grid(c)),
-            cut: Cut::Whole,
-        },
-        92 => Event::Order {
-            leader,
-            order: Order::Change(grid(c)),
-            cut: Cut::Whole,
-        },
-        93 => Event::Order {
-            leader,
-            order: Order::Collect,
-            cut: Cut::Whole,
-        },
+        91 => ordered(leader, Order::Lead(grid(c))),
+        92 => ordered(leader, Order::Change(grid(c))),
+        93 => ordered(leader, Order::Collect),
         94 => Event::Crash(server(b)),
         _ => Event::Restart(server(b)),
     }
@@ -159,11 +158,7 @@ fn event(made: u64, sent: u64, a: u64, b: u64, c: u64, d: u64) -> Event
     ensures { result ≡ gen_event made sent a b c d }
 {
     if made == 0 {
-        return Event::Order {
-            leader: 0,
-            order: Order::Lead(grid(0)),
-            cut: Cut::Whole,
-        };
+        return ordered(0, Order::Lead(grid(0)));
     }
     later_event(made, sent, a % 100, b, c, d)
 }

@@ -1,17 +1,15 @@
 //! A grid in two words: its sides, then its members.
 
-ghost use Rattle.std.specs.Prelude.{◌≡◌, ◌<◌, length, Some, IfSome, MatchOption};
+ghost use Rattle.std.specs.Prelude.{◌≡◌, ◌==◌, ◌<◌, length, Some, IfSome, MatchOption};
 ghost use Rattle.std.specs.List.{slice_split};
-ghost use Rattle.std.specs.Prelude.{◌==◌};
 ghost use Rattle.cx_script.specs.Places.{sides_of, sides_word, ids_of, members_word};
 
-use crate::blank::{first_part, parted};
-use crate::count::count_of;
 use crate::fault::LineFault;
 use crate::number::number;
 use crate::place::index_below;
+use crate::split::{first_part, parted};
 use arrayvec::ArrayVec;
-use cx_base::{Cluster, Grid, Kind, MEMBERS};
+use cx_base::{Cluster, Grid, MEMBERS};
 
 fn sides_of(rows: u64, cols: u64) -> Option<(u8, u8)>
     ensures { result ≡ sides_of (Some rows) (Some cols) }

@@ -3,9 +3,9 @@
 ghost use Rattle.std.specs.Prelude.{◌≡◌, IfOk, option_map};
 ghost use Rattle.cx_script.specs.Header.{is_rule, header_of};
 
-use crate::blank::{first_part, or_empty};
 use crate::lines::without_return;
 use crate::place::is;
+use crate::split::{first_part, or_empty};
 use cx_base::NoMemory;
 use std::alloc::Global;
 

@@ -11,7 +11,6 @@
 //! to the last line feed.
 #![tactic(auto)]
 
-mod blank;
 mod count;
 mod event;
 mod fault;
@@ -22,6 +21,7 @@ mod law;
 mod lines;
 mod number;
 mod place;
+mod split;
 #[cfg(test)]
 mod tests;
 mod words;

@@ -4,8 +4,8 @@ ghost use Rattle.std.specs.Prelude.{◌≡◌, ◌∷◌, ◌++◌, ◌<◌, [],
 ghost use Rattle.std.specs.Str.Lines.{strip_carriage_return};
 ghost use Rattle.cx_script.specs.Lines.{lines_of, schedule_of};
 
-use crate::blank::{first_part, or_empty};
 use crate::event::line;
+use crate::split::{first_part, or_empty};
 use cx_base::{Cluster, Event, NoMemory};
 use std::alloc::Global;
 use std::marker::Model;

@@ -1,13 +1,13 @@
 //! What a word says in its place.
 
-ghost use Rattle.std.specs.Prelude.{◌≡◌, ◌*◌, ◌≤◌, IfSome};
+ghost use Rattle.std.specs.Prelude.{◌≡◌};
 ghost use Rattle.std.specs.Str.{bytes_eq};
-ghost use Rattle.cx_script.specs.Places.{seq_word, number_word, key_word, text_word, index_below, index_word, server_kind, server_word, sides_word, sides_of, below};
+ghost use Rattle.cx_script.specs.Places.{seq_word, number_word, key_word, text_word, index_below, index_word, server_kind, server_word};
 
-use crate::blank::parted;
 use crate::count::count_of;
 use crate::fault::LineFault;
 use crate::number::number;
+use crate::split::parted;
 use cx_base::{Cluster, Key, Kind, RoleId, Text};
 
 /// Whether a word is a text.

@@ -6,10 +6,10 @@ ghost use Rattle.cx_script.specs.Grammar.{next, grid_at, op_at, ended, cut_at};
 ghost use Rattle.cx_script.specs.Places.{seq_word, number_word, key_word, text_word, index_word, server_word};
 ghost use Rattle.cx_script.specs.Reading.{Reads};
 
-use crate::blank::first_word;
 use crate::fault::LineFault;
 use crate::grid::{members_word, sides_word};
 use crate::place::{index_word, is, key_word, number_word, seq_word, server_word, text_word};
+use crate::split::first_word;
 use cx_base::{Cluster, Cut, Grid, Key, Kind, Op, RoleId, Text};
 use std::marker::Model;
 

@@ -1,7 +1,7 @@
 use Rattle.std.proofs.Common.{◌==◌, ◌+◌, sym}
 use Rattle.std.proofs.lemmas.List.{take_rest}
 use Rattle.cx_script.proofs.Cuts.{split_none, split_some}
-use Rattle.cx_script.proofs.blank.first_part.Goals as goal
+use Rattle.cx_script.proofs.split.first_part.Goals as goal
 
 pub returns-in-Some-clause-parts : goal.returns-in-Some-clause-parts
 returns-in-Some-clause-parts c =

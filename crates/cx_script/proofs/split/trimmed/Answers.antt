@@ -4,7 +4,7 @@ use Rattle.std.proofs.lemmas.List.{take_rest, length-drop}
 use Rattle.std.proofs.lemmas.List.Quantifiers.{position-Some}
 use Rattle.cx_script.proofs.Splitting.{from_start, of_blanks}
 use Rattle.cx_script.specs.Words.{is_blank}
-use Rattle.cx_script.proofs.blank.trimmed.Goals as goal
+use Rattle.cx_script.proofs.split.trimmed.Goals as goal
 
 pub returns-in_err-start-clause-none : goal.returns-in_err-start-clause-none
 returns-in_err-start-clause-none c = rw c.from_residual.ensures (of_blanks c.args.line.now (sym c.in_err-start.ensures))

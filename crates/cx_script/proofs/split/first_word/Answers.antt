@@ -1,7 +1,7 @@
 use Rattle.std.proofs.Common.{◌∙◌, sym}
 use Rattle.std.proofs.lemmas.List.{take_rest}
 use Rattle.cx_script.proofs.Splitting.{before_blank, without_blank}
-use Rattle.cx_script.proofs.blank.first_word.Goals as goal
+use Rattle.cx_script.proofs.split.first_word.Goals as goal
 
 pub returns-in-Some-clause-some : goal.returns-in-Some-clause-some
 returns-in-Some-clause-some c =
