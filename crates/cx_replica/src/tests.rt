@@ -1,9 +1,12 @@
 //! A replica's rows, with the datagrams that it takes as bytes.
 
+ghost use Rattle.std.specs.Prelude.{IsTrue};
+ghost use Rattle.cx_keeper.specs.Keeper.{all_fit};
+
 use crate::Replica;
 use cx_base::{Cluster, Cut, Kind, Order, Reply, RoleId, Why};
 use cx_keeper::{Keeper, MemKeeper};
-use cx_msg::{Msg, decode};
+use cx_msg::{Msg, Record, decode};
 use cx_role::{Outbox, Role, WakeFault};
 use std::alloc::Global;
 use std::test::Fail;
@@ -35,6 +38,22 @@ const WITHOUT_CLIENT_1: Cluster = Cluster {
     batch: 1,
     base_port: None,
 };
+
+// Replica 1 as these records leave it.
+fn opened(alloc: Global, records: &[Record]) -> Result<Replica, WakeFault>
+    requires { IsTrue (all_fit records.now) }
+{
+    Replica::open(alloc, &CLUSTER, RoleId::new(Kind::Replica, 1), records)
+}
+
+// Whether the first of these records is refused where there is no client 1.
+fn is_refused(alloc: Global, records: &[Record]) -> bool
+    requires { IsTrue (all_fit records.now) }
+{
+    let me = RoleId::new(Kind::Replica, 1);
+    let opened = Replica::open(alloc, &WITHOUT_CLIENT_1, me, records);
+    matches!(opened, Err(WakeFault::Record { index: 0 }))
+}
 
 // Nothing to do is chosen for the slot; told to this replica.
 fn noop(replica: u8, slot: u8) -> [u8; 21] {
@@ -201,7 +220,7 @@ fn answers_reads(rt: HostRuntime) -> Result<(), Fail> {
     let alloc = rt.alloc();
     let mut bench = Bench {
         alloc,
-        replica: Replica::open(alloc, &CLUSTER, RoleId::new(Kind::Replica, 1), &[])?,
+        replica: opened(alloc, &[])?,
         keeper: MemKeeper::new(alloc),
         out: Outbox::new(alloc),
     };
@@ -232,10 +251,9 @@ fn answers_reads(rt: HostRuntime) -> Result<(), Fail> {
 #[test]
 fn applies(rt: HostRuntime) -> Result<(), Fail> {
     let alloc = rt.alloc();
-    let me = RoleId::new(Kind::Replica, 1);
     let mut bench = Bench {
         alloc,
-        replica: Replica::open(alloc, &CLUSTER, me, &[])?,
+        replica: opened(alloc, &[])?,
         keeper: MemKeeper::new(alloc),
         out: Outbox::new(alloc),
     };
@@ -258,12 +276,11 @@ fn applies(rt: HostRuntime) -> Result<(), Fail> {
     assert_eq!(rt; bench.out.len(), 0);
     let records = bench.keeper.recover()?;
     assert_eq!(rt; records.len(), 7);
-    bench.replica = Replica::open(alloc, &CLUSTER, me, &records)?;
+    bench.replica = opened(alloc, &records)?;
     bench.keeper.cut(Cut::Whole);
     assert_eq!(rt; bench.step(&Step::Noop(1, 8)), Some(Why::Applied));
     assert_eq!(rt; bench.step(&Step::Command(9, 10)), Some(Why::Applied));
     assert_eq!(rt; bench.told(), Some((0, 9, 10, 8, 2)));
-    let refused = Replica::open(alloc, &WITHOUT_CLIENT_1, me, &records);
-    assert!(rt; matches!(refused, Err(WakeFault::Record { index: 0 })));
+    assert!(rt; is_refused(alloc, &records));
     Ok(())
 }
