@@ -1,0 +1,168 @@
+-- The facts that hold at every moment of every run, and from which agreement follows.
+use Rattle.std.specs.Prelude.{◌≡◌, ◌⊎◌, ℕ, ◌+◌, ◌*◌, ◌<◌, ◌≤◌, true, false, List, [], ◌∷◌, length, slice_get, Option, None, Some}
+use Rattle.cx_base.specs.declared.cluster.Cluster.{Cluster}
+use Rattle.cx_base.specs.declared.command.Placed.{Placed}
+use Rattle.cx_base.specs.declared.command.Value.{Value}
+use Rattle.cx_base.specs.declared.role.Kind.TheVariants as kind
+use Rattle.cx_base.specs.declared.role.RoleId.{RoleId}
+use Rattle.cx_base.specs.declared.round.Round.{Round}
+use Rattle.cx_base.specs.Grid.{Shape}
+use Rattle.cx_base.specs.Role.{role}
+use Rattle.cx_base.specs.Round.{is_before, no_round}
+use Rattle.cx_field.specs.declared.parts.Entry.{Entry}
+use Rattle.cx_field.specs.declared.parts.Vote.{Vote}
+use Rattle.cx_msg.specs.Letter.{Letter, letter}
+use Rattle.cx_msg.specs.declared.input.KeptRecord.{KeptRecord}
+use Rattle.cx_msg.specs.declared.kept.Record.TheVariants as kept
+use Rattle.cx_msg.specs.declared.message.Msg.{Msg}
+use Rattle.cx_msg.specs.declared.message.Msg.TheVariants as msg
+use Rattle.cx_model.specs.declared.states.MatchAnswer.{MatchAnswer}
+use Rattle.cx_model.specs.declared.states.Mode.{Mode}
+use Rattle.cx_model.specs.declared.states.Mode.TheVariants.{Idle, Matching, Phase1, Leading}
+use Rattle.cx_model.specs.declared.states.Pending.{Pending}
+use Rattle.cx_model.specs.declared.states.Promised.{Promised}
+use Rattle.cx_model.specs.declared.states.Stage.{Stage}
+use Rattle.cx_model.specs.declared.states.Stage.TheVariants.{Off, Informing, Collecting, Retired}
+use Rattle.cx_model.specs.Acceptor.{AcceptorDurable, acceptor_rules}
+use Rattle.cx_model.specs.Collection.{Collection}
+use Rattle.cx_model.specs.Facts.{HasVoted, IsProposed, IsRetiring, LeaderWasTold, ProxyWasTold, BatcherWasTold, ReplicaWasTold, ReaderWasTold}
+use Rattle.cx_model.specs.Leader.{LeaderVolatile, leader_rules, round_of}
+use Rattle.cx_model.specs.Matched.{matchmakers, enough}
+use Rattle.cx_model.specs.Matchmaker.{MatchmakerDurable, matchmaker_rules, entry}
+use Rattle.cx_model.specs.Member.{Member}
+use Rattle.cx_model.specs.Promises.{HasKept, IsConfig}
+use Rattle.cx_model.specs.Proxy.{ProxyVolatile}
+use Rattle.cx_model.specs.Replica.{replica_rules}
+use Rattle.cx_inv_run.specs.States.{State, Down, Plain, BatcherIn, LeaderIn, ProxyIn, ReplicaIn, ReaderIn, durable_of}
+use Rattle.cx_inv_match.specs.Words.{HasMatch, HasGarbage, HasLog, HasMark, HasPromise, HasLow, IsChosenIn, IsChosen, IsMatched, IsSafe, IsCollected, IsAnswer, IsPromise}
+
+-- What each kind of datagram says of the history. A kind that isn't named says nothing here.
+abbrev pub Says : Cluster → List KeptRecord → List Letter → RoleId → Msg → Type 0
+Says c history sent from (msg.Leads i) = IsMatched c history i
+Says c history sent from (msg.MatchA i g) = IsConfig history i g
+Says c history sent from (msg.MatchB i w entries) = IsAnswer c history from i w entries
+Says c history sent from (msg.Phase1B i cw votes) = IsPromise history from i cw votes
+Says c history sent from (msg.Propose i g s cw v) = IsConfig history i g × IsMatched c history i × IsSafe c history i s v × (cw ≤ s)
+Says c history sent from (msg.Phase2A i s cw v) = IsProposed sent i s v × (cw ≤ s)
+Says c history sent from (msg.Phase2B i s) = (v : Value) × HasVoted history from i s v
+Says c history sent from (msg.Chosen s v) = IsChosen history s v
+Says c history sent from (msg.ChosenIn i s) = (v : Value) × IsChosenIn history i s v
+Says c history sent from (msg.Informed i n) = HasLow history from i n
+Says c history sent from (msg.GarbageA i g) = IsConfig history i g × IsCollected c history i
+Says c history sent from other = Unit {0}
+
+-- No sender was counted twice.
+abbrev pub AreOnce : List ℕ → Type 0
+AreOnce [] = Unit {0}
+AreOnce (n ∷ ns) = (Member n ns → ⊥) × AreOnce ns
+
+-- the matchmakers that answered, in the order of counting
+abbrev pub told_by : List MatchAnswer → List ℕ
+told_by [] = []
+told_by (a ∷ told) = a.matchmaker ∷ told_by told
+
+-- a leader before the end of its first phase: nothing of its round was proposed, and nobody was asked to forget earlier ones for it
+pub record IsMatching (c : Cluster) (sent : List Letter) (own : Entry) (v : LeaderVolatile) : Type 0 where
+  pub unproposed : (s : ℕ) (u : Value) → IsProposed sent own.round s u → ⊥
+  pub unended : IsRetiring sent own.round → ⊥
+  pub once : AreOnce (told_by v.told)
+  pub known : (m : ℕ) → Member m (told_by v.told) → m < 2 * c.f + 1
+
+-- how far retiring is
+pub record IsInforming (history : List KeptRecord) (own : Entry) (end : ℕ) (k : Collection) : Type 0 where
+  pub chosen : (s : ℕ) → k.mark ≤ s → s < end → (u : Value) × IsChosenIn history own.round s u
+  pub lows : (a : ℕ) → Member a k.counted → HasLow history (role kind.Acceptor a) own.round k.mark
+
+abbrev pub InStage : Cluster → List KeptRecord → Entry → ℕ → Collection → Stage → Type 0
+InStage c history own end k Off = Unit {0}
+InStage c history own end k Informing = IsInforming history own end k
+InStage c history own end k Collecting = IsCollected c history own.round
+InStage c history own end k Retired = Unit {0}
+
+pub record IsLeading (c : Cluster) (history : List KeptRecord) (sent : List Letter) (own : Entry) (v : LeaderVolatile) : Type 0 where
+  pub config : IsConfig history own.round own.grid
+  pub matched : IsMatched c history own.round
+  -- what was proposed in the round lies below the next slot, and from the watermark on it is remembered, one value a slot
+  pub below_next : (s : ℕ) (u : Value) → IsProposed sent own.round s u → s < v.next
+  pub remembered : (s : ℕ) (u : Value) → IsProposed sent own.round s u → (s < v.cw) ⊎ Member {X = Placed} (record { slot = s; value = u }) v.proposed
+  pub once : (s : ℕ) (u w : Value) → Member {X = Placed} (record { slot = s; value = u }) v.proposed → Member {X = Placed} (record { slot = s; value = w }) v.proposed → u ≡ w
+  pub window : (p : Placed) → Member p v.proposed → (v.cw ≤ p.slot) × (p.slot < v.next)
+  pub safe : (p : Placed) → Member p v.proposed → IsSafe c history own.round p.slot p.value
+  -- from the end of its first phase on any value is safe, and the next slot is not before that
+  pub free : (s : ℕ) (u : Value) → v.end ≤ s → IsSafe c history own.round s u
+  pub end_next : v.end ≤ v.next
+  pub cw_next : v.cw ≤ v.next
+  pub known : (s : ℕ) → Member s v.chosen → (u : Value) × IsChosenIn history own.round s u
+  pub stage : InStage c history own v.end v.collection v.collection.stage
+
+-- the record by which a leader asks the matchmakers is kept before
+abbrev pub InMode : Cluster → List KeptRecord → List Letter → Option Entry → LeaderVolatile → Mode → Type 0
+InMode c history sent None v mode = Unit {0}
+InMode c history sent (Some own) v Idle = Unit {0}
+InMode c history sent (Some own) v Matching = IsMatching c sent own v
+InMode c history sent (Some own) v Phase1 = IsMatching c sent own v × (c.f < length v.told)
+InMode c history sent (Some own) v Leading = IsLeading c history sent own v
+
+pub record IsPending (history : List KeptRecord) (sent : List Letter) (p : Pending) : Type 0 where
+  pub config : IsConfig history p.round p.grid
+  pub marks : (a : ℕ) → Member a p.marks → HasVoted history (role kind.Acceptor a) p.round p.slot p.value
+  pub done : p.done ≡ true → IsChosenIn history p.round p.slot p.value
+  pub window : p.cw ≤ p.slot
+
+-- What is known of a running role: what it counted, holds pending or was told came to it in datagrams, and what else its rows rest on.
+abbrev pub InState : Cluster → List KeptRecord → List Letter → RoleId → State → Type 0
+InState c history sent me Down = Unit {0}
+InState c history sent me Plain = Unit {0}
+InState c history sent me (BatcherIn v) = BatcherWasTold sent me v
+InState c history sent me (LeaderIn v) =
+    LeaderWasTold sent me (round_of (durable_of leader_rules me history).own) v × InMode c history sent (durable_of leader_rules me history).own v v.mode
+InState c history sent me (ProxyIn v) = ProxyWasTold sent me v × ((p : Pending) → Member p v.pending → IsPending history sent p)
+InState c history sent me (ReplicaIn v) = ReplicaWasTold sent me v
+InState c history sent me (ReaderIn v) = ReaderWasTold sent me v
+
+-- an acceptor is what its records say
+pub record IsAcceptor (history : List KeptRecord) (a : RoleId) (d : AcceptorDurable) : Type 0 where
+  pub bound : (i : Round) → HasPromise history a i → is_before d.promise i ≡ false
+  pub promised : (j : Round) → is_before j d.promise ≡ true → HasPromise history a d.promise
+  pub last : (j : Round) (s : ℕ) (v : Value) → d.cw ≤ s → HasVoted history a j s v
+      → (u : Vote) × Member u d.votes × (u.slot ≡ s) × (is_before u.round j ≡ false)
+  pub only : (u : Vote) → Member u d.votes → HasVoted history a u.round u.slot u.value × (d.cw ≤ u.slot)
+  pub mark : (j : Round) (n : ℕ) → HasMark history a j n → n ≤ d.cw
+  pub low : (d.cw ≡ 0) ⊎ ((j : Round) × HasMark history a j d.cw)
+  pub top : (j : Round) (s : ℕ) (v : Value) → HasVoted history a j s v → s < d.top
+
+-- so is a matchmaker
+pub record IsLog (history : List KeptRecord) (m : RoleId) (d : MatchmakerDurable) : Type 0 where
+  pub all : (j : Round) (g : Shape) → is_before j d.watermark ≡ false → HasMatch history m j g → Member (entry j g) d.entries
+  pub only : (e : Entry) → Member e d.entries → HasMatch history m e.round e.grid ⊎ HasGarbage history m e.round e.grid
+  pub from_watermark : (e : Entry) → Member e d.entries → is_before e.round d.watermark ≡ false
+  pub bound : (j : Round) (g : Shape) → HasGarbage history m j g → is_before d.watermark j ≡ false
+  pub raised : ((d.watermark ≡ no_round) × ((j : Round) (g : Shape) → HasGarbage history m j g → ⊥))
+      ⊎ (((g : Shape) × HasGarbage history m d.watermark g) × ((g : Shape) × Member (entry d.watermark g) d.entries))
+
+-- of a leader's rounds none is above its last, and its last was kept
+abbrev pub IsLast : List KeptRecord → RoleId → Option Entry → Type 0
+IsLast history me None = (i : Round) (g : Shape) → HasKept history me (kept.Round i g) → ⊥
+IsLast history me (Some own) =
+    HasKept history me (kept.Round own.round own.grid)
+    × ((i : Round) (g : Shape) → HasKept history me (kept.Round i g) → is_before own.round i ≡ false)
+
+pub record Facts (c : Cluster) (history : List KeptRecord) (sent : List Letter) (states : RoleId → State) : Type 0 where
+  -- a round's record is kept by the leader that it names, with one grid
+  pub owner : (me : RoleId) (i : Round) (g : Shape) → HasKept history me (kept.Round i g) → me ≡ role kind.Leader i.id
+  pub one_grid : (i : Round) (g h : Shape) → IsConfig history i g → IsConfig history i h → g ≡ h
+  pub last : (me : RoleId) → IsLast history me (durable_of leader_rules me history).own
+  -- a matchmaker records only what was kept, and forgets only for what may be collected
+  pub asked : (m : RoleId) (i : Round) (g : Shape) → HasMatch history m i g → IsConfig history i g
+  pub garbaged : (m : RoleId) (i : Round) (g : Shape) → HasGarbage history m i g → IsConfig history i g × IsCollected c history i × IsRetiring sent i
+  pub logs : (m : RoleId) → IsLog history m (durable_of matchmaker_rules m history)
+  pub acceptors : (a : RoleId) → IsAcceptor history a (durable_of acceptor_rules a history)
+  -- each vote was proposed, and one value for each round and slot
+  pub voted : (a : RoleId) (i : Round) (s : ℕ) (v : Value) → HasVoted history a i s v → IsProposed sent i s v
+  pub one_value : (i : Round) (s : ℕ) (u v : Value) → IsProposed sent i s u → IsProposed sent i s v → u ≡ v
+  -- each value that a replica kept is chosen in its slot
+  pub logged : (p : RoleId) (s : ℕ) (v : Value) → slice_get (durable_of replica_rules p history).log s ≡ Some v → IsChosen history s v
+  -- each datagram says what is so
+  pub says : (d : Letter) → Member d sent → Says c history sent d.from d.msg
+  -- and so does what a running role knows
+  pub running : (me : RoleId) → InState c history sent me (states me)

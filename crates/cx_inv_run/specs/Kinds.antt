@@ -1,0 +1,76 @@
+-- Which kind of role sends each kind of datagram, and keeps each kind of record.
+use Rattle.std.specs.Prelude.{◌≡◌, ◌⊎◌, List, Option, None, Some}
+use Rattle.cx_base.specs.declared.cluster.Cluster.{Cluster}
+use Rattle.cx_base.specs.declared.event.Event.{Event}
+use Rattle.cx_base.specs.declared.role.Kind.{Kind}
+use Rattle.cx_base.specs.declared.role.Kind.TheVariants as kind
+use Rattle.cx_base.specs.declared.role.RoleId.{RoleId}
+use Rattle.cx_msg.specs.Letter.{Letter}
+use Rattle.cx_msg.specs.declared.input.KeptRecord.{KeptRecord}
+use Rattle.cx_msg.specs.declared.kept.Record.{Record}
+use Rattle.cx_msg.specs.declared.kept.Record.TheVariants as kept
+use Rattle.cx_msg.specs.declared.message.Msg.{Msg}
+use Rattle.cx_msg.specs.declared.message.Msg.TheVariants as msg
+use Rattle.cx_model.specs.Member.{Member}
+use Rattle.cx_model.specs.Outcome.{Outcome}
+use Rattle.cx_model.specs.World.{run}
+use Rattle.cx_inv_run.specs.States.{State}
+
+abbrev pub IsSender : Kind → Msg → Type 0
+IsSender k (msg.Submit command) = k ≡ kind.Client
+IsSender k (msg.Batch commands) = k ≡ kind.Batcher
+IsSender k (msg.Leads i) = k ≡ kind.Leader
+IsSender k (msg.MatchA i g) = k ≡ kind.Leader
+IsSender k (msg.MatchB i w entries) = k ≡ kind.Matchmaker
+IsSender k (msg.MatchNack i reason other) = k ≡ kind.Matchmaker
+IsSender k (msg.Phase1A i) = k ≡ kind.Leader
+IsSender k (msg.Phase1B i cw votes) = k ≡ kind.Acceptor
+IsSender k (msg.Nack i promise) = k ≡ kind.Acceptor
+IsSender k (msg.Propose i g s cw v) = k ≡ kind.Leader
+IsSender k (msg.Phase2A i s cw v) = k ≡ kind.Proxy
+IsSender k (msg.Phase2B i s) = k ≡ kind.Acceptor
+IsSender k (msg.Chosen s v) = (k ≡ kind.Proxy) ⊎ (k ≡ kind.Replica)
+IsSender k (msg.ChosenIn i s) = k ≡ kind.Proxy
+IsSender k (msg.Results s answers) = k ≡ kind.Replica
+IsSender k (msg.Answer seq at reply) = k ≡ kind.Unbatcher
+IsSender k (msg.Held n) = k ≡ kind.Replica
+IsSender k (msg.Fetch s) = k ≡ kind.Replica
+IsSender k (msg.Inform i cw) = k ≡ kind.Leader
+IsSender k (msg.Informed i cw) = k ≡ kind.Acceptor
+IsSender k (msg.GarbageA i g) = k ≡ kind.Leader
+IsSender k (msg.GarbageB i) = k ≡ kind.Matchmaker
+IsSender k (msg.ReadReq seq replica key) = k ≡ kind.Client
+IsSender k (msg.MatchRead t) = k ≡ kind.Reader
+IsSender k (msg.MatchReadAck t w entries) = k ≡ kind.Matchmaker
+IsSender k (msg.PreRead t w) = k ≡ kind.Reader
+IsSender k (msg.PreReadAck t w n) = k ≡ kind.Acceptor
+IsSender k (msg.Read t n key) = k ≡ kind.Reader
+IsSender k (msg.ReadAnswer seq n found) = k ≡ kind.Replica
+
+abbrev pub IsKeeper : Kind → Record → Type 0
+IsKeeper k (kept.Promise i) = k ≡ kind.Acceptor
+IsKeeper k (kept.Vote i s cw v) = k ≡ kind.Acceptor
+IsKeeper k (kept.Water i cw) = k ≡ kind.Acceptor
+IsKeeper k (kept.Match i g) = k ≡ kind.Matchmaker
+IsKeeper k (kept.Garbage i g) = k ≡ kind.Matchmaker
+IsKeeper k (kept.Round i g) = k ≡ kind.Leader
+IsKeeper k (kept.Log values) = k ≡ kind.Replica
+
+abbrev pub IsKept : Kind → Option Record → Type 0
+IsKept k None = Unit {0}
+IsKept k (Some r) = IsKeeper k r
+
+-- what a row sends is its own role's, and of its kind; so is the record that it keeps
+pub record OfKind {V : Type 0} (me : RoleId) (o : Outcome V) : Type 0 where
+  pub sends : (d : Letter) → Member d o.sends → (d.from ≡ me) × IsSender me.kind d.msg
+  pub keeps : IsKept me.kind o.kept
+
+-- every datagram and every record is of its role's kind
+pub record Kinds (history : List KeptRecord) (sent : List Letter) (states : RoleId → State) : Type 0 where
+  pub senders : (d : Letter) → Member d sent → IsSender d.from.kind d.msg
+  pub keepers : (k : KeptRecord) → Member k history → IsKeeper k.role.kind k.what
+
+-- it is so in every run
+pub record KindsLaw : Type 0 where
+  pub senders : (c : Cluster) (es : List Event) (d : Letter) → Member d (run c es).sent → IsSender d.from.kind d.msg
+  pub keepers : (c : Cluster) (es : List Event) (k : KeptRecord) → Member k (run c es).kept → IsKeeper k.role.kind k.what
