@@ -1,1 +1,3 @@
-
+pub mod Grow
+pub mod Parts
+pub mod Keep
