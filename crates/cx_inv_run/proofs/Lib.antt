@@ -1,2 +1,3 @@
 pub mod Members
 pub mod Rounds
+pub mod Histories
