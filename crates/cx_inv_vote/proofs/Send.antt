@@ -168,7 +168,7 @@ module _ (c : Cluster) (history : List KeptRecord) (sent : List Letter) (states 
       (leader_told sent ds a (round_of (durable_of leader_rules a history).own) v h.0, quiet_mode c history sent ds (durable_of leader_rules a history).own v v.mode (other_quiet a d (durable_of leader_rules a history).own (facts.last a)) h.1)
   other_running a d (ProxyIn v) h = (proxy_told sent ds a v h.0, λ p m. still_pending history sent ds p (h.1 p m))
   other_running a d (ReplicaIn v) h = replica_told sent ds a v h
-  other_running a d (ReaderIn v) h = reader_told sent ds a v h
+  other_running a d (ReaderIn v) h = (reader_told sent ds a v h.0, h.1)
 
   pub send : Facts c history (sent ++ ds) (set_state me s states)
   send = record {
