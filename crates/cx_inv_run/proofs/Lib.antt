@@ -1,1 +1,4 @@
-
+pub mod Members
+pub mod Rounds
+pub mod Histories
+pub mod Quorums
