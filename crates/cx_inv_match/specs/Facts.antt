@@ -63,10 +63,12 @@ abbrev pub told_by : List MatchAnswer → List ℕ
 told_by [] = []
 told_by (a ∷ told) = a.matchmaker ∷ told_by told
 
--- a leader before the end of its first phase: nothing of its round was proposed, and nobody was asked to forget earlier ones for it
+-- a leader before the end of its first phase: nothing of its round was proposed, nobody was asked to forget earlier ones for it, and it isn't
+-- retiring them
 pub record IsMatching (c : Cluster) (sent : List Letter) (own : Entry) (v : LeaderVolatile) : Type 0 where
   pub unproposed : (s : ℕ) (u : Value) → IsProposed sent own.round s u → ⊥
   pub unended : IsRetiring sent own.round → ⊥
+  pub off : v.collection.stage ≡ Off
   pub once : AreOnce (told_by v.told)
   pub known : (m : ℕ) → Member m (told_by v.told) → m < 2 * c.f + 1
 
