@@ -114,6 +114,7 @@ pub quiet_matching : (c : Cluster) (sent ds : List Letter) (own : Entry) (v : Le
 quiet_matching c sent ds own v q h = record {
   unproposed = λ s u x. elim (proposed_cases sent ds own.round s u x) [ inl y ↦ h.unproposed s u y | inr y ↦ q.0 s u y ];
   unended = λ x. elim (retiring_cases sent ds own.round x) [ inl y ↦ h.unended y | inr y ↦ q.1 y ];
+  off = h.off;
   once = h.once;
   known = h.known;
 }
@@ -194,16 +195,32 @@ module _ (c : Cluster) (history : List KeptRecord) (sent : List Letter) (states 
         (subst (λ st. InState c history sent a st) (state_other me a Down states e) (facts.running a))));
   }
 
--- a message that proposes nothing and ends no round
+-- Datagrams that propose nothing and end no round.
 abbrev pub QuietSends : List Letter → Type 0
 QuietSends ds = (d : Letter) → Member d ds → IsPlainMsg d.msg
 
--- the frame: these datagrams propose nothing and end no round
+pub quiet_round : (ds : List Letter) → QuietSends ds → (i : Round) → IsQuiet ds i
+quiet_round ds quiet i = (λ s v x. (quiet _ x.4).0 i x.2 s x.3 v refl, λ x. (quiet _ x.3).1 i x.2 refl)
+
+-- what a role knows stays so while they are sent
+pub still_state : (c : Cluster) (history : List KeptRecord) (sent ds : List Letter) → QuietSends ds → (me : RoleId) (s : State)
+    → InState c history sent me s → InState c history (sent ++ ds) me s
+still_state c history sent ds quiet me Down h = tt
+still_state c history sent ds quiet me Plain h = tt
+still_state c history sent ds quiet me (BatcherIn v) h = batcher_told sent ds me v h
+still_state c history sent ds quiet me (LeaderIn v) h =
+    (leader_told sent ds me (round_of (durable_of leader_rules me history).own) v h.0,
+      quiet_mode c history sent ds (durable_of leader_rules me history).own v v.mode (λ own e. quiet_round ds quiet own.round) h.1)
+still_state c history sent ds quiet me (ProxyIn v) h = (proxy_told sent ds me v h.0, λ p m. still_pending history sent ds p (h.1 p m))
+still_state c history sent ds quiet me (ReplicaIn v) h = replica_told sent ds me v h
+still_state c history sent ds quiet me (ReaderIn v) h = (reader_told sent ds me v h.0, h.1)
+
+-- the frame: the facts hold after they are sent
 pub send_plain : (c : Cluster) (history : List KeptRecord) (sent : List Letter) (states : RoleId → State) (me : RoleId)
     → Facts c history sent (set_state me Down states) → (ds : List Letter) (s : State)
     → ((d : Letter) → Member d ds → Says c history (sent ++ ds) d.from d.msg) → QuietSends ds
     → InState c history (sent ++ ds) me s → Facts c history (sent ++ ds) (set_state me s states)
 send_plain c history sent states me facts ds s says quiet running =
     send c history sent states me facts ds s says
-    (λ i t v x. absurd ((quiet _ x.4).0 i x.2 t x.3 v refl)) (λ i x. absurd ((quiet _ x.3).1 i x.2 refl))
-    (λ i t v w x y. absurd ((quiet _ x.4).0 i x.2 t x.3 v refl)) running
+    (λ i t v x. absurd ((quiet_round ds quiet i).0 t v x)) (λ i x. absurd ((quiet_round ds quiet i).1 x))
+    (λ i t v w x y. absurd ((quiet_round ds quiet i).0 t v x)) running
