@@ -1,0 +1,5 @@
+pub mod Searches
+pub mod Send
+pub mod Rows
+pub mod Acceptors
+pub mod Matchmakers
