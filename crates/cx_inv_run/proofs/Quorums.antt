@@ -60,9 +60,9 @@ module _ {X : Type 0} (p q : X → Bool) where
       → (p x ≡ true) ⊎ (p x ≡ false) → (q x ≡ true) ⊎ (q x ≡ false)
       → (y : X) × Member y (x ∷ xs) × (p y ≡ true) × (q y ≡ true)
   overlap_step x xs l go (inl t) (inl s) = (x, inl refl, t, s)
-  overlap_step x xs l go (inl t) (inr s) = let r = go (omega (arith, filter_yes p x xs t, filter_no q x xs s)) in (r.0, inr r.1, r.2.0, r.2.1)
-  overlap_step x xs l go (inr t) (inl s) = let r = go (omega (arith, filter_no p x xs t, filter_yes q x xs s)) in (r.0, inr r.1, r.2.0, r.2.1)
-  overlap_step x xs l go (inr t) (inr s) = let r = go (omega (arith, filter_no p x xs t, filter_no q x xs s)) in (r.0, inr r.1, r.2.0, r.2.1)
+  overlap_step x xs l go (inl t) (inr s) = let r = go (omega (arith, filter_yes p x xs t, filter_no q x xs s)) in (r.0, inr r.1, r.2, r.3)
+  overlap_step x xs l go (inr t) (inl s) = let r = go (omega (arith, filter_no p x xs t, filter_yes q x xs s)) in (r.0, inr r.1, r.2, r.3)
+  overlap_step x xs l go (inr t) (inr s) = let r = go (omega (arith, filter_no p x xs t, filter_no q x xs s)) in (r.0, inr r.1, r.2, r.3)
 
   pub overlap : (xs : List X) → length xs < length (filter p xs) + length (filter q xs) → (y : X) × Member y xs × (p y ≡ true) × (q y ≡ true)
   overlap [] l = absurd (omega arith)
@@ -73,7 +73,7 @@ pub most_meet : (c : Cluster) (p q : ℕ → Bool) → c.f < length (filter p (m
     → (m : ℕ) × (m < 2 * c.f + 1) × (p m ≡ true) × (q m ≡ true)
 most_meet c p q l k =
     let r = overlap p q (matchmakers c) (let e = length-below (2 * c.f + 1) in omega arith) in
-    (r.0, below-Member r.0 (2 * c.f + 1) r.1, r.2.0, r.2.1)
+    (r.0, below-Member r.0 (2 * c.f + 1) r.1, r.2, r.3)
 
 -- Numbers below a count, none twice (however that is said), are no more than the numbers below it that pass a test that they pass.
 module _ (Once : List ℕ → Type 0) (parts : (m : ℕ) (ms : List ℕ) → Once (m ∷ ms) → (Member m ms → ⊥) × Once ms) where
@@ -128,4 +128,4 @@ pub crossing : (g : Shape) (rows columns : List ℕ) → row_whole g rows ≡ tr
 crossing g rows columns h k =
     let r = row-Member g rows h in
     let q = column-Member g columns k in
-    (r.0, q.0, r.2.0, q.2.0, r.2.2.1 q.0 q.2.0, q.2.2.1 r.0 r.2.0)
+    (r.0, q.0, r.1, q.1, r.3 q.0 q.1, q.3 r.0 r.1)
