@@ -2,3 +2,4 @@ pub mod Members
 pub mod Rounds
 pub mod Histories
 pub mod Quorums
+pub mod Steps

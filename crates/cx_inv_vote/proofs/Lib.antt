@@ -1,2 +1,5 @@
 pub mod Searches
+pub mod Send
 pub mod Lead
+pub mod Rows
+pub mod Leaders
