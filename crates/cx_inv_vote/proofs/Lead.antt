@@ -17,6 +17,7 @@ use Rattle.cx_grid.specs.Quorum.{member_at}
 use Rattle.cx_msg.specs.Letter.{Letter, letter}
 use Rattle.cx_msg.specs.declared.input.KeptRecord.{KeptRecord}
 use Rattle.cx_msg.specs.declared.kept.Record.TheVariants as kept
+use Rattle.cx_msg.specs.declared.message.Msg.{Msg}
 use Rattle.cx_msg.specs.declared.message.Msg.TheVariants as msg
 use Rattle.cx_model.specs.declared.states.MatchAnswer.{MatchAnswer}
 use Rattle.cx_model.specs.declared.states.Mode.TheVariants.{Leading}
@@ -24,17 +25,18 @@ use Rattle.cx_model.specs.declared.states.Plan.{Plan}
 use Rattle.cx_model.specs.declared.states.Promised.{Promised}
 use Rattle.cx_model.specs.declared.states.Stage.TheVariants.{Off}
 use Rattle.cx_model.specs.Facts.{HasVoted, IsProposed, IsRetiring, LeaderWasTold}
-use Rattle.cx_model.specs.Leader.{LeaderVolatile, leader_rules}
+use Rattle.cx_model.specs.Leader.{LeaderVolatile, leader_rules, round_of}
 use Rattle.cx_model.specs.Matched.{matchmakers, greatest_watermark, live_entries, rows_whole}
 use Rattle.cx_model.specs.Matchmaker.{entry, has_round}
 use Rattle.cx_model.specs.Member.{Member}
 use Rattle.cx_model.specs.Plan.{promised_by, votes_told, greatest_cw, end_told, best_vote, voted_value, plan, placed_from}
 use Rattle.cx_model.specs.Promises.{HasKept, IsConfig}
-use Rattle.cx_inv_run.specs.States.{State, durable_of}
+use Rattle.cx_inv_run.specs.States.{State, Down, LeaderIn, set_state, durable_of}
 use Rattle.cx_inv_run.proofs.Members.{is_in-Member}
 use Rattle.cx_inv_run.proofs.Rounds.{before-trans, before-to_at_least, before-from_at_most, before_cases, at_most-trans, itself-not_before, least}
 use Rattle.cx_inv_match.specs.Words.{HasMatch, HasGarbage, HasPromise, HasLow, IsChosenIn, IsMatched, IsShut, IsSettled, IsSafe, IsCollected, IsAnswer, IsPromise, how_many}
-use Rattle.cx_inv_match.specs.Facts.{Facts, IsLast, IsMatching, IsLeading, InStage, told_by}
+use Rattle.cx_inv_match.specs.Facts.{Facts, Says, InMode, InState, IsLast, IsMatching, IsLeading, IsInforming, InStage, told_by}
+use Rattle.cx_inv_vote.proofs.Send.{proposed_cases, leader_told, send}
 use Rattle.cx_inv_vote.proofs.Searches.{told_count, told_member, not_there, there, live_from, live_has, top_above, top_told, promised_member, cw_above, votes_from, votes_has, IsGreatest, Greatest, best_is_greatest, end_above, end_at_least, placed_at, IsRowOf, rows_whole-row}
 
 -- a proposal says that its round is matched and its value safe
@@ -285,3 +287,103 @@ module _ (c : Cluster) (history : List KeptRecord) (sent : List Letter) (states 
     known = λ s m. absurd m;
     stage = subst (λ st. InStage c history own end v.collection st) (sym matching.off) tt;
   }
+
+-- by what its durable part has, and its mode
+pub leader_state : (c : Cluster) (history : List KeptRecord) (sent : List Letter) (me : RoleId) (o : Option Entry) → (durable_of leader_rules me history).own ≡ o
+    → (v : LeaderVolatile) → LeaderWasTold sent me (round_of o) v → InMode c history sent o v v.mode → InState c history sent me (LeaderIn v)
+leader_state c history sent me o e v told mode =
+    subst (λ x. LeaderWasTold sent me (round_of x) v × InMode c history sent x v v.mode) (sym e) (told, mode)
+
+pub leading_state : (c : Cluster) (history : List KeptRecord) (sent : List Letter) (me : RoleId) (own : Entry) → (durable_of leader_rules me history).own ≡ Some own
+    → (v : LeaderVolatile) → v.mode ≡ Leading → LeaderWasTold sent me own.round v → IsLeading c history sent own v → InState c history sent me (LeaderIn v)
+leading_state c history sent me own e v leads told leading =
+    leader_state c history sent me (Some own) e v told (subst (λ m. InMode c history sent (Some own) v m) (sym leads) leading)
+
+-- a message that proposes nothing; one that asks to forget the rounds below this one alone
+abbrev pub NoPropose : Msg → Type 0
+NoPropose m = (i : Round) (g : Shape) (s cw : ℕ) (v : Value) → msg.Propose i g s cw v ≡ m → ⊥
+
+abbrev pub EndsOnly : Round → Msg → Type 0
+EndsOnly own m = (i : Round) (g : Shape) → msg.GarbageA i g ≡ m → i ≡ own
+
+-- what a leading leader sends: what it proposed, and what proposes nothing and ends no other round
+abbrev pub IsLeaders : Cluster → List KeptRecord → List Letter → Entry → List Placed → Letter → Type 0
+IsLeaders c history sent own proposed d =
+    (Says c history sent d.from d.msg × NoPropose d.msg × EndsOnly own.round d.msg)
+    ⊎ ((p : Placed) × (cw : ℕ) × Member p proposed × (cw ≤ p.slot) × (d.msg ≡ msg.Propose own.round own.grid p.slot cw p.value))
+
+module _ (c : Cluster) (history : List KeptRecord) (sent : List Letter) (states : RoleId → State) (me : RoleId)
+    (facts : Facts c history sent (set_state me Down states)) (own : Entry) (is_own : (durable_of leader_rules me history).own ≡ Some own)
+    (v : LeaderVolatile) (leads : v.mode ≡ Leading) (leading : IsLeading c history sent own v) (was_told : LeaderWasTold sent me own.round v)
+    (ds : List Letter) (are : (d : Letter) → Member d ds → IsLeaders c history (sent ++ ds) own v.proposed d) where
+  lead_proposed : (i : Round) (s : ℕ) (u : Value) → IsProposed ds i s u → (i ≡ own.round) × Member {X = Placed} (record { slot = s; value = u }) v.proposed
+  lead_proposed i s u h = elim (are _ h.4) [ inl q ↦ absurd (q.1 i h.2 s h.3 u refl) | inr r ↦ go r ]
+    where
+      go : (p : Placed) × (cw : ℕ) × Member p v.proposed × (cw ≤ p.slot) × (msg.Propose i h.2 s h.3 u ≡ msg.Propose own.round own.grid p.slot cw p.value)
+          → (i ≡ own.round) × Member {X = Placed} (record { slot = s; value = u }) v.proposed
+      go r =
+          let e = r.4 in
+          let p : s ≡ r.0.slot = cc in
+          let q : u ≡ r.0.value = cc in
+          (cc, rw (p, q) r.2)
+
+  lead_retiring : (i : Round) → IsRetiring ds i → i ≡ own.round
+  lead_retiring i h = elim (are _ h.3) [ inl q ↦ q.2 i h.2 refl | inr r ↦ go r ]
+    where
+      go : (p : Placed) × (cw : ℕ) × Member p v.proposed × (cw ≤ p.slot) × (msg.GarbageA i h.2 ≡ msg.Propose own.round own.grid p.slot cw p.value) → i ≡ own.round
+      go r = let e = r.4 in cc
+
+  lead_says : (d : Letter) → Member d ds → Says c history (sent ++ ds) d.from d.msg
+  lead_says d m = elim (are d m) [
+    | inl q ↦ q.0
+    | inr r ↦ subst (λ x. Says c history (sent ++ ds) d.from x) (sym r.4) (leading.config, leading.matched, leading.safe r.0 r.2, r.3)
+  ]
+
+  lead_owner : me ≡ role kind.Leader own.round.id
+  lead_owner = facts.owner me own.round own.grid (subst (λ o. IsLast history me o) is_own (facts.last me)).0
+
+  -- what was proposed in the round is below the next slot; and from the watermark on it is remembered
+  lead_below : (s : ℕ) (u : Value) → IsProposed (sent ++ ds) own.round s u → s < v.next
+  lead_below s u h = elim (proposed_cases sent ds own.round s u h) [
+    | inl x ↦ leading.below_next s u x
+    | inr x ↦ (leading.window (record { slot = s; value = u }) (lead_proposed own.round s u x).1).1
+  ]
+
+  lead_remembered : (s : ℕ) (u : Value) → IsProposed (sent ++ ds) own.round s u → (s < v.cw) ⊎ Member {X = Placed} (record { slot = s; value = u }) v.proposed
+  lead_remembered s u h = elim (proposed_cases sent ds own.round s u h) [
+    | inl x ↦ leading.remembered s u x
+    | inr x ↦ inr (lead_proposed own.round s u x).1
+  ]
+
+  lead_once : (i : Round) (s : ℕ) (u w : Value) → IsProposed ds i s u → IsProposed (sent ++ ds) i s w → u ≡ w
+  lead_once i s u w x y =
+      let p = lead_proposed i s u x in
+      let from = (leading.window (record { slot = s; value = u }) p.1).0 in
+      elim (lead_remembered s w (subst (λ j. IsProposed (sent ++ ds) j s w) p.0 y)) [
+        | inl below ↦ absurd (omega arith)
+        | inr m ↦ leading.once s u w p.1 m
+      ]
+
+  lead_mode : IsLeading c history (sent ++ ds) own v
+  lead_mode = record {
+    config = leading.config;
+    matched = leading.matched;
+    below_next = lead_below;
+    remembered = lead_remembered;
+    once = leading.once;
+    window = leading.window;
+    safe = leading.safe;
+    free = leading.free;
+    end_next = leading.end_next;
+    cw_next = leading.cw_next;
+    known = leading.known;
+    stage = leading.stage;
+  }
+
+  -- the facts after a leading leader has sent them
+  pub lead : Facts c history (sent ++ ds) (set_state me (LeaderIn v) states)
+  lead = send c history sent states me facts ds (LeaderIn v) lead_says
+      (λ i s u x. subst (λ (j : Round). role kind.Leader j.id ≡ me) (sym (lead_proposed i s u x).0) (sym lead_owner))
+      (λ i x. subst (λ (j : Round). role kind.Leader j.id ≡ me) (sym (lead_retiring i x)) (sym lead_owner))
+      lead_once
+      (leading_state c history (sent ++ ds) me own is_own v leads (leader_told sent ds me own.round v was_told) lead_mode)

@@ -2,4 +2,3 @@ pub mod Searches
 pub mod Send
 pub mod Lead
 pub mod Rows
-pub mod Leaders
