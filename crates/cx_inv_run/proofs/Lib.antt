@@ -3,3 +3,4 @@ pub mod Rounds
 pub mod Histories
 pub mod Quorums
 pub mod Steps
+pub mod Senders
