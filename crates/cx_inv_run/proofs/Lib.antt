@@ -4,3 +4,4 @@ pub mod Histories
 pub mod Quorums
 pub mod Steps
 pub mod Senders
+pub mod Sends
