@@ -109,7 +109,7 @@ module _ (c : Cluster) (history : List KeptRecord) (sent : List Letter) (states 
       (λ t. keeps_one c history sent states facts me plain why.Same tt from (msg.Phase2B i s) tt (λ longer. voted_says i s t))
       (λ g. let above : state.cw ≤ s = grind (arith, nat_tests) in
       keeps_record_one c history sent states facts me plain why.Voted (kept.Vote i s cw v) tt from (msg.Phase2B i s)
-      (keep_vote c history sent states facts me i s cw v f above low proposed) tt (λ longer. (v, cw, inl refl)))))
+      (keep_vote c history sent states facts me i s cw v f above low proposed) tt (λ longer. (v, (cw, inl refl))))))
 
   inform_good : (from : RoleId) (i : Round) (n : ℕ) → Good (acceptor_takes me state from (msg.Inform i n))
   inform_good from i n =

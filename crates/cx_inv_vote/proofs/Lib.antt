@@ -4,3 +4,6 @@ pub mod Lead
 pub mod Rows
 pub mod Acceptors
 pub mod Matchmakers
+pub mod Proxies
+pub mod Replicas
+pub mod Readers
