@@ -1,4 +1,5 @@
 pub mod Searches
 pub mod Send
 pub mod Lead
+pub mod Moves
 pub mod Rows
