@@ -1,5 +1,7 @@
 pub mod Searches
 pub mod Send
+pub mod Lead
+pub mod Moves
 pub mod Rows
 pub mod Acceptors
 pub mod Matchmakers

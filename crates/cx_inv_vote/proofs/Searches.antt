@@ -1,8 +1,9 @@
 -- What the tests and searches of a leader's rows find.
-use Rattle.std.proofs.Common.{◌≡◌, ℕ, zero, suc, ◌+◌, ◌-◌, ◌<◌, ◌≤◌, Bool, true, false, cond, not, max, map, ◌⊎◌, List, [], ◌∷◌, ◌++◌, length, Option, Some, None, inl, inr, ap, sym, subst, ◌∙◌, refl, arith, ◌==◌}
+use Rattle.std.proofs.Common.{◌≡◌, ℕ, zero, suc, ◌+◌, ◌-◌, ◌*◌, ◌<◌, ◌≤◌, Bool, true, false, cond, not, max, map, ◌⊎◌, List, [], ◌∷◌, ◌++◌, length, Option, Some, None, inl, inr, ap, sym, subst, ◌∙◌, refl, arith, ◌==◌}
 use Rattle.std.specs.Prelude.{nat_lt}
 use Rattle.std.specs.List.{list_any, list_all}
 use Rattle.std.proofs.lemmas.Bool.{and_parts, true≢false, cond_both, ltb-true}
+use Rattle.cx_base.specs.declared.cluster.Cluster.{Cluster}
 use Rattle.cx_base.specs.declared.command.Placed.{Placed}
 use Rattle.cx_base.specs.declared.command.Value.{Value}
 use Rattle.cx_base.specs.declared.round.Round.{Round}
@@ -20,7 +21,9 @@ use Rattle.cx_model.specs.Matchmaker.{entry, entries_from, has_round}
 use Rattle.cx_model.specs.Member.{Member}
 use Rattle.cx_model.specs.Plan.{promised_by, has_promised, votes_told, greatest_cw, end_told, greater_vote, best_vote, voted_value, placed_from}
 use Rattle.cx_inv_match.specs.Facts.{AreOnce, told_by}
+use Rattle.cx_inv_match.specs.Words.{how_many}
 use Rattle.cx_inv_run.proofs.Members.{Member-cases, Member-first, Member-second, Member-map, map-Member, Member-filter, filter-Member, any-Member, Member-any, none-Member, all-Member, is_in-Member, Member-is_in, numbers-Member, Member-numbers, Member-below, below-Member}
+use Rattle.cx_inv_run.proofs.Quorums.{row-Member, column-Member, once_count}
 use Rattle.cx_inv_run.proofs.Rounds.{before-not, itself-not_before, at_most-trans, same_round-true, same_round-itself}
 
 differ_number : (i j : ℕ) → (i == j) ≡ false → i ≡ j → ⊥
@@ -53,6 +56,18 @@ once_more (x ∷ told) a new once = (
   λ m. elim (told_more told a x.matchmaker m) [ inl p ↦ once.0 p | inr q ↦ new (inl (sym q)) ],
   once_more told a (λ m. new (inr m)) once.1,
 )
+
+told_length : (told : List MatchAnswer) → length (told_by told) ≡ length told
+told_length [] = refl
+told_length (a ∷ told) = let e = told_length told in omega arith
+
+-- as many matchmakers have answered as answers were counted
+pub told_count : (c : Cluster) (told : List MatchAnswer) → AreOnce (told_by told) → ((m : ℕ) → Member m (told_by told) → m < 2 * c.f + 1)
+    → c.f < length told → c.f < how_many c (λ m. is_in m (told_by told))
+told_count c told once known enough =
+    let l = once_count AreOnce (λ m ms o. o) (λ m. is_in m (told_by told)) (told_by told) (2 * c.f + 1) once known (λ m k. Member-is_in m (told_by told) k) in
+    let e = told_length told in
+    omega arith
 
 -- what they tell
 
@@ -109,8 +124,8 @@ top_told (x ∷ told) =
 
 -- the acceptors that promised
 
-pub promised_member : (id : ℕ) (promises : List Promised) → is_in id (promised_by promises) ≡ true → (p : Promised) × Member p promises × (id ≡ p.acceptor)
-promised_member id promises t = Member-map (λ (p : Promised). p.acceptor) id promises (is_in-Member id (promised_by promises) t)
+pub promised_member : (id : ℕ) (promises : List Promised) → Member id (promised_by promises) → (p : Promised) × Member p promises × (id ≡ p.acceptor)
+promised_member id promises m = Member-map (λ (p : Promised). p.acceptor) id promises m
 
 pub cw_above : (low : ℕ) (promises : List Promised) (p : Promised) → Member p promises → p.cw ≤ greatest_cw low promises
 cw_above low [] p m = absurd m
@@ -212,15 +227,7 @@ pub record IsRowOf (g : Shape) (marks : List ℕ) : Type 0 where
   pub whole : (b : ℕ) → b < g.cols → Member (member_at g row b) marks
 
 pub whole_row : (g : Shape) (marks : List ℕ) → row_whole g marks ≡ true → IsRowOf g marks
-whole_row g marks t =
-    let parts = and_parts (nat_lt 0 g.cols) (list_any (λ a. is_whole (row_of g a) marks) (below g.rows)) t in
-    let r = any-Member (λ a. is_whole (row_of g a) marks) (below g.rows) parts.1 in
-    record {
-      row = r.0;
-      in_grid = below-Member r.0 g.rows r.1;
-      whole = λ b l. is_in-Member (member_at g r.0 b) marks
-          (all-Member (λ id. is_in id marks) (row_of g r.0) r.2 (member_at g r.0 b) (map-Member (λ b. member_at g r.0 b) b (below g.cols) (Member-below b g.cols l)));
-    }
+whole_row g marks t = let r = row-Member g marks t in record { row = r.0; in_grid = r.1; whole = r.3; }
 
 pub record IsColumnOf (g : Shape) (marks : List ℕ) : Type 0 where
   pub column : ℕ
@@ -229,16 +236,7 @@ pub record IsColumnOf (g : Shape) (marks : List ℕ) : Type 0 where
   pub whole : (a : ℕ) → a < g.rows → Member (member_at g a column) marks
 
 pub whole_column : (g : Shape) (marks : List ℕ) → column_whole g marks ≡ true → IsColumnOf g marks
-whole_column g marks t =
-    let parts = and_parts (nat_lt 0 g.rows) (list_any (λ b. is_whole (column_of g b) marks) (below g.cols)) t in
-    let r = any-Member (λ b. is_whole (column_of g b) marks) (below g.cols) parts.1 in
-    record {
-      column = r.0;
-      in_grid = below-Member r.0 g.cols r.1;
-      some_row = ltb-true 0 g.rows parts.0;
-      whole = λ a l. is_in-Member (member_at g a r.0) marks
-          (all-Member (λ id. is_in id marks) (column_of g r.0) r.2 (member_at g a r.0) (map-Member (λ a. member_at g a r.0) a (below g.rows) (Member-below a g.rows l)));
-    }
+whole_column g marks t = let r = column-Member g marks t in record { column = r.0; in_grid = r.1; some_row = r.2; whole = r.3; }
 
 pub rows_whole-row : (es : List Entry) (marks : List ℕ) (e : Entry) → rows_whole es marks ≡ true → Member e es → IsRowOf e.grid marks
 rows_whole-row es marks e t m = whole_row e.grid marks (all-Member (λ (x : Entry). row_whole x.grid marks) es t e m)
