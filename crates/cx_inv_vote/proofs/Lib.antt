@@ -3,8 +3,11 @@ pub mod Send
 pub mod Lead
 pub mod Moves
 pub mod Rows
+pub mod Leaders
 pub mod Acceptors
 pub mod Matchmakers
 pub mod Proxies
 pub mod Replicas
 pub mod Readers
+pub mod Start
+pub mod Steps
