@@ -48,7 +48,7 @@ use Rattle.cx_inv_run.specs.Kinds.{Kinds}
 use Rattle.cx_inv_run.specs.Laws.{Lands}
 use Rattle.cx_inv_run.specs.States.{State, Down, LeaderIn, set_state, entry_by, durable_of, Given}
 use Rattle.cx_inv_run.proofs.Histories.{durable_own}
-use Rattle.cx_inv_run.proofs.Members.{Member-map, Member-both, Member-one, Member-filter}
+use Rattle.cx_inv_run.proofs.Members.{Member-map, Member-both, Member-one, Member-second, Member-filter}
 use Rattle.cx_inv_run.proofs.Rounds.{before-from_at_most, before-higher, before-changed, same_round-true}
 use Rattle.cx_inv_match.specs.Words.{HasLow, IsMatched, IsCollected}
 use Rattle.cx_inv_match.specs.Facts.{Facts, Says, InMode, InState, InStage, IsInforming, IsLast, IsLeading, IsMatching, told_by}
@@ -57,7 +57,7 @@ use Rattle.cx_inv_match.proofs.Records.{keep_round, round_new}
 use Rattle.cx_inv_vote.proofs.Lead.{IsLeaders, lead, led_by, leader_state, leading_state, finish_leading, own_config}
 use Rattle.cx_inv_vote.proofs.Moves.{lead_next, lead_known, lead_stage, lead_informs, informed_column, raised_mode, seen_mode, idle_mode, is_matching-mode, is_promising-mode, is_leading-mode, is_informing-stage, is_collecting-stage}
 use Rattle.cx_inv_vote.proofs.Rows.{lands, keeps_silent, keeps_sending, keeps_record}
-use Rattle.cx_inv_vote.proofs.Searches.{told_by-counted, once_more, mark-cases}
+use Rattle.cx_inv_vote.proofs.Searches.{told_by-counted, told_more, once_more, mark-cases}
 use Rattle.cx_inv_vote.proofs.Send.{QuietSends}
 use Rattle.cx_inv_vote.proofs.Told.{told_answer, told_promise, told_promising, told_led, told_idle, told_seen, told_begun, told_next, told_chosen, told_raised, told_stage}
 use Rattle.cx_inv_vote.specs.Laws.{IsPlainMsg}
@@ -115,3 +115,185 @@ module _ (c : Cluster) (history : List KeptRecord) (sent : List Letter) (states 
   calm o e w v ds h quiet says =
       lands c history sent states facts me LeaderIn (replied w v ds) quiet
       (keeps_sending c history sent states facts me LeaderIn w v ds (leader_state c history sent me o e v h.0 h.1) says)
+
+  module _ (own : Entry) (has_own : dur.own ≡ Some own) where
+    config : IsConfig history own.round own.grid
+    config = own_config c history sent states facts me own has_own
+
+    -- a leading leader sends what it proposed, and what is plain
+    leads : (w : Why) (v : LeaderVolatile) → v.mode ≡ Leading → LeaderWasTold sent me own.round v → IsLeading c history sent own v → (ds : List Letter)
+        → ((d : Letter) → Member d ds → IsLeaders c history (sent ++ ds) own v.proposed d) → Fine (replied w v ds)
+    leads w v mode told leading ds are = record {
+      whole = lead c history sent states me (stop c history sent states me facts) own has_own v mode leading told ds are;
+      cut = λ r e. cc;
+    }
+
+    knows_leading : (v : LeaderVolatile) → v.mode ≡ Leading → LeaderWasTold sent me own.round v → IsLeading c history sent own v → Knows (Some own) v
+    knows_leading v mode told leading = (told, subst (λ m. InMode c history sent (Some own) v m) (sym mode) leading)
+
+    still_leading : (w : Why) (v : LeaderVolatile) → v.mode ≡ Leading → LeaderWasTold sent me own.round v → IsLeading c history sent own v → Fine (answered w v)
+    still_leading w v mode told leading = still (Some own) has_own w v (knows_leading v mode told leading)
+
+    is_leading_in : (v : LeaderVolatile) → v.mode ≡ Leading → Knows (Some own) v → IsLeading c history sent own v
+    is_leading_in v mode h = subst (λ m. InMode c history sent (Some own) v m) mode h.1
+
+    -- the end of the first phase
+
+    finish_fine : (v : LeaderVolatile) → IsMatching c sent own v → c.f < length v.told → LeaderWasTold sent me own.round v
+        → rows_whole (live_entries v.told) (promised_by v.promises) ≡ true → Fine (finish c me own v)
+    finish_fine v matching most told whole =
+        let p = plan v.cw v.promises in
+        let leading = finish_leading c history sent states facts me own has_own v matching most told whole in
+        leads why.Leads (led_by v p) refl (told_led sent me own.round v told p) leading
+        (map (propose_to c me own p.cw) (placed_from p.cw p.values) ++ map (leads_to me own.round) (below c.batchers))
+        (Member-both (IsLeaders c history (sent ++ (map (propose_to c me own p.cw) (placed_from p.cw p.values) ++ map (leads_to me own.round) (below c.batchers))) own (placed_from p.cw p.values))
+        (map (propose_to c me own p.cw) (placed_from p.cw p.values)) (map (leads_to me own.round) (below c.batchers))
+        (proposals_are c history (sent ++ (map (propose_to c me own p.cw) (placed_from p.cw p.values) ++ map (leads_to me own.round) (below c.batchers))) me own (placed_from p.cw p.values) p.cw (placed_from p.cw p.values)
+        (λ q m. (m, (leading.window q m).0)))
+        (leads_are c history (sent ++ (map (propose_to c me own p.cw) (placed_from p.cw p.values) ++ map (leads_to me own.round) (below c.batchers))) me own (placed_from p.cw p.values) (below c.batchers) leading.matched))
+
+    asks_acceptors : (w : Why) (v : LeaderVolatile) (ns : List ℕ) → Knows (Some own) v → Fine (replied w v (map (phase1a_to me own.round) ns))
+    asks_acceptors w v ns h =
+        calm (Some own) has_own w v (map (phase1a_to me own.round) ns) h
+        (quiet_each (phase1a_to me own.round) ns (λ n. (λ i g s cw u e. cc, λ i g e. cc)))
+        (λ longer more. each (λ (d : Letter). Says c history longer d.from d.msg) (phase1a_to me own.round) ns (λ n. tt))
+
+    asks_matchmakers : (w : Why) (v : LeaderVolatile) (ns : List ℕ) → Knows (Some own) v → Fine (replied w v (map (match_a_to me own.round own.grid) ns))
+    asks_matchmakers w v ns h =
+        calm (Some own) has_own w v (map (match_a_to me own.round own.grid) ns) h
+        (quiet_each (match_a_to me own.round own.grid) ns (λ n. (λ i g s cw u e. cc, λ i g e. cc)))
+        (λ longer more. each (λ (d : Letter). Says c history longer d.from d.msg) (match_a_to me own.round own.grid) ns (λ n. config))
+
+    matched_fine : (v : LeaderVolatile) → IsMatching c sent own v → c.f < length v.told → LeaderWasTold sent me own.round v
+        → (es : List Entry) → live_entries v.told ≡ es → Fine (matched_by c me own v es)
+    matched_fine v matching most told [] e =
+        finish_fine v matching most told (subst (λ es. rows_whole es (promised_by v.promises) ≡ true) (sym e) refl)
+    matched_fine v matching most told (x ∷ es) e =
+        asks_acceptors why.Phase1 (record v { mode = Phase1 }) (members_of c (x ∷ es))
+        (told_promising sent me own.round v told,
+          (record { unproposed = matching.unproposed; unended = matching.unended; off = matching.off; once = matching.once; known = matching.known }, most))
+
+  -- a matchmaker answers
+
+  match_counted_fine : (o : Option Entry) → dur.own ≡ o → (v : LeaderVolatile) → v.mode ≡ Matching → Knows o v → Fine (match_counted c me o v)
+  match_counted_fine None e v mode h = still None e why.Old v h
+  match_counted_fine (Some own) e v mode h =
+      by_test Fine (nat_lt (length v.told) (enough c)) _ _
+      (λ t. still (Some own) e why.Counted v h)
+      (λ f. let k = ltb-false (length v.told) (enough c) f in
+      matched_fine own e v (subst (λ m. InMode c history sent (Some own) v m) mode h.1) (omega arith) h.0 (live_entries v.told) refl)
+
+  answer_mode : (o : Option Entry) (v : LeaderVolatile) (a : MatchAnswer) → v.mode ≡ Matching → is_counted a.matchmaker v.told ≡ false
+      → a.matchmaker < 2 * c.f + 1 → InMode c history sent o v v.mode → InMode c history sent o (record v { told = v.told ++ a ∷ [] }) v.mode
+  answer_mode None v a mode new low h = h
+  answer_mode (Some own) v a mode new low h =
+      let matching : IsMatching c sent own v = subst (λ m. InMode c history sent (Some own) v m) mode h in
+      subst (λ m. InMode c history sent (Some own) (record v { told = v.told ++ a ∷ [] }) m) (sym mode)
+      record {
+        unproposed = matching.unproposed;
+        unended = matching.unended;
+        off = matching.off;
+        once = once_more v.told a (λ m. true≢false (sym (told_by-counted a.matchmaker v.told m) ∙ new)) matching.once;
+        known = λ m k. elim (told_more v.told a m k) [ inl p ↦ matching.known m p | inr q ↦ subst (λ n. n < 2 * c.f + 1) (sym q) low ];
+      }
+
+  match_b_fine : (o : Option Entry) → dur.own ≡ o → (v : LeaderVolatile) → Knows o v → (from : RoleId) (i w : Round) (es : List Entry)
+      → Member (letter (role kind.Matchmaker from.index) me (msg.MatchB i w es)) sent → from.index < 2 * c.f + 1
+      → Fine (match_b_row c me (record { own = o }) v from i w es)
+  match_b_fine o e v h from i w es x low =
+      by_test Fine (not (is_matching v.mode && is_own (record { own = o }) i)) _ _
+      (λ t. still o e why.Old v h)
+      (λ f. let p = and_parts (is_matching v.mode) (is_own (record { own = o }) i) (not-false _ f) in
+      let mode = is_matching-mode v.mode p.0 in
+      by_test Fine (is_counted from.index v.told) _ _
+      (λ t. still o e why.Same v h)
+      (λ g. match_counted_fine o e (record v { told = v.told ++ record { matchmaker = from.index; watermark = w; entries = es } ∷ [] }) mode (
+        told_answer sent me (round_of o) v h.0 from.index w es
+            (subst (λ r. Member (letter (role kind.Matchmaker from.index) me (msg.MatchB r w es)) sent) (same_round-true i (round_of o) p.1) x),
+        answer_mode o v (record { matchmaker = from.index; watermark = w; entries = es }) mode g low h.1,
+      )))
+
+  -- an acceptor promises
+
+  promise_counted_fine : (o : Option Entry) → dur.own ≡ o → (v : LeaderVolatile) → v.mode ≡ Phase1 → Knows o v → Fine (promise_counted c me o v)
+  promise_counted_fine None e v mode h = still None e why.Old v h
+  promise_counted_fine (Some own) e v mode h =
+      let matching : IsMatching c sent own v × (c.f < length v.told) = subst (λ m. InMode c history sent (Some own) v m) mode h.1 in
+      by_test Fine (rows_whole (live_entries v.told) (promised_by v.promises)) _ _
+      (λ t. finish_fine own e v matching.0 matching.1 h.0 t)
+      (λ f. still (Some own) e why.Counted v h)
+
+  promise_mode : (o : Option Entry) (v : LeaderVolatile) (ps : List Promised) → v.mode ≡ Phase1 → InMode c history sent o v v.mode
+      → InMode c history sent o (record v { promises = ps }) v.mode
+  promise_mode None v ps mode h = h
+  promise_mode (Some own) v ps mode h =
+      let matching : IsMatching c sent own v × (c.f < length v.told) = subst (λ m. InMode c history sent (Some own) v m) mode h in
+      subst (λ m. InMode c history sent (Some own) (record v { promises = ps }) m) (sym mode)
+      (record { unproposed = matching.0.unproposed; unended = matching.0.unended; off = matching.0.off; once = matching.0.once; known = matching.0.known }, matching.1)
+
+  phase1b_fine : (o : Option Entry) → dur.own ≡ o → (v : LeaderVolatile) → Knows o v → (from : RoleId) (i : Round) (cw : ℕ) (votes : List Vote)
+      → Member (letter (role kind.Acceptor from.index) me (msg.Phase1B i cw votes)) sent → Fine (phase1b_row c me (record { own = o }) v from i cw votes)
+  phase1b_fine o e v h from i cw votes x =
+      by_test Fine (not (is_promising v.mode && is_own (record { own = o }) i)) _ _
+      (λ t. still o e why.Old v h)
+      (λ f. let p = and_parts (is_promising v.mode) (is_own (record { own = o }) i) (not-false _ f) in
+      let mode = is_promising-mode v.mode p.0 in
+      by_test Fine (not (is_member_of (live_entries v.told) from.index)) _ _
+      (λ t. still o e why.Unasked v h)
+      (λ g. by_test Fine (has_promised from.index v.promises) _ _
+      (λ t. still o e why.Same v h)
+      (λ k. promise_counted_fine o e (record v { promises = v.promises ++ record { acceptor = from.index; cw = cw; votes = votes } ∷ [] }) mode (
+        told_promise sent me (round_of o) v h.0 from.index cw votes
+            (subst (λ r. Member (letter (role kind.Acceptor from.index) me (msg.Phase1B r cw votes)) sent) (same_round-true i (round_of o) p.1) x),
+        promise_mode o v (v.promises ++ record { acceptor = from.index; cw = cw; votes = votes } ∷ []) mode h.1,
+      ))))
+
+  -- a greater round is told of
+
+  knows_seen : (o : Option Entry) (v : LeaderVolatile) (i : Round) → Knows o v → Knows o (with_seen i v)
+  knows_seen o v i h = (told_seen sent me (round_of o) v h.0 i, seen_mode c history sent o v i v.mode h.1)
+
+  gives_up : (o : Option Entry) → dur.own ≡ o → (v : LeaderVolatile) (i : Round) → Knows o v → Fine (answered why.Nacked (record (with_seen i v) { mode = Idle }))
+  gives_up o e v i h =
+      still o e why.Nacked (record (with_seen i v) { mode = Idle })
+      (told_idle sent me (round_of o) (with_seen i v) (told_seen sent me (round_of o) v h.0 i), idle_mode c history sent o (record (with_seen i v) { mode = Idle }))
+
+  nack_fine : (o : Option Entry) → dur.own ≡ o → (v : LeaderVolatile) → Knows o v → (i promise : Round) → Fine (nack_row (record { own = o }) v i promise)
+  nack_fine o e v h i promise =
+      by_test Fine (is_idle v.mode || not (is_own (record { own = o }) i)) _ _
+      (λ t. still o e why.Old (with_seen promise v) (knows_seen o v promise h))
+      (λ f. gives_up o e v promise h)
+
+  match_nack_fine : (o : Option Entry) → dur.own ≡ o → (v : LeaderVolatile) → Knows o v → (i : Round) (reason : ℕ) (other : Round)
+      → Fine (match_nack_row (record { own = o }) v i reason other)
+  match_nack_fine o e v h i reason other =
+      by_test Fine (is_idle v.mode || not (is_own (record { own = o }) i)) _ _
+      (λ t. still o e why.Old (with_seen other v) (knows_seen o v other h))
+      (λ f. by_test Fine (reason == 2) _ _
+      (λ t. still o e why.Full (with_seen other v) (knows_seen o v other h))
+      (λ g. gives_up o e v other h))
+
+  -- a batch
+
+  propose_fine : (o : Option Entry) → dur.own ≡ o → (v : LeaderVolatile) → v.mode ≡ Leading → Knows o v → (commands : List Command)
+      → Fine (propose_in c me v commands o)
+  propose_fine None e v mode h commands = still None e why.Idle v h
+  propose_fine (Some own) e v mode h commands =
+      let leading = is_leading_in own e v mode h in
+      by_test Fine (is_past_window v) _ _
+      (λ t. still (Some own) e why.Window v h)
+      (λ f. leads own e why.Proposed (record v { next = v.next + 1; proposed = v.proposed ++ record { slot = v.next; value = Batch commands } ∷ [] }) mode
+      (told_next sent me own.round v h.0 (record { slot = v.next; value = Batch commands }))
+      (lead_next c history sent own v leading (Batch commands))
+      (propose_to c me own v.cw (record { slot = v.next; value = Batch commands }) ∷ [])
+      (Member-one
+      (IsLeaders c history (sent ++ propose_to c me own v.cw (record { slot = v.next; value = Batch commands }) ∷ []) own (v.proposed ++ record { slot = v.next; value = Batch commands } ∷ []))
+      (propose_to c me own v.cw (record { slot = v.next; value = Batch commands }))
+      (inr (record { slot = v.next; value = Batch commands }, v.cw, Member-second _ v.proposed _ (inl refl), leading.cw_next, refl))))
+
+  batch_fine : (o : Option Entry) → dur.own ≡ o → (v : LeaderVolatile) → Knows o v → (commands : List Command)
+      → Fine (batch_row c me (record { own = o }) v commands)
+  batch_fine o e v h commands =
+      by_test Fine (is_leading v.mode) _ _
+      (λ t. propose_fine o e v (is_leading-mode v.mode t) h commands)
+      (λ f. still o e why.Idle v h)
