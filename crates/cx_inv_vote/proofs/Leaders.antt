@@ -297,3 +297,177 @@ module _ (c : Cluster) (history : List KeptRecord) (sent : List Letter) (states 
       by_test Fine (is_leading v.mode) _ _
       (λ t. propose_fine o e v (is_leading-mode v.mode t) h commands)
       (λ f. still o e why.Idle v h)
+
+  -- a slot is chosen
+
+  chosen_leads : (o : Option Entry) → dur.own ≡ o → (v : LeaderVolatile) → v.mode ≡ Leading → Knows o v → (i : Round) (s : ℕ) (from : RoleId)
+      → i ≡ round_of o → Member (letter from me (msg.ChosenIn i s)) sent → Fine (answered why.Chosen (record v { chosen = v.chosen ++ s ∷ [] }))
+  chosen_leads None e v mode h i s from same x =
+      still None e why.Chosen (record v { chosen = v.chosen ++ s ∷ [] })
+      (told_chosen sent me (round_of None) v h.0 s from (subst (λ r. Member (letter from me (msg.ChosenIn r s)) sent) same x), h.1)
+  chosen_leads (Some own) e v mode h i s from same x =
+      let y : Member (letter from me (msg.ChosenIn own.round s)) sent = subst (λ r. Member (letter from me (msg.ChosenIn r s)) sent) same x in
+      let says = facts.says _ y in
+      still_leading own e why.Chosen (record v { chosen = v.chosen ++ s ∷ [] }) mode
+      (told_chosen sent me own.round v h.0 s from y)
+      (lead_known c history sent own v (is_leading_in own e v mode h) s says.0 says.1)
+
+  chosen_in_fine : (o : Option Entry) → dur.own ≡ o → (v : LeaderVolatile) → Knows o v → (from : RoleId) (i : Round) (s : ℕ)
+      → Member (letter from me (msg.ChosenIn i s)) sent → Fine (chosen_in_row (record { own = o }) v i s)
+  chosen_in_fine o e v h from i s x =
+      by_test Fine (not (is_leading v.mode && is_own (record { own = o }) i)) _ _
+      (λ t. still o e why.Old v h)
+      (λ f. let p = and_parts (is_leading v.mode) (is_own (record { own = o }) i) (not-false _ f) in
+      by_test Fine (nat_lt s v.cw) _ _
+      (λ t. still o e why.Past v h)
+      (λ g. by_test Fine (nat_le v.next s) _ _
+      (λ t. still o e why.Unasked v h)
+      (λ k. by_test Fine (is_in s v.chosen) _ _
+      (λ t. still o e why.Same v h)
+      (λ j. chosen_leads o e v (is_leading-mode v.mode p.0) h i s from (same_round-true i (round_of o) p.1) x))))
+
+  -- a replica tells how much it holds
+
+  held_fine : (o : Option Entry) → dur.own ≡ o → (v : LeaderVolatile) → Knows o v → (from : RoleId) (n : ℕ)
+      → Member (letter (role kind.Replica from.index) me (msg.Held n)) sent → Fine (held_row c v from n)
+  held_fine o e v h from n x =
+      by_test Fine (nat_le n (slice_index_or v.held from.index 0)) _ _
+      (λ t. still o e why.Same v h)
+      (λ f. let cw = held_by (enough c) (slice_set v.held from.index n) in
+      still o e why.Held (raised_to cw (record v { held = slice_set v.held from.index n }))
+      (told_raised sent me (round_of o) v h.0 cw from.index n x, raised_mode c history sent o v cw (slice_set v.held from.index n) v.mode h.1))
+
+  -- retiring
+
+  module _ (own : Entry) (has_own : dur.own ≡ Some own) (v : LeaderVolatile) (mode : v.mode ≡ Leading) (h : Knows (Some own) v) where
+    leading : IsLeading c history sent own v
+    leading = is_leading_in own has_own v mode h
+
+    -- it goes on to this stage, and sends these
+    staged : (w : Why) (k : Collection) → InStage c history own v.end k k.stage → LeaderWasTold sent me own.round (record v { collection = k }) → (ds : List Letter)
+        → ((d : Letter) → Member d ds → IsLeaders c history (sent ++ ds) own v.proposed d) → Fine (replied w (record v { collection = k }) ds)
+    staged w k stage told ds are = leads own has_own w (record v { collection = k }) mode told (lead_stage c history sent own v leading k stage) ds are
+
+    stays : (w : Why) (k : Collection) → InStage c history own v.end k k.stage → LeaderWasTold sent me own.round (record v { collection = k })
+        → Fine (answered w (record v { collection = k }))
+    stays w k stage told = staged w k stage told [] (λ d m. absurd m)
+
+    collect_own_fine : Fine (collect_in c me v (Some own))
+    collect_own_fine =
+        by_test Fine (not (is_off v.collection.stage)) _ _
+        (λ t. still (Some own) has_own why.Same v h)
+        (λ f. by_test Fine (not (is_settled v)) _ _
+        (λ t. still (Some own) has_own why.Waiting v h)
+        (λ g. staged why.Informing (collection_from v.cw) (lead_informs c history sent own v leading (not-false _ g))
+        (told_stage sent me own.round v h.0 (collection_from v.cw) (λ a t m. absurd m) (λ m t k. absurd k))
+        (map (inform_to me own.round v.cw) (members_in c own.grid))
+        (informs_are c history (sent ++ map (inform_to me own.round v.cw) (members_in c own.grid)) me own v.proposed v.cw (members_in c own.grid))))
+
+    weaker_low : (a : RoleId) (n low : ℕ) → low ≤ n → HasLow history a own.round n → HasLow history a own.round low
+    weaker_low a n low l (inl e) = inl (omega arith)
+    weaker_low a n low l (inr x) = inr (x.0, x.1, x.2, x.3, let y = x.4 in omega arith)
+
+    informed_counted_fine : (a n : ℕ) → is_informing v.collection.stage ≡ true → v.collection.mark ≤ n
+        → Member (letter (role kind.Acceptor a) me (msg.Informed own.round n)) sent
+        → Fine (informed_counted c me own v (with_informed own.grid a v.collection))
+    informed_counted_fine a n stage above x =
+        by_test (λ k. Fine (informed_counted c me own v k)) (column_whole own.grid (with_mark a v.collection.counted)) _ _
+        (λ t. let collected = informed_column c history sent own v leading v.collection (with_mark a v.collection.counted) informing.chosen lows t in
+        staged why.Collecting (record v.collection { stage = Collecting; counted = [] }) collected
+        (told_stage sent me own.round v h.0 (record v.collection { stage = Collecting; counted = [] }) (λ b s m. absurd m) (λ m s k. absurd k))
+        (map (garbage_a_to me own) (matchmakers c))
+        (garbages_are c history (sent ++ map (garbage_a_to me own) (matchmakers c)) me own v.proposed (matchmakers c) leading.config collected))
+        (λ f. by_test Fine (is_collecting v.collection.stage) _ _
+        (λ t. absurd (true≢false (sym t ∙ ap is_collecting is_stage)))
+        (λ g. stays why.Counted (record v.collection { counted = with_mark a v.collection.counted })
+        (subst (λ st. InStage c history own v.end (record v.collection { counted = with_mark a v.collection.counted }) st) (sym is_stage)
+        record { chosen = informing.chosen; lows = lows })
+        (told_stage sent me own.round v h.0 (record v.collection { counted = with_mark a v.collection.counted })
+        (λ b s m. elim (mark-cases b a v.collection.counted m) [
+          | inl e ↦ (me, n, above, subst (λ k. Member (letter (role kind.Acceptor k) me (msg.Informed own.round n)) sent) (sym e) x)
+          | inr k ↦ h.0.informed b stage k
+        ])
+        (λ m s k. absurd (true≢false (sym s ∙ ap is_collecting is_stage))))))
+      where
+        is_stage : v.collection.stage ≡ Informing
+        is_stage = is_informing-stage v.collection.stage stage
+
+        informing : IsInforming history own v.end v.collection
+        informing = subst (λ st. InStage c history own v.end v.collection st) is_stage leading.stage
+
+        lows : (b : ℕ) → Member b (with_mark a v.collection.counted) → HasLow history (role kind.Acceptor b) own.round v.collection.mark
+        lows b m = elim (mark-cases b a v.collection.counted m) [
+          | inl e ↦ subst (λ k. HasLow history (role kind.Acceptor k) own.round v.collection.mark) (sym e)
+              (weaker_low (role kind.Acceptor a) n v.collection.mark above (facts.says _ x))
+          | inr k ↦ informing.lows b k
+        ]
+
+    informed_own_fine : (from : RoleId) (n : ℕ) → is_informing v.collection.stage ≡ true → v.collection.mark ≤ n
+        → Member (letter (role kind.Acceptor from.index) me (msg.Informed own.round n)) sent → Fine (informed_in c me v from (Some own))
+    informed_own_fine from n stage above x =
+        by_test Fine (not (is_in from.index own.grid.members)) _ _
+        (λ t. still (Some own) has_own why.Unasked v h)
+        (λ f. by_test Fine (is_in from.index v.collection.counted) _ _
+        (λ t. still (Some own) has_own why.Same v h)
+        (λ g. informed_counted_fine from.index n stage above x))
+
+  collect_fine : (o : Option Entry) → dur.own ≡ o → (v : LeaderVolatile) → Knows o v → Fine (collect_row c me (record { own = o }) v)
+  collect_fine o e v h =
+      by_test Fine (is_leading v.mode) _ _
+      (λ t. by_own o e h (is_leading-mode v.mode t))
+      (λ f. still o e why.Idle v h)
+    where
+      by_own : (o : Option Entry) → dur.own ≡ o → Knows o v → v.mode ≡ Leading → Fine (collect_in c me v o)
+      by_own None e h mode = still None e why.Idle v h
+      by_own (Some own) e h mode = collect_own_fine own e v mode h
+
+  informed_fine : (o : Option Entry) → dur.own ≡ o → (v : LeaderVolatile) → Knows o v → (from : RoleId) (i : Round) (n : ℕ)
+      → Member (letter (role kind.Acceptor from.index) me (msg.Informed i n)) sent → Fine (informed_row c me (record { own = o }) v from i n)
+  informed_fine o e v h from i n x =
+      by_test Fine (not (is_leading v.mode && is_own (record { own = o }) i && is_informing v.collection.stage && nat_le v.collection.mark n)) _ _
+      (λ t. still o e why.Old v h)
+      (λ f. let p = and_parts (is_leading v.mode && is_own (record { own = o }) i && is_informing v.collection.stage) (nat_le v.collection.mark n) (not-false _ f) in
+      let q = and_parts (is_leading v.mode && is_own (record { own = o }) i) (is_informing v.collection.stage) p.0 in
+      let r = and_parts (is_leading v.mode) (is_own (record { own = o }) i) q.0 in
+      by_own o e h (is_leading-mode v.mode r.0) q.1 (leb-true v.collection.mark n p.1)
+      (subst (λ j. Member (letter (role kind.Acceptor from.index) me (msg.Informed j n)) sent) (same_round-true i (round_of o) r.1) x))
+    where
+      by_own : (o : Option Entry) → dur.own ≡ o → Knows o v → v.mode ≡ Leading → is_informing v.collection.stage ≡ true → v.collection.mark ≤ n
+          → Member (letter (role kind.Acceptor from.index) me (msg.Informed (round_of o) n)) sent → Fine (informed_in c me v from o)
+      by_own None e h mode stage above x = still None e why.Old v h
+      by_own (Some own) e h mode stage above x = informed_own_fine own e v mode h from n stage above x
+
+  -- a matchmaker has forgotten
+  forgotten_fine : (o : Option Entry) → dur.own ≡ o → (v : LeaderVolatile) → v.mode ≡ Leading → Knows o v → (m : ℕ) → is_collecting v.collection.stage ≡ true
+      → Member (letter (role kind.Matchmaker m) me (msg.GarbageB (round_of o))) sent → Fine (forgotten_counted v (with_forgotten (enough c) m v.collection))
+  forgotten_fine None e v mode h m stage x = absurd (true≢false (sym h.1 ∙ ap is_idle mode))
+  forgotten_fine (Some own) e v mode h m stage x =
+      by_test (λ k. Fine (forgotten_counted v k)) (nat_lt (length (with_mark m v.collection.counted)) (enough c)) _ _
+      (λ t. stays own e v mode h _ (record v.collection { counted = with_mark m v.collection.counted })
+      (subst (λ st. InStage c history own v.end (record v.collection { counted = with_mark m v.collection.counted }) st) (sym is_stage) collected)
+      (told_stage sent me own.round v h.0 (record v.collection { counted = with_mark m v.collection.counted })
+      (λ a s k. absurd (true≢false (sym s ∙ ap is_informing is_stage)))
+      (λ n s k. elim (mark-cases n m v.collection.counted k) [
+        | inl q ↦ subst (λ j. Member (letter (role kind.Matchmaker j) me (msg.GarbageB own.round)) sent) (sym q) x
+        | inr q ↦ h.0.forgotten n stage q
+      ])))
+      (λ f. stays own e v mode h why.Retired (record v.collection { stage = Retired; counted = with_mark m v.collection.counted }) tt
+      (told_stage sent me own.round v h.0 (record v.collection { stage = Retired; counted = with_mark m v.collection.counted }) (λ a s k. cc) (λ n s k. cc)))
+    where
+      is_stage : v.collection.stage ≡ Collecting
+      is_stage = is_collecting-stage v.collection.stage stage
+
+      collected : IsCollected c history own.round
+      collected = subst (λ st. InStage c history own v.end v.collection st) is_stage (is_leading_in own e v mode h).stage
+
+  garbage_b_fine : (o : Option Entry) → dur.own ≡ o → (v : LeaderVolatile) → Knows o v → (from : RoleId) (i : Round)
+      → Member (letter (role kind.Matchmaker from.index) me (msg.GarbageB i)) sent → Fine (garbage_b_row c (record { own = o }) v from i)
+  garbage_b_fine o e v h from i x =
+      by_test Fine (not (is_leading v.mode && is_own (record { own = o }) i && is_collecting v.collection.stage)) _ _
+      (λ t. still o e why.Old v h)
+      (λ f. let p = and_parts (is_leading v.mode && is_own (record { own = o }) i) (is_collecting v.collection.stage) (not-false _ f) in
+      let q = and_parts (is_leading v.mode) (is_own (record { own = o }) i) p.0 in
+      by_test Fine (is_in from.index v.collection.counted) _ _
+      (λ t. still o e why.Same v h)
+      (λ g. forgotten_fine o e v (is_leading-mode v.mode q.0) h from.index p.1
+      (subst (λ j. Member (letter (role kind.Matchmaker from.index) me (msg.GarbageB j)) sent) (same_round-true i (round_of o) q.1) x)))
