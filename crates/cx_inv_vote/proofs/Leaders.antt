@@ -1,6 +1,7 @@
 -- Each row of a leader keeps the facts: its whole step, and the step that is cut with its record kept.
 use Rattle.std.proofs.Common.{◌≡◌, ℕ, ◌+◌, ◌*◌, ◌<◌, ◌≤◌, Bool, true, false, not, ◌&&◌, ◌||◌, map, ◌⊎◌, List, [], ◌∷◌, ◌++◌, length, Option, Some, None, inl, inr, ap, sym, subst, ◌∙◌, refl, arith, max, ◌==◌}
 use Rattle.std.specs.Prelude.{nat_lt, nat_le, slice_set, slice_index_or, if◌then◌else◌}
+use Rattle.std.proofs.lemmas.Option.{same_Some}
 use Rattle.std.proofs.lemmas.Bool.{true≢false, and_parts, not-true, not-false, ltb-true, ltb-false, leb-true}
 use Rattle.cx_base.specs.declared.cluster.Cluster.{Cluster}
 use Rattle.cx_base.specs.declared.command.Command.{Command}
@@ -9,6 +10,7 @@ use Rattle.cx_base.specs.declared.command.Value.{Value}
 use Rattle.cx_base.specs.declared.command.Value.TheVariants.{Batch}
 use Rattle.cx_base.specs.declared.event.Order.{Order as OrderOf}
 use Rattle.cx_base.specs.declared.event.Order.TheVariants.{Lead, Change, Collect}
+use Rattle.cx_base.specs.declared.role.Kind.{Kind}
 use Rattle.cx_base.specs.declared.role.Kind.TheVariants as kind
 use Rattle.cx_base.specs.declared.role.RoleId.{RoleId}
 use Rattle.cx_base.specs.declared.round.Round.{Round}
@@ -40,7 +42,7 @@ use Rattle.cx_model.specs.Leader.{LeaderDurable, LeaderVolatile, leader_rules, r
 use Rattle.cx_model.specs.Lists.{same_role-true}
 use Rattle.cx_model.specs.Matched.{enough, matchmakers, is_counted, live_entries, is_member_of, members_of, members_in, rows_whole}
 use Rattle.cx_model.specs.Member.{Member}
-use Rattle.cx_model.specs.Names.{names, names_role, names_body, names_grid}
+use Rattle.cx_model.specs.Names.{names, names_role, names_body, names_grid, count_of}
 use Rattle.cx_model.specs.Outcome.{Outcome, answered, replied, by_test}
 use Rattle.cx_model.specs.Plan.{promised_by, has_promised, plan, placed_from}
 use Rattle.cx_model.specs.Promises.{HasKept, IsConfig}
@@ -69,6 +71,10 @@ each P make ns h d m = let r = Member-map make d ns m in subst P (sym r.2) (h r.
 
 quiet_each : (make : ℕ → Letter) (ns : List ℕ) → ((n : ℕ) → IsPlainMsg (make n).msg) → QuietSends (map make ns)
 quiet_each make ns h = each (λ (d : Letter). IsPlainMsg d.msg) make ns h
+
+-- what a leading leader asks again
+abbrev asked_again : Cluster → RoleId → Entry → LeaderVolatile → List Letter
+asked_again c me own v = map (propose_to c me own v.cw) (open_values v) ++ map (leads_to me own.round) (below c.batchers) ++ stage_sends c me own v.collection
 
 -- what a leading leader sends
 
@@ -471,3 +477,173 @@ module _ (c : Cluster) (history : List KeptRecord) (sent : List Letter) (states 
       (λ t. still o e why.Same v h)
       (λ g. forgotten_fine o e v (is_leading-mode v.mode q.0) h from.index p.1
       (subst (λ j. Member (letter (role kind.Matchmaker from.index) me (msg.GarbageB j)) sent) (same_round-true i (round_of o) q.1) x)))
+
+  -- what is waited for is asked again
+
+  stage_are : (own : Entry) (longer : List Letter) (v : LeaderVolatile) → IsLeading c history sent own v → (d : Letter) → Member d (stage_sends c me own v.collection)
+      → IsLeaders c history longer own v.proposed d
+  stage_are own longer v leading =
+      by_test (λ ds. (d : Letter) → Member d ds → IsLeaders c history longer own v.proposed d) (is_informing v.collection.stage) _ _
+      (λ t. informs_are c history longer me own v.proposed v.collection.mark (members_in c own.grid))
+      (λ f. by_test (λ ds. (d : Letter) → Member d ds → IsLeaders c history longer own v.proposed d) (is_collecting v.collection.stage) _ _
+      (λ t. garbages_are c history longer me own v.proposed (matchmakers c) leading.config
+      (subst (λ st. InStage c history own v.end v.collection st) (is_collecting-stage v.collection.stage t) leading.stage))
+      (λ g d m. absurd m))
+
+  tick_leading_fine : (own : Entry) → dur.own ≡ Some own → (v : LeaderVolatile) → v.mode ≡ Leading → Knows (Some own) v → Fine (tick_in c me v Leading (Some own))
+  tick_leading_fine own e v mode h =
+      leads own e why.Resent v mode h.0 leading (asked_again c me own v)
+      (Member-both (IsLeaders c history (sent ++ asked_again c me own v) own v.proposed)
+      (map (propose_to c me own v.cw) (open_values v) ++ map (leads_to me own.round) (below c.batchers)) (stage_sends c me own v.collection)
+      (Member-both (IsLeaders c history (sent ++ asked_again c me own v) own v.proposed) (map (propose_to c me own v.cw) (open_values v)) (map (leads_to me own.round) (below c.batchers))
+      (proposals_are c history (sent ++ asked_again c me own v) me own v.proposed v.cw (open_values v)
+      (λ p m. let k = (Member-filter (λ (q : Placed). not (is_in q.slot v.chosen)) p v.proposed m).0 in (k, (leading.window p k).0)))
+      (leads_are c history (sent ++ asked_again c me own v) me own v.proposed (below c.batchers) leading.matched))
+      (stage_are own (sent ++ asked_again c me own v) v leading))
+    where
+      leading : IsLeading c history sent own v
+      leading = is_leading_in own e v mode h
+
+  tick_fine : (o : Option Entry) → dur.own ≡ o → (v : LeaderVolatile) → Knows o v → (mode : Mode) → v.mode ≡ mode → Fine (tick_in c me v mode o)
+  tick_fine None e v h mode is = still None e why.Idle v h
+  tick_fine (Some own) e v h Idle is = still (Some own) e why.Idle v h
+  tick_fine (Some own) e v h Matching is = asks_matchmakers own e why.Resent v (matchmakers c) h
+  tick_fine (Some own) e v h Phase1 is = asks_acceptors own e why.Resent v (members_of c (live_entries v.told)) h
+  tick_fine (Some own) e v h Leading is = tick_leading_fine own e v is h
+
+  -- a new round
+
+  module _ (v : LeaderVolatile) (g : Shape) (i : Round) (owned : i.id ≡ l)
+      (above : (j : Round) (k : Shape) → HasKept history me (kept.Round j k) → is_before j i ≡ true)
+      (o : Option Entry) (has_own : dur.own ≡ o) (h : Knows o v) where
+    names_me : me ≡ role kind.Leader i.id
+    names_me = ap (λ n. role kind.Leader n) (sym owned)
+
+    abbrev begun : LeaderVolatile
+    begun = record v { mode = Matching; told = []; promises = []; collection = not_collecting }
+
+    not_configured : (k : Shape) → IsConfig history i k → ⊥
+    not_configured k x = round_new c history sent states facts me i g names_me above x.0 k x.1
+
+    begun_matching : IsMatching c sent (record { round = i; grid = g }) begun
+    begun_matching = record {
+      unproposed = λ s u x. not_configured x.2 (facts.says _ x.4).0;
+      unended = λ x. not_configured x.2 (facts.says _ x.3).0;
+      off = refl;
+      once = tt;
+      known = λ m k. absurd k;
+    }
+
+    begun_fine : Fine (begin_in c me v g (Some i))
+    begun_fine =
+        lands c history sent states facts me LeaderIn (begin_in c me v g (Some i))
+        (quiet_each (match_a_to me i g) (matchmakers c) (λ n. (λ j k s cw u e. cc, λ j k e. cc)))
+        (keeps_record c history sent states facts me LeaderIn why.Started (kept.Round i g) begun (map (match_a_to me i g) (matchmakers c))
+        (keep_round c history sent states facts me i g names_me above)
+        (leader_state c (entry_by me (kept.Round i g) ∷ history) sent me (Some (record { round = i; grid = g }))
+        (ap (λ (d : LeaderDurable). d.own) (durable_own leader_rules me (kept.Round i g) history))
+        begun (told_begun sent me (round_of o) v h.0 i) begun_matching)
+        (λ longer. each (λ (d : Letter). Says c (entry_by me (kept.Round i g) ∷ history) longer d.from d.msg) (match_a_to me i g) (matchmakers c) (λ n. (me, inl refl))))
+
+  begin_fine : (o : Option Entry) → dur.own ≡ o → (v : LeaderVolatile) → Knows o v → (g : Shape) (next : Option Round)
+      → ((i : Round) → next ≡ Some i → (i.id ≡ l) × ((j : Round) (k : Shape) → HasKept history me (kept.Round j k) → is_before j i ≡ true))
+      → Fine (begin_in c me v g next)
+  begin_fine o e v h g None fits = still o e why.End v h
+  begin_fine o e v h g (Some i) fits = let p = fits i refl in begun_fine v g i p.0 p.1 o e h
+
+  -- a round above a leader's last one is above all that it kept
+  above_last : (o : Option Entry) → dur.own ≡ o → (i : Round) → is_before (round_of o) i ≡ true
+      → (j : Round) (k : Shape) → HasKept history me (kept.Round j k) → is_before j i ≡ true
+  above_last None e i up j k x = absurd ((subst (λ d. IsLast history me d) e (facts.last me)) j k x)
+  above_last (Some own) e i up j k x = before-from_at_most j own.round i ((subst (λ d. IsLast history me d) e (facts.last me)).1 j k x) up
+
+  lead_after-fits : (o : Option Entry) → dur.own ≡ o → (seen i : Round) → lead_after (round_of o) seen l ≡ Some i
+      → (i.id ≡ l) × ((j : Round) (k : Shape) → HasKept history me (kept.Round j k) → is_before j i ≡ true)
+  lead_after-fits o e seen i is =
+      let p = next_is (max (round_of o).r seen.r == 4294967295) is in
+      (ap (λ (x : Round). x.id) p,
+        above_last o e i (before-higher (round_of o) i (let q : i.r ≡ max (round_of o).r seen.r + 1 = ap (λ (x : Round). x.r) p in omega arith)))
+    where
+      next_is : (b : Bool) → (if b then None else Some (record { r = max (round_of o).r seen.r + 1; id = l; s = 0 })) ≡ Some i
+          → i ≡ record { r = max (round_of o).r seen.r + 1; id = l; s = 0 }
+      next_is true q = cc
+      next_is false q = sym (same_Some _ i q)
+
+  lead_fine : (o : Option Entry) → dur.own ≡ o → (v : LeaderVolatile) → Knows o v → (g : Shape) → Fine (lead_row c me (record { own = o }) v g)
+  lead_fine o e v h g =
+      by_test Fine (names_grid c g) _ _
+      (λ t. begin_fine o e v h g (lead_after (round_of o) v.seen l) (lead_after-fits o e v.seen))
+      (λ f. still o e why.Stranger v h)
+
+  change_after-fits : (own : Entry) → dur.own ≡ Some own → (i : Round) → change_after own.round ≡ Some i
+      → (i.id ≡ l) × ((j : Round) (k : Shape) → HasKept history me (kept.Round j k) → is_before j i ≡ true)
+  change_after-fits own e i is =
+      let p = next_is (own.round.s == 4294967295) is in
+      let owner = facts.owner me own.round own.grid (subst (λ d. IsLast history me d) e (facts.last me)).0 in
+      (ap (λ (x : Round). x.id) p ∙ sym (ap (λ (a : RoleId). a.index) owner),
+        above_last (Some own) e i (subst (λ x. is_before own.round x ≡ true) (sym p) (before-changed own.round)))
+    where
+      next_is : (b : Bool) → (if b then None else Some (record own.round { s = own.round.s + 1 })) ≡ Some i → i ≡ record own.round { s = own.round.s + 1 }
+      next_is true q = cc
+      next_is false q = sym (same_Some _ i q)
+
+  change_leads : (o : Option Entry) → dur.own ≡ o → (v : LeaderVolatile) → v.mode ≡ Leading → Knows o v → (g : Shape) → Fine (begin_in c me v g (change_after (round_of o)))
+  change_leads None e v mode h g = absurd (true≢false (sym h.1 ∙ ap is_idle mode))
+  change_leads (Some own) e v mode h g = begin_fine (Some own) e v h g (change_after own.round) (change_after-fits own e)
+
+  change_fine : (o : Option Entry) → dur.own ≡ o → (v : LeaderVolatile) → Knows o v → (g : Shape) → Fine (change_row c me (record { own = o }) v g)
+  change_fine o e v h g =
+      by_test Fine (not (names_grid c g)) _ _
+      (λ t. still o e why.Stranger v h)
+      (λ f. by_test Fine (not (is_leading v.mode)) _ _
+      (λ t. still o e why.Idle v h)
+      (λ k. change_leads o e v (is_leading-mode v.mode (not-false _ k)) h g))
+
+  -- by the input
+
+  order_fine : (o : Option Entry) → dur.own ≡ o → (v : LeaderVolatile) → Knows o v → (order : OrderOf) → Fine (order_row c me (record { own = o }) v order)
+  order_fine o e v h (Lead g) = lead_fine o e v h g
+  order_fine o e v h (Change g) = change_fine o e v h g
+  order_fine o e v h Collect = collect_fine o e v h
+
+  -- a datagram comes from a role of this kind
+  by_kind : (from : RoleId) (m : Msg) (k : Kind) → from.kind ≡ k → Member (letter from me m) sent → Member (letter (role k from.index) me m) sent
+  by_kind from m k e x = subst (λ j. Member (letter (role j from.index) me m) sent) e x
+
+  takes_fine : (o : Option Entry) → dur.own ≡ o → (v : LeaderVolatile) → Knows o v → Kinds history sent states → (from : RoleId) (m : Msg) → Member (letter from me m) sent
+      → names_role c from ≡ true → Fine (leader_takes c me (record { own = o }) v from m)
+  takes_fine o e v h kinds from (msg.MatchB i w es) x named =
+      let k : from.kind ≡ kind.Matchmaker = kinds.senders _ x in
+      match_b_fine o e v h from i w es (by_kind from (msg.MatchB i w es) kind.Matchmaker k x)
+      (ltb-true from.index (2 * c.f + 1) (subst (λ j. nat_lt from.index (count_of c j) ≡ true) k named))
+  takes_fine o e v h kinds from (msg.MatchNack i reason other) x named = match_nack_fine o e v h i reason other
+  takes_fine o e v h kinds from (msg.Phase1B i cw votes) x named =
+      phase1b_fine o e v h from i cw votes (by_kind from (msg.Phase1B i cw votes) kind.Acceptor (kinds.senders _ x) x)
+  takes_fine o e v h kinds from (msg.Nack i promise) x named = nack_fine o e v h i promise
+  takes_fine o e v h kinds from (msg.Batch commands) x named = batch_fine o e v h commands
+  takes_fine o e v h kinds from (msg.ChosenIn i s) x named = chosen_in_fine o e v h from i s x
+  takes_fine o e v h kinds from (msg.Held n) x named = held_fine o e v h from n (by_kind from (msg.Held n) kind.Replica (kinds.senders _ x) x)
+  takes_fine o e v h kinds from (msg.Informed i n) x named =
+      informed_fine o e v h from i n (by_kind from (msg.Informed i n) kind.Acceptor (kinds.senders _ x) x)
+  takes_fine o e v h kinds from (msg.GarbageB i) x named =
+      garbage_b_fine o e v h from i (by_kind from (msg.GarbageB i) kind.Matchmaker (kinds.senders _ x) x)
+  takes_fine o e v h kinds from m x named = still o e why.Stranger v h
+
+  row_fine : (o : Option Entry) → dur.own ≡ o → (v : LeaderVolatile) → Knows o v → Kinds history sent states → (i : Input) → Given sent me i
+      → Fine (leader_row c me (record { own = o }) v i)
+  row_fine o e v h kinds (Take d) given =
+      by_test Fine (same_role d.to me && names c d) _ _
+      (λ t. let p = and_parts (names_role c d.from && names_role c d.to) (names_body c d.msg) (and_parts (same_role d.to me) (names c d) t).1 in
+      takes_fine o e v h kinds d.from d.msg (subst (λ a. Member (letter d.from a d.msg) sent) given.0 given.1)
+      (and_parts (names_role c d.from) (names_role c d.to) p.0).0)
+      (λ f. still o e why.Stranger v h)
+  row_fine o e v h kinds Tick given = tick_fine o e v h v.mode refl
+  row_fine o e v h kinds (Order order) given = order_fine o e v h order
+
+-- the rows of a leader keep the facts
+pub leader_lands : (c : Cluster) (kept : List KeptRecord) (sent : List Letter) (states : RoleId → State) (l : ℕ) (v : LeaderVolatile) (i : Input)
+    → Kinds kept sent states → Facts c kept sent states → states (role kind.Leader l) ≡ LeaderIn v → Given sent (role kind.Leader l) i
+    → Lands (Facts c) kept sent states (role kind.Leader l) LeaderIn (leader_row c (role kind.Leader l) (durable_of leader_rules (role kind.Leader l) kept) v i)
+leader_lands c kept sent states l v i kinds facts at given =
+    row_fine c kept sent states facts l (durable_of leader_rules (role kind.Leader l) kept).own refl v
+    (subst (λ s. InState c kept sent (role kind.Leader l) s) at (facts.running (role kind.Leader l))) kinds i given

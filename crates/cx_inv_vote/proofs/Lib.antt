@@ -5,3 +5,10 @@ pub mod Moves
 pub mod Told
 pub mod Rows
 pub mod Leaders
+pub mod Acceptors
+pub mod Matchmakers
+pub mod Proxies
+pub mod Replicas
+pub mod Readers
+pub mod Start
+pub mod Steps

@@ -2,21 +2,39 @@
 use Rattle.std.proofs.Common.{◌≡◌, List, [], ◌∷◌, ◌++◌, Option, Some, None, append-nil, sym, subst, refl}
 use Rattle.std.proofs.lemmas.Option.{same_Some}
 use Rattle.cx_base.specs.declared.cluster.Cluster.{Cluster}
+use Rattle.cx_base.specs.declared.role.Kind.{Kind}
 use Rattle.cx_base.specs.declared.role.Kind.TheVariants as kind
 use Rattle.cx_base.specs.declared.role.RoleId.{RoleId}
 use Rattle.cx_base.specs.declared.why.Why.{Why}
+use Rattle.cx_base.specs.Role.{role}
 use Rattle.cx_msg.specs.Letter.{Letter, letter}
 use Rattle.cx_msg.specs.declared.input.KeptRecord.{KeptRecord}
 use Rattle.cx_msg.specs.declared.kept.Record.{Record}
 use Rattle.cx_msg.specs.declared.message.Msg.{Msg}
+use Rattle.cx_model.specs.Lists.{role_from_parts}
 use Rattle.cx_model.specs.Member.{Member}
 use Rattle.cx_model.specs.Outcome.{Outcome, answered, replied}
+use Rattle.cx_inv_run.specs.Kinds.{IsSender, OfKind}
 use Rattle.cx_inv_run.specs.Laws.{Lands}
 use Rattle.cx_inv_run.specs.States.{State, Down, set_state, entry_by, with_record}
 use Rattle.cx_inv_run.proofs.Members.{Member-first, Member-one}
 use Rattle.cx_inv_match.specs.Facts.{Says, InState, Facts}
 use Rattle.cx_inv_match.proofs.Keep.{stop}
+use Rattle.cx_inv_vote.specs.Laws.{IsPlainMsg}
 use Rattle.cx_inv_vote.proofs.Send.{QuietSends, still_state, send_plain}
+
+-- only a leader proposes, and ends rounds
+
+plain_kind : (k : Kind) (m : Msg) → (k ≡ kind.Leader → ⊥) → IsSender k m → IsPlainMsg m
+plain_kind k m other sends =
+    (λ i g s cw v e. other (subst (λ x. IsSender k x) (sym e) sends), λ i g e. other (subst (λ x. IsSender k x) (sym e) sends))
+
+pub quiet_kind : {V : Type 0} (me : RoleId) (o : Outcome V) → (me.kind ≡ kind.Leader → ⊥) → OfKind me o → QuietSends o.sends
+quiet_kind me o other of_kind d m = plain_kind me.kind d.msg other (of_kind.sends d m).1
+
+-- the role of a kind with its own index
+pub is_role : (r : RoleId) (k : Kind) → r.kind ≡ k → r ≡ role k r.index
+is_role r k e = role_from_parts r.kind k r.index r.index e refl
 
 -- A row keeps a record only where the facts hold with it, says what is so, and leaves what it should know.
 pub record Keeps {V : Type 0} (c : Cluster) (history : List KeptRecord) (sent : List Letter) (states : RoleId → State) (me : RoleId) (make : V → State) (o : Outcome V) : Type 0 where
