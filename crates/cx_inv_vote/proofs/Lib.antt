@@ -2,6 +2,7 @@ pub mod Searches
 pub mod Send
 pub mod Lead
 pub mod Moves
+pub mod Told
 pub mod Rows
 pub mod Leaders
 pub mod Acceptors
