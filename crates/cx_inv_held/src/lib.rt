@@ -1,0 +1,2 @@
+//! Watermarks tell the truth: f + 1 replicas hold all slots below each of them.
+#![tactic(auto)]
