@@ -1,9 +1,8 @@
 -- A replica tells no watermarks, and no greater number of slots than it holds.
-use Rattle.std.specs.Prelude.{◌≡◌, ℕ, ◌+◌, ◌==◌, ◌%◌, ◌≤◌, ◌&&◌, nat_lt, nat_le, map, filter, if◌then◌else◌, List, [], ◌∷◌, ◌++◌, length, slice_get, Option, None, Some}
+use Rattle.std.specs.Prelude.{ℕ, ◌+◌, ◌==◌, ◌%◌, ◌≤◌, ◌&&◌, nat_lt, nat_le, map, filter, List, [], ◌∷◌, ◌++◌, length, slice_get, Option, None, Some}
 use Rattle.std.specs.List.{list_any}
 use Rattle.std.proofs.Common.{arith}
 use Rattle.cx_base.specs.declared.cluster.Cluster.{Cluster}
-use Rattle.cx_base.specs.declared.command.Answered.{Answered}
 use Rattle.cx_base.specs.declared.command.Value.{Value}
 use Rattle.cx_base.specs.declared.role.Kind.TheVariants as kind
 use Rattle.cx_base.specs.declared.role.RoleId.{RoleId}
@@ -12,7 +11,7 @@ use Rattle.cx_base.specs.declared.why.Why.TheVariants as why
 use Rattle.cx_base.specs.Lists.{below}
 use Rattle.cx_base.specs.Log.{ready_values}
 use Rattle.cx_base.specs.Role.{role, same_role}
-use Rattle.cx_msg.specs.Letter.{Letter, letter}
+use Rattle.cx_msg.specs.Letter.{letter}
 use Rattle.cx_msg.specs.declared.input.Input.{Input}
 use Rattle.cx_msg.specs.declared.input.Input.TheVariants as input
 use Rattle.cx_msg.specs.declared.input.KeptRecord.{KeptRecord}
@@ -23,8 +22,8 @@ use Rattle.cx_model.specs.Names.{names}
 use Rattle.cx_model.specs.Outcome.{answered, either_way}
 use Rattle.cx_model.specs.Replica.{ReplicaDurable, ReplicaVolatile, Machine, replica_rules, execute_value, machine_of, results_at, results_from, read_answer_to, read_answers, apply, chosen_row, read_row, fetch_found, replica_takes, held_to, fetch_to, replica_tick, replica_row}
 use Rattle.cx_model.specs.Request.{same_read}
-use Rattle.cx_inv_run.specs.States.{Given, ReplicaIn, durable_of}
-use Rattle.cx_inv_held.specs.Held.{SaysLow, slots_held}
+use Rattle.cx_inv_run.specs.States.{ReplicaIn, durable_of}
+use Rattle.cx_inv_held.specs.Held.{slots_held}
 use Rattle.cx_inv_held.proofs.Keep.{AllSayLow, IsLow, none_low, one_low, both_low, each_low, answered_low, replied_low, choose_low}
 
 module _ (c : Cluster) (kept : List KeptRecord) (me : RoleId) where
