@@ -20,7 +20,7 @@ use Rattle.cx_inv_run.proofs.Quorums.{length-below}
 use Rattle.cx_inv_run.proofs.Senders.{batcher_kinds, matchmaker_kinds, unbatcher_kinds, reader_kinds}
 use Rattle.cx_inv_run.proofs.Steps.{run_keeps, along_anything, all_allowed}
 use Rattle.cx_inv_held.specs.Held.{LowState, LowFacts}
-use Rattle.cx_inv_held.specs.Laws.{WatermarksAreHeld}
+use Rattle.cx_inv_held.specs.Laws.{WatermarksAreHeld, KeptAreHeld}
 use Rattle.cx_inv_held.proofs.Acceptors.{acceptor_stored, acceptor_low}
 use Rattle.cx_inv_held.proofs.Calm.{calm_low}
 use Rattle.cx_inv_held.proofs.Grow.{none_stored}
@@ -96,3 +96,6 @@ low_facts c es = run_keeps c (λ e. Unit {0}) anything (LowFacts c) (low_laws c)
 
 pub watermarks_held : WatermarksAreHeld
 watermarks_held c es = are_held c (run c es) (low_facts c es)
+
+pub kept_held : KeptAreHeld
+kept_held c es = (watermarks_held c es).records

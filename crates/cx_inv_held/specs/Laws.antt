@@ -1,5 +1,5 @@
 -- What is so of watermarks at every moment of every run.
-use Rattle.std.specs.Prelude.{◌≡◌, ℕ, ◌≤◌, List, length, slice_get, Some}
+use Rattle.std.specs.Prelude.{◌≡◌, ℕ, ◌+◌, ◌≤◌, List, length, slice_get, Some}
 use Rattle.cx_base.specs.declared.cluster.Cluster.{Cluster}
 use Rattle.cx_base.specs.declared.event.Event.{Event}
 use Rattle.cx_base.specs.declared.role.Kind.TheVariants as kind
@@ -12,7 +12,7 @@ use Rattle.cx_model.specs.declared.states.Pending.{Pending}
 use Rattle.cx_model.specs.Facts.{IsHeld, acceptor_of, watermark_of}
 use Rattle.cx_model.specs.Leader.{LeaderVolatile}
 use Rattle.cx_model.specs.Member.{Member}
-use Rattle.cx_model.specs.Promises.{HasKept, watermark_in}
+use Rattle.cx_model.specs.Promises.{HasKept, holders, watermark_in}
 use Rattle.cx_model.specs.Proxy.{ProxyVolatile}
 use Rattle.cx_model.specs.World.{World, run, log_of}
 
@@ -30,3 +30,9 @@ pub record AreHeld (c : Cluster) (w : World) : Type 0 where
 
 abbrev pub WatermarksAreHeld : Type 0
 WatermarksAreHeld = (c : Cluster) (es : List Event) → AreHeld c (run c es)
+
+-- of safe retirement: at least f + 1 replicas kept as many values as the watermark of a kept record says
+abbrev pub KeptAreHeld : Type 0
+KeptAreHeld =
+    (c : Cluster) (es : List Event) (who : RoleId) (what : Record) (cw : ℕ)
+    → HasKept (run c es).kept who what → watermark_in what ≡ Some cw → c.f + 1 ≤ holders c (run c es).kept cw
