@@ -19,16 +19,18 @@ use Rattle.cx_inv_run.specs.States.{State, Down, BatcherIn, LeaderIn, ProxyIn, R
 use Rattle.cx_inv_run.proofs.Quorums.{length-below}
 use Rattle.cx_inv_run.proofs.Senders.{batcher_kinds, matchmaker_kinds, unbatcher_kinds, reader_kinds}
 use Rattle.cx_inv_run.proofs.Steps.{run_keeps, along_anything, all_allowed}
+use Rattle.cx_inv_vote.proofs.Agree.{kept_values_chosen}
 use Rattle.cx_inv_held.specs.Held.{LowState, LowFacts}
-use Rattle.cx_inv_held.specs.Laws.{WatermarksAreHeld, KeptAreHeld}
+use Rattle.cx_inv_held.specs.Laws.{WatermarksHold, KeptWatermarks}
 use Rattle.cx_inv_held.proofs.Acceptors.{acceptor_stored, acceptor_low}
 use Rattle.cx_inv_held.proofs.Calm.{calm_low}
+use Rattle.cx_inv_held.proofs.Chosen.{chosen_below}
 use Rattle.cx_inv_held.proofs.Grow.{none_stored}
 use Rattle.cx_inv_held.proofs.Keep.{AllSayLow, none_low, one_low, both_low, low_with, low_lands}
 use Rattle.cx_inv_held.proofs.Leaders.{leader_low}
 use Rattle.cx_inv_held.proofs.Proxies.{proxy_low}
 use Rattle.cx_inv_held.proofs.Replicas.{replica_low}
-use Rattle.cx_inv_held.proofs.Worlds.{are_held}
+use Rattle.cx_inv_held.proofs.Worlds.{watermark_facts}
 
 -- a leader that was just opened noted 0 for each replica
 zeros : (xs : List ℕ) (p n : ℕ) → slice_get (map (λ r. 0) xs) p ≡ Some n → n ≡ 0
@@ -94,8 +96,11 @@ low_laws c = record {
 pub low_facts : (c : Cluster) (es : List Event) → HoldsIn (LowFacts c) (run c es)
 low_facts c es = run_keeps c (λ e. Unit {0}) anything (LowFacts c) (low_laws c) es (along_anything (run c []) es) (all_allowed (run c []) es)
 
-pub watermarks_held : WatermarksAreHeld
-watermarks_held c es = are_held c (run c es) (low_facts c es)
+pub watermarks_hold : WatermarksHold
+watermarks_hold c es = watermark_facts c (run c es) (low_facts c es) (kept_values_chosen c es)
 
-pub kept_held : KeptAreHeld
-kept_held c es = (watermarks_held c es).records
+pub kept_watermarks : KeptWatermarks
+kept_watermarks = record {
+  chosen_below = λ c es who what cw m e s l. chosen_below c (run c es) (watermarks_hold c es) cw s ((watermarks_hold c es).records who what cw m e) l;
+  held = λ c es who what cw m e. (watermarks_hold c es).records who what cw m e;
+}
