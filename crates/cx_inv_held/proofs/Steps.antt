@@ -19,7 +19,7 @@ use Rattle.cx_inv_run.specs.States.{State, Down, BatcherIn, LeaderIn, ProxyIn, R
 use Rattle.cx_inv_run.proofs.Quorums.{length-below}
 use Rattle.cx_inv_run.proofs.Senders.{batcher_kinds, matchmaker_kinds, unbatcher_kinds, reader_kinds}
 use Rattle.cx_inv_run.proofs.Steps.{run_keeps, along_anything, all_allowed}
-use Rattle.cx_inv_vote.proofs.Agree.{kept_values_chosen}
+use Rattle.cx_inv_vote.proofs.Agree.{kept_is_chosen}
 use Rattle.cx_inv_held.specs.Held.{LowState, LowFacts}
 use Rattle.cx_inv_held.specs.Laws.{WatermarksHold, KeptWatermarks}
 use Rattle.cx_inv_held.proofs.Acceptors.{acceptor_stored, acceptor_low}
@@ -97,7 +97,7 @@ pub low_facts : (c : Cluster) (es : List Event) → HoldsIn (LowFacts c) (run c 
 low_facts c es = run_keeps c (λ e. Unit {0}) anything (LowFacts c) (low_laws c) es (along_anything (run c []) es) (all_allowed (run c []) es)
 
 pub watermarks_hold : WatermarksHold
-watermarks_hold c es = watermark_facts c (run c es) (low_facts c es) (kept_values_chosen c es)
+watermarks_hold c es = watermark_facts c (run c es) (low_facts c es) (kept_is_chosen c es)
 
 pub kept_watermarks : KeptWatermarks
 kept_watermarks = record {

@@ -1,7 +1,5 @@
 -- What is true of each message that a kind of role sends is true of all that its rows send; the same of records.
-use Rattle.std.proofs.Common.{◌≡◌, ℕ, ◌⊎◌, List, [], ◌∷◌, Option, None, Some, ap, sym, ◌∙◌, subst, refl, inl, inr}
-use Rattle.std.proofs.lemmas.Option.{same_Some}
-use Rattle.cx_base.specs.declared.cluster.Cluster.{Cluster}
+use Rattle.std.proofs.Common.{◌≡◌, ℕ, List, Option, Some, sym, subst, refl, inl, inr}
 use Rattle.cx_base.specs.declared.command.Answered.{Answered}
 use Rattle.cx_base.specs.declared.command.Command.{Command}
 use Rattle.cx_base.specs.declared.command.Reply.{Reply}
