@@ -1,0 +1,4 @@
+pub mod Each
+pub mod Next
+pub mod LeaderRows
+pub mod Ordered

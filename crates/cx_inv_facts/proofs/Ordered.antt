@@ -1,0 +1,63 @@
+-- Each step keeps the records in order, so they are in every run.
+use Rattle.std.proofs.Common.{◌≡◌, ℕ, List, [], ◌∷◌, Option, None, Some, subst, sym, ◌∙◌, refl, inl, inr}
+use Rattle.cx_base.specs.declared.cluster.Cluster.{Cluster}
+use Rattle.cx_base.specs.declared.event.Event.{Event}
+use Rattle.cx_base.specs.declared.role.Kind.TheVariants as kind
+use Rattle.cx_base.specs.declared.role.RoleId.{RoleId}
+use Rattle.cx_base.specs.Role.{role}
+use Rattle.cx_msg.specs.Letter.{Letter}
+use Rattle.cx_msg.specs.declared.input.KeptRecord.{KeptRecord}
+use Rattle.cx_msg.specs.declared.kept.Record.{Record}
+use Rattle.cx_model.specs.Member.{Member}
+use Rattle.cx_model.specs.Outcome.{Outcome}
+use Rattle.cx_model.specs.World.{run}
+use Rattle.cx_inv_run.specs.Kinds.{OfKind}
+use Rattle.cx_inv_run.specs.Laws.{Lands, Laws}
+use Rattle.cx_inv_run.specs.States.{State, BatcherIn, LeaderIn, ProxyIn, ReplicaIn, ReaderIn, plain, entry_by, with_record, durable_of, HoldsIn}
+use Rattle.cx_inv_run.proofs.Senders.{batcher_kinds, proxy_kinds, replica_kinds, unbatcher_kinds, reader_kinds}
+use Rattle.cx_inv_run.proofs.Steps.{always}
+use Rattle.cx_inv_match.specs.Facts.{Facts}
+use Rattle.cx_inv_vote.proofs.Steps.{facts_hold}
+use Rattle.cx_model.specs.Replica.{replica_rules}
+use Rattle.cx_inv_facts.specs.Order.{Each, LaterOfOne, Ordered}
+use Rattle.cx_inv_facts.proofs.LeaderRows.{leader_next}
+use Rattle.cx_inv_facts.proofs.Next.{IsNext, AllNext, KeepsNoRounds, is_later, no_rounds, acceptor_next, matchmaker_next}
+
+module _ (history : List KeptRecord) (sent : List Letter) (states : RoleId → State) (h : Ordered history sent states) (me : RoleId) where
+  one_more : (r : Record) → IsNext history me r → Each LaterOfOne (entry_by me r ∷ history)
+  one_more r next = (λ k m e. is_later history me r next k.what (subst (λ (a : RoleId). Member (entry_by a k.what) history) e m), h)
+
+  in_order : {V : Type 0} (make : V → State) (o : Outcome V) (r : Option Record) → o.kept ≡ r → AllNext history me r → Lands Ordered history sent states me make o
+  in_order make o None e next = record { whole = subst (λ (x : Option Record). Each LaterOfOne (with_record me x history)) (sym e) h; cut = λ r p. absurd (none_some r (sym e ∙ p)) }
+    where
+      none_some : (r : Record) → None ≡ Some r → ⊥
+      none_some r p = cc
+  in_order make o (Some r) e next = record {
+    whole = subst (λ (x : Option Record). Each LaterOfOne (with_record me x history)) (sym e) (one_more r next);
+    cut = λ q p. one_more q (subst (λ (x : Option Record). AllNext history me x) (sym e ∙ p) next);
+  }
+
+  -- a role that keeps no rounds
+  calm : {V : Type 0} (make : V → State) (o : Outcome V) → KeepsNoRounds me.kind → OfKind me o → Lands Ordered history sent states me make o
+  calm make o none kinds = in_order make o o.kept refl (no_rounds history me me.kind none o.kept kinds.keeps)
+
+ordered_laws : (c : Cluster) → Laws c (λ e. Unit {0}) (Facts c) Ordered
+ordered_laws c = record {
+  same = λ history sent states others same h. h;
+  start = λ states starts. tt;
+  stop = λ history sent states me h. h;
+  wake = λ history sent states me h down. h;
+  ask = λ history sent states e allowed facts h. h;
+  batcher = λ history sent states b v i facts h is given. calm history sent states h (role kind.Batcher b) BatcherIn _ tt (batcher_kinds c (role kind.Batcher b) refl v i);
+  leader = λ history sent states l v i facts h is given. in_order history sent states h (role kind.Leader l) LeaderIn _ _ refl (leader_next c history sent states facts l v i);
+  proxy = λ history sent states p v i facts h is given. calm history sent states h (role kind.Proxy p) ProxyIn _ tt (proxy_kinds c (role kind.Proxy p) refl v i);
+  acceptor = λ history sent states a i facts h is given. in_order history sent states h (role kind.Acceptor a) plain _ _ refl (acceptor_next c history sent states facts a i);
+  matchmaker = λ history sent states m i facts h is given. in_order history sent states h (role kind.Matchmaker m) plain _ _ refl (matchmaker_next c history sent states facts m i);
+  replica = λ history sent states p v i facts h is given.
+      calm history sent states h (role kind.Replica p) ReplicaIn _ tt (replica_kinds c (role kind.Replica p) refl (durable_of replica_rules (role kind.Replica p) history) v i);
+  unbatcher = λ history sent states u i facts h is given. calm history sent states h (role kind.Unbatcher u) plain _ tt (unbatcher_kinds c (role kind.Unbatcher u) refl i);
+  reader = λ history sent states r v i facts h is given. calm history sent states h (role kind.Reader r) ReaderIn _ tt (reader_kinds c (role kind.Reader r) refl v i);
+}
+
+pub ordered : (c : Cluster) (es : List Event) → HoldsIn Ordered (run c es)
+ordered c es = always c (Facts c) Ordered (ordered_laws c) (facts_hold c) es
