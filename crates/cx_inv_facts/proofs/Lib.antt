@@ -2,3 +2,5 @@ pub mod Each
 pub mod Next
 pub mod LeaderRows
 pub mod Ordered
+pub mod Moments
+pub mod RoundLaws

@@ -1,2 +1,12 @@
-//! The facts from which the hard property follows, as they are published.
+//! The facts from which the hard property follows, as they are published: each holds at every moment of every run.
+//!
+//! Stands on the model, on how properties of runs are proved, and on agreement, whose inductive facts say most of them. What is
+//! added here: roles keep their records in order, and which first phases were done.
 #![tactic(auto)]
+
+ghost use Rattle.cx_inv_facts.specs.Laws.{RoundsHold};
+
+/// Rounds: each is kept once, by the leader that it names, with one grid, and carries one value for each slot.
+pub fn rounds_hold()
+    ensures { RoundsHold }
+{}
