@@ -4,3 +4,5 @@ pub mod LeaderRows
 pub mod Ordered
 pub mod Moments
 pub mod RoundLaws
+pub mod Answering
+pub mod Turns

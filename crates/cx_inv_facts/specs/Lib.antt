@@ -1,2 +1,3 @@
 pub mod Order
+pub mod Answers
 pub mod Laws

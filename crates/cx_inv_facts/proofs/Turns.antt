@@ -1,0 +1,108 @@
+-- What an event does, by cases: nothing, a client's request, or the turn of a role, which is a row's or sends nothing.
+use Rattle.std.proofs.Common.{◌≡◌, ℕ, Bool, true, false, ◌⊎◌, List, [], ◌∷◌, Option, None, Some, subst, refl, inl, inr}
+use Rattle.std.specs.Prelude.{slice_get, if◌then◌else◌}
+use Rattle.cx_base.specs.declared.cluster.Cluster.{Cluster}
+use Rattle.cx_base.specs.declared.event.Cut.{Cut}
+use Rattle.cx_base.specs.declared.event.Cut.TheVariants.{Whole, Torn, Kept}
+use Rattle.cx_base.specs.declared.event.Event.{Event}
+use Rattle.cx_base.specs.declared.event.Event.TheVariants as event
+use Rattle.cx_base.specs.declared.role.Kind.TheVariants as kind
+use Rattle.cx_base.specs.declared.role.RoleId.{RoleId}
+use Rattle.cx_base.specs.declared.why.Why.{Why}
+use Rattle.cx_base.specs.declared.why.Why.TheVariants as why
+use Rattle.cx_base.specs.Role.{role}
+use Rattle.cx_field.specs.declared.parts.Token.{Token}
+use Rattle.cx_msg.specs.Letter.{Letter}
+use Rattle.cx_msg.specs.declared.input.Act.{Act}
+use Rattle.cx_msg.specs.declared.input.Act.TheVariants.{Give, Stop, Wake}
+use Rattle.cx_msg.specs.declared.input.Input.{Input}
+use Rattle.cx_msg.specs.declared.input.Input.TheVariants as input
+use Rattle.cx_msg.specs.declared.input.KeptRecord.{KeptRecord}
+use Rattle.cx_msg.specs.declared.kept.Record.{Record}
+use Rattle.cx_model.specs.Member.{Member}
+use Rattle.cx_model.specs.Outcome.{Outcome}
+use Rattle.cx_model.specs.Request.{is_stale, request}
+use Rattle.cx_model.specs.Rules.{Rules}
+use Rattle.cx_model.specs.Turn.{turn, turn_with, whole_turn}
+use Rattle.cx_model.specs.World.{World, Change, Turns, change, nothing, come, act_at, turn_at, turn_found, turn_done, durable_part}
+use Rattle.cx_inv_run.specs.States.{Given}
+use Rattle.cx_inv_run.proofs.Members.{Member-at}
+
+-- what an act gives was sent to the role
+abbrev pub GivenBy : List Letter → RoleId → Act → Type 0
+GivenBy sent me act = (i : Input) (cut : Cut) → act ≡ Give i cut → Given sent me i
+
+-- the request of a client that goes out
+abbrev pub request_sent : World → Token → Event → Change
+request_sent w t e = record { who = Some (role kind.Client t.client); why = why.Sent; roles = w.roles; kept = []; sends = request e }
+
+module _ (w : World) (P : Change → Type 0)
+    (still : (who : Option RoleId) (y : Why) → (y ≡ why.Leads → ⊥) → P (nothing who w.roles y))
+    (asks : (t : Token) (e : Event) → P (request_sent w t e))
+    (acts : (act : Act) (me : RoleId) → GivenBy w.sent me act → P (act_at w act me)) where
+  comes : (cut : Cut) (o : Option Letter) → ((d : Letter) → o ≡ Some d → Member d w.sent) → P (come w cut o)
+  comes cut None sent = still None why.Absent (λ p. cc)
+  comes cut (Some d) sent = acts (Give (input.Take d) cut) d.to (λ i k e. taken i k e)
+    where
+      taken : (i : Input) (k : Cut) → Give (input.Take d) cut ≡ Give i k → Given w.sent d.to i
+      taken i k e = given_as i (same_input i k e)
+        where
+          same_input : (i : Input) (k : Cut) → Give (input.Take d) cut ≡ Give i k → input.Take d ≡ i
+          same_input i k e = cc
+
+          given_as : (i : Input) → input.Take d ≡ i → Given w.sent d.to i
+          given_as i p = subst (λ x. Given w.sent d.to x) p (refl, sent d refl)
+
+  asked : (e : Event) (t : Token) (stale : Bool)
+      → P (if stale then nothing (Some (role kind.Client t.client)) w.roles why.Stale else request_sent w t e)
+  asked e t true = still (Some (role kind.Client t.client)) why.Stale (λ p. cc)
+  asked e t false = asks t e
+
+  calm_given : (me : RoleId) (act : Act) → ((d : Letter) (cut : Cut) → act ≡ Give (input.Take d) cut → ⊥) → GivenBy w.sent me act
+  calm_given me act none (input.Take d) cut e = absurd (none d cut e)
+  calm_given me act none input.Tick cut e = tt
+  calm_given me act none (input.Order order) cut e = tt
+
+  pub by_event : (e : Event) → P (change w e)
+  by_event (event.Write command batcher) =
+      let t : Token = record { client = command.client; seq = command.seq } in asked (event.Write command batcher) t (is_stale t (event.Write command batcher) w.events)
+  by_event (event.Read client seq reader replica key) =
+      let t : Token = record { client = client; seq = seq } in
+      asked (event.Read client seq reader replica key) t (is_stale t (event.Read client seq reader replica key) w.events)
+  by_event (event.Deliver n cut) = comes cut (slice_get w.sent n) (λ d e. Member-at d w.sent n e)
+  by_event (event.Tick r) = acts (Give input.Tick Whole) r (calm_given r (Give input.Tick Whole) (λ d cut e. cc))
+  by_event (event.Order l order cut) =
+      acts (Give (input.Order order) cut) (role kind.Leader l) (calm_given (role kind.Leader l) (Give (input.Order order) cut) (λ d k e. cc))
+  by_event (event.Crash r) = acts Stop r (calm_given r Stop (λ d cut e. cc))
+  by_event (event.Restart r) = acts Wake r (calm_given r Wake (λ d cut e. cc))
+
+-- a turn that is no row's, or whose step is cut, sends nothing and doesn't say `leads`
+abbrev pub IsStill : {V : Type 0} → Turns V → Type 0
+IsStill {V} t = (t.sends ≡ []) × (t.why ≡ why.Leads → ⊥)
+
+module _ {D V : Type 0} (rules : Rules D V) (c : Cluster) (me : RoleId) (history : List KeptRecord) (roles : List (Option V)) (P : Turns V → Type 0)
+    (still : (t : Turns V) → IsStill t → P t) where
+  cut_turns : (cut : Cut) (o : Outcome V) (r : Option Record) → P (turn_done me roles (whole_turn o)) → P (turn_done me roles (turn_with cut r o))
+  cut_turns cut o None h = h
+  cut_turns Whole o (Some r) h = h
+  cut_turns Torn o (Some r) h = still _ (refl, λ p. cc)
+  cut_turns Kept o (Some r) h = still _ (refl, λ p. cc)
+
+  module _ (act : Act) (rows : (v : V) (i : Input) (cut : Cut) → slice_get roles me.index ≡ Some (Some v) → act ≡ Give i cut
+      → P (turn_done me roles (whole_turn (rules.row c me (durable_part rules me history) v i)))) where
+    acted : (x : Act) → act ≡ x → (running : Option V) → slice_get roles me.index ≡ Some running
+        → P (turn_done me roles (turn rules c me (durable_part rules me history) x running))
+    acted (Give i cut) a None e = still _ (refl, λ p. cc)
+    acted (Give i cut) a (Some v) e =
+        cut_turns cut (rules.row c me (durable_part rules me history) v i) ((rules.row c me (durable_part rules me history) v i).kept) (rows v i cut e a)
+    acted Stop a None e = still _ (refl, λ p. cc)
+    acted Stop a (Some v) e = still _ (refl, λ p. cc)
+    acted Wake a None e = still _ (refl, λ p. cc)
+    acted Wake a (Some v) e = still _ (refl, λ p. cc)
+
+    found : (o : Option (Option V)) → slice_get roles me.index ≡ o → P (turn_found rules c me history act roles o)
+    found None e = still _ (refl, λ p. cc)
+    found (Some running) e = acted act refl running e
+
+    pub by_turn : P (turn_at rules c me history act roles)
+    by_turn = found (slice_get roles me.index) refl
