@@ -6,3 +6,5 @@ pub mod Moments
 pub mod RoundLaws
 pub mod Answering
 pub mod Turns
+pub mod ReaderAnswers
+pub mod MatchingLaws
