@@ -6,5 +6,7 @@ pub mod Moments
 pub mod RoundLaws
 pub mod Answering
 pub mod Turns
+pub mod Acting
 pub mod ReaderAnswers
 pub mod MatchingLaws
+pub mod Finishing

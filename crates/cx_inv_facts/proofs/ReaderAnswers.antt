@@ -21,27 +21,20 @@ use Rattle.cx_msg.specs.declared.input.Input.TheVariants as input
 use Rattle.cx_msg.specs.declared.input.KeptRecord.{KeptRecord}
 use Rattle.cx_msg.specs.declared.message.Msg.{Msg}
 use Rattle.cx_msg.specs.declared.message.Msg.TheVariants as msg
-use Rattle.cx_model.specs.Acceptor.{acceptor_rules}
-use Rattle.cx_model.specs.Batcher.{batcher_rules}
-use Rattle.cx_model.specs.Leader.{leader_rules}
 use Rattle.cx_model.specs.Matchmaker.{MatchmakerDurable, matchmaker_rules, matchmaker_takes, matchmaker_row, entry, has_round}
 use Rattle.cx_model.specs.Member.{Member}
 use Rattle.cx_model.specs.Names.{names}
 use Rattle.cx_model.specs.Outcome.{Outcome, either_way}
-use Rattle.cx_model.specs.Proxy.{proxy_rules}
-use Rattle.cx_model.specs.Reader.{reader_rules}
-use Rattle.cx_model.specs.Replica.{replica_rules}
 use Rattle.cx_model.specs.Request.{request}
-use Rattle.cx_model.specs.Unbatcher.{unbatcher_rules}
-use Rattle.cx_model.specs.World.{World, Change, Turns, change, act_of, durable_part}
-use Rattle.cx_inv_run.specs.Kinds.{IsSender, OfKind}
+use Rattle.cx_model.specs.World.{World, Change, change, act_of, durable_part}
+use Rattle.cx_inv_run.specs.Kinds.{IsSender}
 use Rattle.cx_inv_run.specs.States.{HoldsIn, durable_of}
 use Rattle.cx_inv_run.proofs.Histories.{durable_by_time}
 use Rattle.cx_inv_run.proofs.Members.{Member-one}
-use Rattle.cx_inv_run.proofs.Senders.{batcher_kinds, leader_kinds, proxy_kinds, acceptor_kinds, replica_kinds, unbatcher_kinds, reader_kinds}
 use Rattle.cx_inv_match.specs.Facts.{IsLog, Facts}
 use Rattle.cx_inv_match.specs.Words.{HasMatch}
-use Rattle.cx_inv_facts.proofs.Turns.{GivenBy, IsStill, by_event, by_turn}
+use Rattle.cx_inv_facts.proofs.Acting.{act_kinds}
+use Rattle.cx_inv_facts.proofs.Turns.{by_event, by_turn}
 
 abbrev pub ReaderTold : List KeptRecord → RoleId → Msg → Type 0
 ReaderTold history from (msg.MatchReadAck t w entries) = (j : Round) (g : Shape) → HasMatch history from j g → Member (entry j g) entries ⊎ (is_before j w ≡ true)
@@ -89,45 +82,15 @@ module _ (c : Cluster) (w : World) (facts : HoldsIn (Facts c) w) where
   abbrev ChangeTells : Change → Type 0
   ChangeTells ch = SendTells ch.sends
 
-  abbrev TurnTells : {V : Type 0} → Turns V → Type 0
-  TurnTells {V} t = SendTells t.sends
-
-  nothing_sent : {V : Type 0} (t : Turns V) → IsStill t → TurnTells t
-  nothing_sent t s d m = absurd (subst (λ l. Member d l) s.0 m)
-
-  of_kind : {V : Type 0} (me : RoleId) (o : Outcome V) → TellsNoReader me.kind → OfKind me o → SendTells o.sends
-  of_kind me o none kinds d m = tells_none (reverse w.kept) me.kind none d.from d.msg (kinds.sends d m).1
-
-  none_of : (k : Kind) (me : RoleId) → me.kind ≡ k → TellsNoReader k → TellsNoReader me.kind
-  none_of k me is none = subst TellsNoReader (sym is) none
+  calm : (act : Act) (me : RoleId) (k : Kind) → me.kind ≡ k → TellsNoReader k → ChangeTells (act_of w.cluster w.roles w.kept act me k)
+  calm act me k is none d m = tells_none (reverse w.kept) k none d.from d.msg (act_kinds w act me k is d m)
 
   act_tells : (act : Act) (me : RoleId) (k : Kind) → me.kind ≡ k → ChangeTells (act_of w.cluster w.roles w.kept act me k)
-  act_tells act me kind.Client is = λ d m. absurd m
-  act_tells act me kind.Batcher is =
-      by_turn batcher_rules w.cluster me w.kept w.roles.batchers TurnTells nothing_sent act
-      (λ v i cut e a. of_kind me _ (none_of kind.Batcher me is tt) (batcher_kinds w.cluster me is v i))
-  act_tells act me kind.Leader is =
-      by_turn leader_rules w.cluster me w.kept w.roles.leaders TurnTells nothing_sent act
-      (λ v i cut e a. of_kind me _ (none_of kind.Leader me is tt) (leader_kinds w.cluster me is (durable_part leader_rules me w.kept) v i))
-  act_tells act me kind.Proxy is =
-      by_turn proxy_rules w.cluster me w.kept w.roles.proxies TurnTells nothing_sent act
-      (λ v i cut e a. of_kind me _ (none_of kind.Proxy me is tt) (proxy_kinds w.cluster me is v i))
-  act_tells act me kind.Acceptor is =
-      by_turn acceptor_rules w.cluster me w.kept w.roles.acceptors TurnTells nothing_sent act
-      (λ v i cut e a. of_kind me _ (none_of kind.Acceptor me is tt) (acceptor_kinds w.cluster me is (durable_part acceptor_rules me w.kept) i))
   act_tells act me kind.Matchmaker is =
-      by_turn matchmaker_rules w.cluster me w.kept w.roles.matchmakers TurnTells nothing_sent act
+      by_turn matchmaker_rules w.cluster me w.kept w.roles.matchmakers (λ t. SendTells t.sends) (λ t s d m. absurd (subst (λ l. Member d l) s.silent m)) act
       (λ v i cut e a. row_tells w.cluster (reverse w.kept) me (durable_part matchmaker_rules me w.kept)
       (subst (λ (d : MatchmakerDurable). IsLog (reverse w.kept) me d) (sym (durable_by_time matchmaker_rules me w.kept)) (facts.logs me)) i)
-  act_tells act me kind.Replica is =
-      by_turn replica_rules w.cluster me w.kept w.roles.replicas TurnTells nothing_sent act
-      (λ v i cut e a. of_kind me _ (none_of kind.Replica me is tt) (replica_kinds w.cluster me is (durable_part replica_rules me w.kept) v i))
-  act_tells act me kind.Unbatcher is =
-      by_turn unbatcher_rules w.cluster me w.kept w.roles.unbatchers TurnTells nothing_sent act
-      (λ v i cut e a. of_kind me _ (none_of kind.Unbatcher me is tt) (unbatcher_kinds w.cluster me is i))
-  act_tells act me kind.Reader is =
-      by_turn reader_rules w.cluster me w.kept w.roles.readers TurnTells nothing_sent act
-      (λ v i cut e a. of_kind me _ (none_of kind.Reader me is tt) (reader_kinds w.cluster me is v i))
+  act_tells act me k is = calm act me k is tt
 
   request_tells : (e : Event) → SendTells (request e)
   request_tells (event.Write command batcher) d m = Member-one (λ (x : Letter). ReaderTold (reverse w.kept) x.from x.msg) _ tt d m

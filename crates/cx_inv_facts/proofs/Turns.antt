@@ -1,6 +1,8 @@
 -- What an event does, by cases: nothing, a client's request, or the turn of a role, which is a row's or sends nothing.
-use Rattle.std.proofs.Common.{◌≡◌, ℕ, Bool, true, false, ◌⊎◌, List, [], ◌∷◌, Option, None, Some, subst, refl, inl, inr}
-use Rattle.std.specs.Prelude.{slice_get, if◌then◌else◌}
+use Rattle.std.proofs.Common.{◌≡◌, ℕ, Bool, true, false, ◌⊎◌, List, [], ◌∷◌, Option, None, Some, ap, sym, ◌∙◌, subst, refl, inl, inr, ⊎_elim}
+use Rattle.std.specs.Prelude.{slice_get, slice_set, if◌then◌else◌}
+use Rattle.std.proofs.lemmas.Bool.{cases_eq}
+use Rattle.std.proofs.lemmas.Option.{same_Some}
 use Rattle.cx_base.specs.declared.cluster.Cluster.{Cluster}
 use Rattle.cx_base.specs.declared.event.Cut.{Cut}
 use Rattle.cx_base.specs.declared.event.Cut.TheVariants.{Whole, Torn, Kept}
@@ -19,12 +21,14 @@ use Rattle.cx_msg.specs.declared.input.Input.{Input}
 use Rattle.cx_msg.specs.declared.input.Input.TheVariants as input
 use Rattle.cx_msg.specs.declared.input.KeptRecord.{KeptRecord}
 use Rattle.cx_msg.specs.declared.kept.Record.{Record}
+use Rattle.cx_model.specs.Lists.{get_set_same, get_set_other}
 use Rattle.cx_model.specs.Member.{Member}
 use Rattle.cx_model.specs.Outcome.{Outcome}
 use Rattle.cx_model.specs.Request.{is_stale, request}
 use Rattle.cx_model.specs.Rules.{Rules}
-use Rattle.cx_model.specs.Turn.{turn, turn_with, whole_turn}
-use Rattle.cx_model.specs.World.{World, Change, Turns, change, nothing, come, act_at, turn_at, turn_found, turn_done, durable_part}
+use Rattle.cx_model.specs.Turn.{turn, turn_with, whole_turn, cut_turn}
+use Rattle.cx_model.specs.Turn as Turn
+use Rattle.cx_model.specs.World.{World, Change, Turns, change, nothing, come, act_at, turn_at, turn_found, turn_done, durable_part, kept_by}
 use Rattle.cx_inv_run.specs.States.{Given}
 use Rattle.cx_inv_run.proofs.Members.{Member-at}
 
@@ -76,33 +80,79 @@ module _ (w : World) (P : Change → Type 0)
   by_event (event.Crash r) = acts Stop r (calm_given r Stop (λ d cut e. cc))
   by_event (event.Restart r) = acts Wake r (calm_given r Wake (λ d cut e. cc))
 
--- a turn that is no row's, or whose step is cut, sends nothing and doesn't say `leads`
-abbrev pub IsStill : {V : Type 0} → Turns V → Type 0
-IsStill {V} t = (t.sends ≡ []) × (t.why ≡ why.Leads → ⊥)
+-- A turn that is no row's, or whose step is cut: it sends nothing and doesn't say `leads`, and each role of its kind that runs after it is fresh or
+-- ran before, and kept nothing now.
+pub record IsStill {V : Type 0} (me : RoleId) (fresh : V) (roles : List (Option V)) (t : Turns V) : Type 0 where
+  pub silent : t.sends ≡ []
+  pub no_word : t.why ≡ why.Leads → ⊥
+  pub runs : (l : ℕ) (v : V) → slice_get t.roles l ≡ Some (Some v) → (v ≡ fresh) ⊎ ((slice_get roles l ≡ Some (Some v)) × (l ≡ me.index → t.kept ≡ []))
 
-module _ {D V : Type 0} (rules : Rules D V) (c : Cluster) (me : RoleId) (history : List KeptRecord) (roles : List (Option V)) (P : Turns V → Type 0)
-    (still : (t : Turns V) → IsStill t → P t) where
-  cut_turns : (cut : Cut) (o : Outcome V) (r : Option Record) → P (turn_done me roles (whole_turn o)) → P (turn_done me roles (turn_with cut r o))
-  cut_turns cut o None h = h
-  cut_turns Whole o (Some r) h = h
-  cut_turns Torn o (Some r) h = still _ (refl, λ p. cc)
-  cut_turns Kept o (Some r) h = still _ (refl, λ p. cc)
+module _ {D V : Type 0} (rules : Rules D V) (c : Cluster) (me : RoleId) (history : List KeptRecord) (roles : List (Option V)) where
+  -- who runs after one role was set
 
-  module _ (act : Act) (rows : (v : V) (i : Input) (cut : Cut) → slice_get roles me.index ≡ Some (Some v) → act ≡ Give i cut
-      → P (turn_done me roles (whole_turn (rules.row c me (durable_part rules me history) v i)))) where
-    acted : (x : Act) → act ≡ x → (running : Option V) → slice_get roles me.index ≡ Some running
-        → P (turn_done me roles (turn rules c me (durable_part rules me history) x running))
-    acted (Give i cut) a None e = still _ (refl, λ p. cc)
-    acted (Give i cut) a (Some v) e =
-        cut_turns cut (rules.row c me (durable_part rules me history) v i) ((rules.row c me (durable_part rules me history) v i).kept) (rows v i cut e a)
-    acted Stop a None e = still _ (refl, λ p. cc)
-    acted Stop a (Some v) e = still _ (refl, λ p. cc)
-    acted Wake a None e = still _ (refl, λ p. cc)
-    acted Wake a (Some v) e = still _ (refl, λ p. cc)
+  set_cases : (running after : Option V) → slice_get roles me.index ≡ Some running → (l : ℕ) (v : V) → slice_get (slice_set roles me.index after) l ≡ Some (Some v)
+      → ((l ≡ me.index) × (after ≡ Some v)) ⊎ ((l ≡ me.index → ⊥) × (slice_get roles l ≡ Some (Some v)))
+  set_cases running after e l v f = ⊎_elim
+      (λ p. inl (p, same_Some after (Some v) (sym (get_set_same roles me.index running after e) ∙ subst (λ k. slice_get (slice_set roles me.index after) k ≡ Some (Some v)) p f)))
+      (λ d. inr (d, sym (get_set_other roles me.index l after d) ∙ f))
+      (cases_eq l me.index)
 
-    found : (o : Option (Option V)) → slice_get roles me.index ≡ o → P (turn_found rules c me history act roles o)
-    found None e = still _ (refl, λ p. cc)
-    found (Some running) e = acted act refl running e
+  stopped : (y : Why) (r : Option Record) (running : Option V) → slice_get roles me.index ≡ Some running → (y ≡ why.Leads → ⊥)
+      → IsStill me (rules.fresh c) roles (turn_done me roles (cut_turn y r))
+  stopped y r running e other = record {
+    silent = refl;
+    no_word = other;
+    runs = λ l v f. elim (set_cases running None e l v f) [ inl p ↦ cc_none p.1 | inr p ↦ inr (p.1, λ q. absurd (p.0 q)) ];
+  }
+    where
+      cc_none : {A : Type 0} {v : V} → None ≡ Some v → A
+      cc_none p = cc
 
-    pub by_turn : P (turn_at rules c me history act roles)
-    by_turn = found (slice_get roles me.index) refl
+  stays : (y : Why) (running after : Option V) → slice_get roles me.index ≡ Some running → (y ≡ why.Leads → ⊥)
+      → ((v : V) → after ≡ Some v → (v ≡ rules.fresh c) ⊎ (running ≡ Some v)) → IsStill me (rules.fresh c) roles (turn_done me roles (Turn.still after y))
+  stays y running after e other same = record {
+    silent = refl;
+    no_word = other;
+    runs = λ l v f. elim (set_cases running after e l v f) [
+      | inl p ↦ (elim (same v p.1) [
+        | inl q ↦ inl q
+        | inr q ↦ inr (subst (λ k. slice_get roles k ≡ Some (Some v)) (sym p.0) (e ∙ ap (λ (x : Option V). Some x) q), λ r. refl)
+      ])
+      | inr p ↦ inr (p.1, λ q. refl)
+    ];
+  }
+
+  -- what a turn keeps is of its role
+  pub turn_keeps : (act : Act) → (r : Option Record) × ((turn_at rules c me history act roles).kept ≡ kept_by me r)
+  turn_keeps act = go (slice_get roles me.index)
+    where
+      go : (o : Option (Option V)) → (r : Option Record) × ((turn_found rules c me history act roles o).kept ≡ kept_by me r)
+      go None = (None, refl)
+      go (Some running) = ((turn rules c me (durable_part rules me history) act running).kept, refl)
+
+  module _ (P : Turns V → Type 0) (still : (t : Turns V) → IsStill me (rules.fresh c) roles t → P t) where
+    cut_turns : (cut : Cut) (o : Outcome V) (r : Option Record) (v : V) → slice_get roles me.index ≡ Some (Some v)
+        → P (turn_done me roles (whole_turn o)) → P (turn_done me roles (turn_with cut r o))
+    cut_turns cut o None v e h = h
+    cut_turns Whole o (Some r) v e h = h
+    cut_turns Torn o (Some r) v e h = still _ (stopped why.Torn None (Some v) e (λ p. cc))
+    cut_turns Kept o (Some r) v e h = still _ (stopped why.Kept (Some r) (Some v) e (λ p. cc))
+
+    module _ (act : Act) (rows : (v : V) (i : Input) (cut : Cut) → slice_get roles me.index ≡ Some (Some v) → act ≡ Give i cut
+        → P (turn_done me roles (whole_turn (rules.row c me (durable_part rules me history) v i)))) where
+      acted : (x : Act) → act ≡ x → (running : Option V) → slice_get roles me.index ≡ Some running
+          → P (turn_done me roles (turn rules c me (durable_part rules me history) x running))
+      acted (Give i cut) a None e = still _ (stays why.Down None None e (λ p. cc) (λ v p. inr p))
+      acted (Give i cut) a (Some v) e =
+          cut_turns cut (rules.row c me (durable_part rules me history) v i) ((rules.row c me (durable_part rules me history) v i).kept) v e (rows v i cut e a)
+      acted Stop a None e = still _ (stays why.Down None None e (λ p. cc) (λ v p. inr p))
+      acted Stop a (Some v) e = still _ (stopped why.Crashed None (Some v) e (λ p. cc))
+      acted Wake a None e = still _ (stays why.Opened None (Some (rules.fresh c)) e (λ p. cc) (λ v p. inl (sym (same_Some (rules.fresh c) v p))))
+      acted Wake a (Some v) e = still _ (stays why.Up (Some v) (Some v) e (λ p. cc) (λ u p. inr p))
+
+      found : (o : Option (Option V)) → slice_get roles me.index ≡ o → P (turn_found rules c me history act roles o)
+      found None e = still _ record { silent = refl; no_word = λ p. cc; runs = λ l v f. inr (f, λ q. refl) }
+      found (Some running) e = acted act refl running e
+
+      pub by_turn : P (turn_at rules c me history act roles)
+      by_turn = found (slice_get roles me.index) refl

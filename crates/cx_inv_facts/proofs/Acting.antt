@@ -1,0 +1,58 @@
+-- What a role sends in its turn is of its role's kind.
+use Rattle.std.proofs.Common.{◌≡◌, ℕ, List, [], Option, Some, sym, subst, refl}
+use Rattle.cx_base.specs.declared.role.Kind.{Kind}
+use Rattle.cx_base.specs.declared.role.Kind.TheVariants as kind
+use Rattle.cx_base.specs.declared.role.RoleId.{RoleId}
+use Rattle.cx_msg.specs.Letter.{Letter}
+use Rattle.cx_msg.specs.declared.input.Act.{Act}
+use Rattle.cx_model.specs.Acceptor.{acceptor_rules}
+use Rattle.cx_model.specs.Batcher.{batcher_rules}
+use Rattle.cx_model.specs.Leader.{leader_rules}
+use Rattle.cx_model.specs.Matchmaker.{matchmaker_rules}
+use Rattle.cx_model.specs.Member.{Member}
+use Rattle.cx_model.specs.Outcome.{Outcome}
+use Rattle.cx_model.specs.Proxy.{proxy_rules}
+use Rattle.cx_model.specs.Reader.{reader_rules}
+use Rattle.cx_model.specs.Replica.{replica_rules}
+use Rattle.cx_model.specs.Unbatcher.{unbatcher_rules}
+use Rattle.cx_model.specs.World.{World, Turns, act_of, durable_part}
+use Rattle.cx_inv_run.specs.Kinds.{IsSender, OfKind}
+use Rattle.cx_inv_run.proofs.Senders.{batcher_kinds, leader_kinds, proxy_kinds, acceptor_kinds, matchmaker_kinds, replica_kinds, unbatcher_kinds, reader_kinds}
+use Rattle.cx_inv_facts.proofs.Turns.{IsStill, by_turn}
+
+module _ (w : World) (act : Act) (me : RoleId) where
+  abbrev SentAs : Kind → List Letter → Type 0
+  SentAs k ds = (d : Letter) → Member d ds → IsSender k d.msg
+
+  nothing_sent : {V : Type 0} (fresh : V) (roles : List (Option V)) (k : Kind) (t : Turns V) → IsStill me fresh roles t → SentAs k t.sends
+  nothing_sent fresh roles k t s d m = absurd (subst (λ l. Member d l) s.silent m)
+
+  of_kind : {V : Type 0} (k : Kind) (o : Outcome V) → me.kind ≡ k → OfKind me o → SentAs k o.sends
+  of_kind k o is kinds d m = subst (λ x. IsSender x d.msg) is (kinds.sends d m).1
+
+  pub act_kinds : (k : Kind) → me.kind ≡ k → SentAs k (act_of w.cluster w.roles w.kept act me k).sends
+  act_kinds kind.Client is = λ d m. absurd m
+  act_kinds kind.Batcher is =
+      by_turn batcher_rules w.cluster me w.kept w.roles.batchers (λ t. SentAs kind.Batcher t.sends) (nothing_sent _ _ kind.Batcher) act
+      (λ v i cut e a. of_kind kind.Batcher _ is (batcher_kinds w.cluster me is v i))
+  act_kinds kind.Leader is =
+      by_turn leader_rules w.cluster me w.kept w.roles.leaders (λ t. SentAs kind.Leader t.sends) (nothing_sent _ _ kind.Leader) act
+      (λ v i cut e a. of_kind kind.Leader _ is (leader_kinds w.cluster me is (durable_part leader_rules me w.kept) v i))
+  act_kinds kind.Proxy is =
+      by_turn proxy_rules w.cluster me w.kept w.roles.proxies (λ t. SentAs kind.Proxy t.sends) (nothing_sent _ _ kind.Proxy) act
+      (λ v i cut e a. of_kind kind.Proxy _ is (proxy_kinds w.cluster me is v i))
+  act_kinds kind.Acceptor is =
+      by_turn acceptor_rules w.cluster me w.kept w.roles.acceptors (λ t. SentAs kind.Acceptor t.sends) (nothing_sent _ _ kind.Acceptor) act
+      (λ v i cut e a. of_kind kind.Acceptor _ is (acceptor_kinds w.cluster me is (durable_part acceptor_rules me w.kept) i))
+  act_kinds kind.Matchmaker is =
+      by_turn matchmaker_rules w.cluster me w.kept w.roles.matchmakers (λ t. SentAs kind.Matchmaker t.sends) (nothing_sent _ _ kind.Matchmaker) act
+      (λ v i cut e a. of_kind kind.Matchmaker _ is (matchmaker_kinds w.cluster me is (durable_part matchmaker_rules me w.kept) i))
+  act_kinds kind.Replica is =
+      by_turn replica_rules w.cluster me w.kept w.roles.replicas (λ t. SentAs kind.Replica t.sends) (nothing_sent _ _ kind.Replica) act
+      (λ v i cut e a. of_kind kind.Replica _ is (replica_kinds w.cluster me is (durable_part replica_rules me w.kept) v i))
+  act_kinds kind.Unbatcher is =
+      by_turn unbatcher_rules w.cluster me w.kept w.roles.unbatchers (λ t. SentAs kind.Unbatcher t.sends) (nothing_sent _ _ kind.Unbatcher) act
+      (λ v i cut e a. of_kind kind.Unbatcher _ is (unbatcher_kinds w.cluster me is i))
+  act_kinds kind.Reader is =
+      by_turn reader_rules w.cluster me w.kept w.roles.readers (λ t. SentAs kind.Reader t.sends) (nothing_sent _ _ kind.Reader) act
+      (λ v i cut e a. of_kind kind.Reader _ is (reader_kinds w.cluster me is v i))
