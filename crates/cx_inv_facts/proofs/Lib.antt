@@ -10,3 +10,5 @@ pub mod Acting
 pub mod ReaderAnswers
 pub mod MatchingLaws
 pub mod Finishing
+pub mod LeadingRows
+pub mod Done

@@ -81,10 +81,11 @@ module _ (w : World) (P : Change → Type 0)
   by_event (event.Restart r) = acts Wake r (calm_given r Wake (λ d cut e. cc))
 
 -- A turn that is no row's, or whose step is cut: it sends nothing and doesn't say `leads`, and each role of its kind that runs after it is fresh or
--- ran before, and kept nothing now.
+-- ran before, and kept nothing now; what it keeps is of its role.
 pub record IsStill {V : Type 0} (me : RoleId) (fresh : V) (roles : List (Option V)) (t : Turns V) : Type 0 where
   pub silent : t.sends ≡ []
   pub no_word : t.why ≡ why.Leads → ⊥
+  pub keeps : (r : Option Record) × (t.kept ≡ kept_by me r)
   pub runs : (l : ℕ) (v : V) → slice_get t.roles l ≡ Some (Some v) → (v ≡ fresh) ⊎ ((slice_get roles l ≡ Some (Some v)) × (l ≡ me.index → t.kept ≡ []))
 
 module _ {D V : Type 0} (rules : Rules D V) (c : Cluster) (me : RoleId) (history : List KeptRecord) (roles : List (Option V)) where
@@ -102,6 +103,7 @@ module _ {D V : Type 0} (rules : Rules D V) (c : Cluster) (me : RoleId) (history
   stopped y r running e other = record {
     silent = refl;
     no_word = other;
+    keeps = (r, refl);
     runs = λ l v f. elim (set_cases running None e l v f) [ inl p ↦ cc_none p.1 | inr p ↦ inr (p.1, λ q. absurd (p.0 q)) ];
   }
     where
@@ -113,6 +115,7 @@ module _ {D V : Type 0} (rules : Rules D V) (c : Cluster) (me : RoleId) (history
   stays y running after e other same = record {
     silent = refl;
     no_word = other;
+    keeps = (None, refl);
     runs = λ l v f. elim (set_cases running after e l v f) [
       | inl p ↦ (elim (same v p.1) [
         | inl q ↦ inl q
@@ -151,7 +154,7 @@ module _ {D V : Type 0} (rules : Rules D V) (c : Cluster) (me : RoleId) (history
       acted Wake a (Some v) e = still _ (stays why.Up (Some v) (Some v) e (λ p. cc) (λ u p. inr p))
 
       found : (o : Option (Option V)) → slice_get roles me.index ≡ o → P (turn_found rules c me history act roles o)
-      found None e = still _ record { silent = refl; no_word = λ p. cc; runs = λ l v f. inr (f, λ q. refl) }
+      found None e = still _ record { silent = refl; no_word = λ p. cc; keeps = (None, refl); runs = λ l v f. inr (f, λ q. refl) }
       found (Some running) e = acted act refl running e
 
       pub by_turn : P (turn_at rules c me history act roles)
