@@ -8,7 +8,7 @@ pub mod Answering
 pub mod Turns
 pub mod Acting
 pub mod ReaderAnswers
-pub mod MatchingLaws
 pub mod Finishing
 pub mod LeadingRows
 pub mod Done
+pub mod MatchingLaws

@@ -33,8 +33,10 @@ use Rattle.cx_inv_match.specs.Facts.{IsAcceptor, Facts}
 use Rattle.cx_inv_match.specs.Words.{HasMatch, HasPromise, IsMatched}
 use Rattle.cx_inv_vote.proofs.Steps.{facts_hold}
 use Rattle.cx_inv_facts.specs.Answers.{HasReached}
+use Rattle.cx_inv_facts.specs.Laws.{MatchingHold}
 use Rattle.cx_inv_facts.specs.Order.{IsLater, LaterOfOne}
 use Rattle.cx_inv_facts.proofs.Answering.{answers_say}
+use Rattle.cx_inv_facts.proofs.Done.{retiring_finished}
 use Rattle.cx_inv_facts.proofs.Each.{each_at, each_turned, each_of_role}
 use Rattle.cx_inv_facts.proofs.Moments.{to_turned, of_turned, in_records}
 use Rattle.cx_inv_facts.proofs.Ordered.{ordered}
@@ -73,17 +75,23 @@ module _ (c : Cluster) (es : List Event) where
   reached_below a n (inl e) = omega arith
   reached_below a n (inr h) = let l = (acceptor_is a).mark h.0 h.1 h.2 in let k = h.3 in omega arith
 
-  -- all but one of them; that one rests on which rounds were finished
-  pub matching_facts :
-      ((from to : RoleId) (i w : Round) (entries : List Entry) → Member (letter from to (msg.MatchB i w entries)) (run c es).sent
-      → HasMatched history from i ⊎ (IsRetiring (run c es).sent i × ((cw : ℕ) × (end : ℕ) × IsFinished c es i cw end)))
-      → MatchingFacts c es
-  matching_facts answered = record {
+  -- an answer from a matchmaker that hasn't recorded the round comes from one that forgot earlier ones for it
+  told_late : (from to : RoleId) (i w : Round) (entries : List Entry) → Member (letter from to (msg.MatchB i w entries)) (run c es).sent
+      → HasMatched history from i ⊎ (IsRetiring (run c es).sent i × ((cw : ℕ) × (end : ℕ) × IsFinished c es i cw end))
+  told_late from to i w entries m =
+      let log = (facts.says _ m).matched in
+      elim log.1 [
+        | inl x ↦ inl (log.0, of_turned history from (kept.Match i log.0) x)
+        | inr x ↦ (let y = facts.garbaged from i log.0 x in inr (y.2, retiring_finished c es i y.2))
+      ]
+
+  matching_facts : MatchingFacts c es
+  matching_facts = record {
     led = λ from to i m. recorded c history i (facts.says _ m);
     proposed = λ i s v h. recorded c history i (facts.says _ h.4).1;
     in_order = λ who m n i j g h e f l.
         (each_at (λ older newer. IsLater newer older) (records_of who history) (each_of_role who history (each_turned LaterOfOne history (ordered c es))) m n _ _ e f l).matched i j refl refl;
-    answered = answered;
+    answered = told_late;
     tells = λ from to i w entries m j g l x. elim (cases_Bool (is_before j w)) [
       | inl t ↦ inr t
       | inr f ↦ inl ((facts.says _ m).all j g l f (to_turned history from (kept.Match j g) x))
@@ -97,3 +105,6 @@ module _ (c : Cluster) (es : List Event) where
     tells_last = λ a to i cw votes m j s v l k x.
         (facts.says _ m).last j s v l k (x.0, to_turned history (role kind.Acceptor a) (kept.Vote j s x.0 v) x.1);
   }
+
+pub matching_hold : MatchingHold
+matching_hold c es = matching_facts c es

@@ -4,9 +4,14 @@
 //! added here: roles keep their records in order, and which first phases were done.
 #![tactic(auto)]
 
-ghost use Rattle.cx_inv_facts.specs.Laws.{RoundsHold};
+ghost use Rattle.cx_inv_facts.specs.Laws.{RoundsHold, MatchingHold};
 
 /// Rounds: each is kept once, by the leader that it names, with one grid, and carries one value for each slot.
 pub fn rounds_hold()
     ensures { RoundsHold }
+{}
+
+/// Matching: what a leader leads is recorded by enough matchmakers, and their answers, and those of acceptors, tell of every earlier round.
+pub fn matching_hold()
+    ensures { MatchingHold }
 {}
