@@ -12,3 +12,4 @@ pub mod Finishing
 pub mod LeadingRows
 pub mod Done
 pub mod MatchingLaws
+pub mod EndedRows
