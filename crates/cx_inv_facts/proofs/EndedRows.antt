@@ -47,17 +47,20 @@ use Rattle.cx_inv_vote.proofs.Moves.{is_matching-mode, is_promising-mode, is_lea
 use Rattle.cx_inv_vote.proofs.Searches.{whole_column, mark-cases}
 use Rattle.cx_inv_facts.specs.Ended.{IsColumnInformed, Retires, LeadsStill, EndedIn}
 
+-- in the round each proposal lies at or above the watermark, and earlier rounds are retired once a column was informed
+abbrev pub MsgFits : List KeptRecord → List Letter → Round → ℕ → ℕ → Msg → Type 0
+MsgFits history sent i cw end (msg.Propose j g s low u) = j ≡ i → cw ≤ s
+MsgFits history sent i cw end (msg.GarbageA j g) = j ≡ i → IsColumnInformed history sent i cw end
+MsgFits history sent i cw end other = Unit {0}
+
 module _ (c : Cluster) (history : List KeptRecord) (sent : List Letter) (states : RoleId → State) (kinds : Kinds history sent states) (i : Round) (cw end : ℕ)
     (me : RoleId) (d : LeaderDurable) (v : LeaderVolatile) (told : LeaderWasTold sent me (round_of d.own) v) (mode : InMode c history sent d.own v v.mode)
     (ended : round_of d.own ≡ i → EndedIn history sent i cw end v) where
-  -- in the round each proposal lies at or above the watermark, and earlier rounds are retired once a column was informed
-  abbrev pub MsgFits : Msg → Type 0
-  MsgFits (msg.Propose j g s low u) = j ≡ i → cw ≤ s
-  MsgFits (msg.GarbageA j g) = j ≡ i → IsColumnInformed history sent i cw end
-  MsgFits other = Unit {0}
+  abbrev Fits : Msg → Type 0
+  Fits m = MsgFits history sent i cw end m
 
   abbrev AllFit : List Letter → Type 0
-  AllFit ds = (x : Letter) → Member x ds → MsgFits x.msg
+  AllFit ds = (x : Letter) → Member x ds → Fits x.msg
 
   pub record EndsOn (o : Outcome LeaderVolatile) : Type 0 where
     pub sends : AllFit o.sends
@@ -68,14 +71,14 @@ module _ (c : Cluster) (history : List KeptRecord) (sent : List Letter) (states 
   none_sent : AllFit []
   none_sent x m = absurd m
 
-  each_sent : (make : ℕ → Letter) (ns : List ℕ) → ((n : ℕ) → MsgFits (make n).msg) → AllFit (map make ns)
-  each_sent make ns h x m = let r = Member-map make x ns m in subst (λ (y : Letter). MsgFits y.msg) (sym r.2) (h r.0)
+  each_sent : (make : ℕ → Letter) (ns : List ℕ) → ((n : ℕ) → Fits (make n).msg) → AllFit (map make ns)
+  each_sent make ns h x m = let r = Member-map make x ns m in subst (λ (y : Letter). Fits y.msg) (sym r.2) (h r.0)
 
   all_proposed : (own : Entry) (low : ℕ) (ps : List Placed) → ((p : Placed) → Member p ps → own.round ≡ i → cw ≤ p.slot) → AllFit (map (propose_to c me own low) ps)
-  all_proposed own low ps h x m = let r = Member-map (propose_to c me own low) x ps m in subst (λ (y : Letter). MsgFits y.msg) (sym r.2) (h r.0 r.1)
+  all_proposed own low ps h x m = let r = Member-map (propose_to c me own low) x ps m in subst (λ (y : Letter). Fits y.msg) (sym r.2) (h r.0 r.1)
 
   both_sent : (xs ys : List Letter) → AllFit xs → AllFit ys → AllFit (xs ++ ys)
-  both_sent xs ys h k = Member-both (λ (y : Letter). MsgFits y.msg) xs ys h k
+  both_sent xs ys h k = Member-both (λ (y : Letter). Fits y.msg) xs ys h k
 
   -- what a leader of the round is doing
 
@@ -166,7 +169,7 @@ module _ (c : Cluster) (history : List KeptRecord) (sent : List Letter) (states 
     proposed commands (Some own) e =
         either_way EndsOn (is_past_window v) _ _ (stays why.Window)
         (goes_on why.Proposed _ _ (moved _ refl (omega arith) refl refl)
-        (Member-one (λ (y : Letter). MsgFits y.msg) _
+        (Member-one (λ (y : Letter). Fits y.msg) _
         (λ r. let l = (leads_still leads (of_own own e r)).low in let k = (leading_in own e leads).cw_next in omega arith)))
 
     -- how far retiring is

@@ -41,6 +41,7 @@ pub record IsFinishStep (w : World) (ch : Change) (f : Finish) : Type 0 where
   pub ran : slice_get w.roles.leaders leader ≡ Some (Some earlier)
   pub has_own : (durable_of leader_rules (role kind.Leader leader) (reverse w.kept)).own ≡ Some own
   pub first : (is_matching earlier.mode ≡ true) ⊎ (is_promising earlier.mode ≡ true)
+  pub same : last.collection ≡ earlier.collection
   pub leads : slice_get ch.roles.leaders leader ≡ Some (Some ((finish w.cluster (role kind.Leader leader) own last).volatile))
   pub sends : ch.sends ≡ (finish w.cluster (role kind.Leader leader) own last).sends
   pub keeps : ch.kept ≡ []
@@ -103,6 +104,7 @@ module _ (w : World) (facts : Facts w.cluster (reverse w.kept) w.sent (states_of
           ran = ran;
           has_own = subst (λ (d : LeaderDurable). d.own ≡ Some row.own) (durable_by_time leader_rules me w.kept) row.has_own;
           first = row.before;
+          same = row.same;
           leads = set ∙ ap (λ (x : Outcome LeaderVolatile). Some (Some x.volatile)) row.row;
           sends = ap (λ (x : Outcome LeaderVolatile). x.sends) row.row;
           keeps = ap (λ (x : Outcome LeaderVolatile). kept_by me x.kept) row.row;

@@ -13,3 +13,4 @@ pub mod LeadingRows
 pub mod Done
 pub mod MatchingLaws
 pub mod EndedRows
+pub mod EndedLaws
