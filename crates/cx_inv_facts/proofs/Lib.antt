@@ -14,3 +14,6 @@ pub mod Done
 pub mod MatchingLaws
 pub mod EndedRows
 pub mod EndedLaws
+pub mod FreshlyDone
+pub mod FinishedRounds
+pub mod OpenLaws
