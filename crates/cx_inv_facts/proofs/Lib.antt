@@ -17,3 +17,4 @@ pub mod EndedLaws
 pub mod FreshlyDone
 pub mod FinishedRounds
 pub mod OpenLaws
+pub mod CollectionLaws

@@ -4,7 +4,7 @@
 //! added here: roles keep their records in order, and which first phases were done.
 #![tactic(auto)]
 
-ghost use Rattle.cx_inv_facts.specs.Laws.{RoundsHold, MatchingHold};
+ghost use Rattle.cx_inv_facts.specs.Laws.{RoundsHold, MatchingHold, OpenRoundsHold, CollectionHolds};
 
 /// Rounds: each is kept once, by the leader that it names, with one grid, and carries one value for each slot.
 pub fn rounds_hold()
@@ -14,4 +14,14 @@ pub fn rounds_hold()
 /// Matching: what a leader leads is recorded by enough matchmakers, and their answers, and those of acceptors, tell of every earlier round.
 pub fn matching_hold()
     ensures { MatchingHold }
+{}
+
+/// Open rounds: what can still be chosen in an earlier round is what a finished round proposes, from its watermark on.
+pub fn open_rounds_hold()
+    ensures { OpenRoundsHold }
+{}
+
+/// Collection: a matchmaker forgets rounds only for one that was collected, and whoever was informed tells so to every later round.
+pub fn collection_holds()
+    ensures { CollectionHolds }
 {}
