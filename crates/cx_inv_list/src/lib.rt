@@ -1,0 +1,2 @@
+//! One command list, and answers that are right by it.
+#![tactic(auto)]
