@@ -2,7 +2,7 @@
 use Rattle.std.proofs.Common.{◌≡◌, ◌⊎◌, ℕ, zero, suc, ◌≤◌, Bool, true, false, not, ◌&&◌, ◌||◌, List, [], ◌∷◌, ◌++◌, take, inl, inr, ap, sym, subst, ⊎_elim, ◌∙◌, refl, arith}
 use Rattle.std.specs.Prelude.{◌==◌, nat_le, slice_get, Option, None, Some}
 use Rattle.std.specs.List.{list_any}
-use Rattle.std.proofs.lemmas.Bool.{and_from, eq-eqb, le-leb, both_ways, not_from_true, or_left, or_right, and_parts, not-true, or_parts}
+use Rattle.std.proofs.lemmas.Bool.{and_from, eq-eqb, le-leb, both_ways, not_from_true, and_parts, not-true}
 use Rattle.std.proofs.lemmas.List.{append_assoc}
 use Rattle.std.proofs.lemmas.List.Folds.{list_any-append}
 use Rattle.cx_base.specs.declared.command.Command.{Command}
@@ -10,21 +10,17 @@ use Rattle.cx_base.specs.declared.command.Value.{Value}
 use Rattle.cx_base.specs.Fold.{commands_of, command_list, acts}
 use Rattle.cx_model.specs.CommandList.{Stands}
 use Rattle.cx_model.specs.Member.{Member}
+use Rattle.cx_inv_run.proofs.Members.{Member-any, Member-first, Member-second}
 
 -- whether an earlier command keeps a later one from acting
 abbrev pub refuses : Command → Command → Bool
 refuses c b = b.client == c.client && nat_le c.seq b.seq
 
-any_member : (c b : Command) (before : List Command) → Member b before → refuses c b ≡ true → list_any (refuses c) before ≡ true
-any_member c b [] m t = absurd m
-any_member c b (x ∷ before) (inl e) t = or_left (refuses c x) (list_any (refuses c) before) (subst (λ (y : Command). refuses c y ≡ true) e t)
-any_member c b (x ∷ before) (inr m) t = or_right (refuses c x) (list_any (refuses c) before) (any_member c b before m t)
-
 -- a command of its client with an equal or greater number stands before none that acts
 pub no_other : (before : List Command) (b c : Command) → Member b before → b.client ≡ c.client → c.seq ≤ b.seq → acts before c ≡ true → ⊥
 no_other before b c m e l t =
     both_ways (list_any (refuses c) before) (not-true (list_any (refuses c) before) t)
-    (any_member c b before m (and_from (b.client == c.client) (nat_le c.seq b.seq) (eq-eqb b.client c.client e) (le-leb c.seq b.seq l)))
+    (Member-any (refuses c) b before m (and_from (b.client == c.client) (nat_le c.seq b.seq) (eq-eqb b.client c.client e) (le-leb c.seq b.seq l)))
 
 not_or : (a b : Bool) → not (a || b) ≡ (not a && not b)
 not_or true b = refl
@@ -37,13 +33,7 @@ pub acts_behind : (xs ys : List Command) (c : Command) → acts (xs ++ ys) c ≡
 acts_behind xs ys c h = (and_parts (acts xs c) (acts ys c) (sym (acts_append xs ys c) ∙ h)).1
 
 pub Member-in : {X : Type 0} (x : X) (xs ys : List X) → Member x (xs ++ x ∷ ys)
-Member-in x [] ys = inl refl
-Member-in x (z ∷ xs) ys = inr (Member-in x xs ys)
-
-pub Member-front : {X : Type 0} (x : X) (xs ys : List X) → Member x xs → Member x (xs ++ ys)
-Member-front x [] ys m = absurd m
-Member-front x (z ∷ xs) ys (inl e) = inl e
-Member-front x (z ∷ xs) ys (inr m) = inr (Member-front x xs ys m)
+Member-in x xs ys = Member-second x xs (x ∷ ys) (inl refl)
 
 -- one list cut at two commands: at one place, or the one stands before the other
 two_cuts : (before earlier xs ys : List Command) (one other : Command) → before ++ one ∷ xs ≡ earlier ++ other ∷ ys
@@ -81,12 +71,12 @@ once_at (x ∷ values) zero zero v w e f l m one other hs ht pv pw ao at c n =
 once_at (x ∷ values) zero (suc t) v w e f l m one other hs ht pv pw ao at c n =
     let there : commands_of x ≡ e ++ one ∷ l = ap commands_of (some_same x v x refl hs) ∙ pv in
     absurd (no_other ((commands_of x ++ command_list (take t values)) ++ f) one other
-    (Member-front one (commands_of x ++ command_list (take t values)) f (Member-front one (commands_of x) (command_list (take t values)) (subst (λ ks. Member one ks) (sym there) (Member-in one e l))))
+    (Member-first one (commands_of x ++ command_list (take t values)) f (Member-first one (commands_of x) (command_list (take t values)) (subst (λ ks. Member one ks) (sym there) (Member-in one e l))))
     c (omega (arith, n)) at)
 once_at (x ∷ values) (suc s) zero v w e f l m one other hs ht pv pw ao at c n =
     let there : commands_of x ≡ f ++ other ∷ m = ap commands_of (some_same x w x refl ht) ∙ pw in
     absurd (no_other ((commands_of x ++ command_list (take s values)) ++ e) other one
-    (Member-front other (commands_of x ++ command_list (take s values)) e (Member-front other (commands_of x) (command_list (take s values)) (subst (λ ks. Member other ks) (sym there) (Member-in other f m))))
+    (Member-first other (commands_of x ++ command_list (take s values)) e (Member-first other (commands_of x) (command_list (take s values)) (subst (λ ks. Member other ks) (sym there) (Member-in other f m))))
     (sym c) (omega (arith, n)) ao)
 once_at (x ∷ values) (suc s) (suc t) v w e f l m one other hs ht pv pw ao at c n =
     let r = once_at values s t v w e f l m one other hs ht pv pw (tail s e one ao) (tail t f other at) c n in

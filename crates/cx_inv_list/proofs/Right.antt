@@ -18,12 +18,8 @@ use Rattle.cx_model.specs.CommandList.{Stands, IsRight}
 use Rattle.cx_model.specs.Member.{Member}
 use Rattle.cx_model.specs.Outcome.{either_way}
 use Rattle.cx_model.specs.Replica.{Machine, Executed, new_machine, execute, execute_all, execute_value, machine_from, machine_of, results_at, results_from}
+use Rattle.cx_inv_run.proofs.Members.{Member-cases}
 use Rattle.cx_inv_list.proofs.Table.{IsRightAnswer, IsMachine, new_is, executed_right}
-
-pub Member-either : {X : Type 0} (x : X) (xs ys : List X) → Member x (xs ++ ys) → Member x xs ⊎ Member x ys
-Member-either x [] ys m = inr m
-Member-either x (z ∷ xs) ys (inl e) = inl (inl e)
-Member-either x (z ∷ xs) ys (inr m) = ⊎_elim (λ k. inl (inr k)) (λ k. inr k) (Member-either x xs ys m)
 
 -- places in lists
 
@@ -78,7 +74,7 @@ module _ (all : List Value) where
         let one = executed_right all slot (command_list (take slot all) ++ earlier) c m is stands in
         let rest = all_right cs (earlier ++ c ∷ []) (execute (slot + 1) m c).machine (e ∙ sym (append_assoc earlier (c ∷ []) cs))
         (subst (λ ks. IsMachine all ks (execute (slot + 1) m c).machine) (append_assoc (command_list (take slot all)) earlier (c ∷ [])) one.0) in
-        (rest.0, λ a k. ⊎_elim (one.1 a) (rest.1 a) (Member-either a (execute (slot + 1) m c).answers (execute_all (slot + 1) (execute (slot + 1) m c).machine cs).answers k))
+        (rest.0, λ a k. ⊎_elim (one.1 a) (rest.1 a) (Member-cases a (execute (slot + 1) m c).answers (execute_all (slot + 1) (execute (slot + 1) m c).machine cs).answers k))
 
     pub value_right : (m : Machine) → IsMachine all (command_list (take slot all)) m → Leaves (command_list (take (slot + 1) all)) (execute_value slot m value)
     value_right m is =
@@ -105,7 +101,7 @@ module _ (all : List Value) where
   results_right P c me says (v ∷ vs) slot m at is d k =
       let one = value_right slot v at.0 m is in
       ⊎_elim (first one.1) (results_right P c me says vs (slot + 1) (execute_value slot m v).machine at.1 one.0 d)
-      (Member-either d (results_at c me slot (execute_value slot m v).answers) (results_from c me (slot + 1) (execute_value slot m v).machine vs) k)
+      (Member-cases d (results_at c me slot (execute_value slot m v).answers) (results_from c me (slot + 1) (execute_value slot m v).machine vs) k)
     where
       first : ((a : Answered) → Member a (execute_value slot m v).answers → IsRightAnswer all a) → Member d (results_at c me slot (execute_value slot m v).answers) → P d
       first right =
