@@ -2,7 +2,7 @@
 use Rattle.std.proofs.Common.{◌≡◌, ℕ, Bool, true, false, ◌&&◌, List, [], ◌∷◌, ap, ◌∙◌, refl}
 use Rattle.std.specs.Prelude.{◌==◌}
 use Rattle.std.specs.Str.{bytes_eq}
-use Rattle.std.proofs.lemmas.Bool.{and_parts, eqb-true, true≢false}
+use Rattle.std.proofs.lemmas.Bool.{and_parts, and_from, eqb-true}
 use Rattle.std.proofs.lemmas.Slice.Eq.{bytes_eq-Decides}
 use Rattle.cx_base.specs.declared.command.Command.{Command}
 use Rattle.cx_base.specs.declared.command.Op.{Op}
@@ -14,7 +14,10 @@ use Rattle.cx_base.specs.Same.{same_op, same_command, same_commands, same_value}
 pub same_bytes : (k l : List ℕ) → bytes_eq k l ≡ true → k ≡ l
 same_bytes k l h = (bytes_eq-Decides k l).0 h
 
-op_is : (a b : Op) → same_op a b ≡ true → a ≡ b
+pub bytes_itself : (k : List ℕ) → bytes_eq k k ≡ true
+bytes_itself k = (bytes_eq-Decides k k).1 refl
+
+pub op_is : (a b : Op) → same_op a b ≡ true → a ≡ b
 op_is (Put k t) (Put l u) h =
     let p = and_parts (bytes_eq k l) (bytes_eq t u) h in
     let q = same_bytes k l p.0 in
@@ -32,6 +35,11 @@ op_is (App k t) (App l u) h =
     let q = same_bytes k l p.0 in
     let r = same_bytes t u p.1 in
     cc
+
+pub op_itself : (a : Op) → same_op a a ≡ true
+op_itself (Put k t) = and_from (bytes_eq k k) (bytes_eq t t) (bytes_itself k) (bytes_itself t)
+op_itself (Del k) = bytes_itself k
+op_itself (App k t) = and_from (bytes_eq k k) (bytes_eq t t) (bytes_itself k) (bytes_itself t)
 
 abbrev make_command : ℕ → ℕ → Op → Command
 make_command client seq op = record { client = client; seq = seq; op = op }

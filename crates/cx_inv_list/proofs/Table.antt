@@ -13,6 +13,7 @@ use Rattle.cx_model.specs.CommandList.{Stands, IsRight}
 use Rattle.cx_model.specs.Member.{Member}
 use Rattle.cx_model.specs.Outcome.{by_test}
 use Rattle.cx_model.specs.Replica.{Machine, Executed, new_machine, acting, execute, execute_behind}
+use Rattle.cx_inv_list.specs.Laws.{is_later}
 use Rattle.cx_inv_list.proofs.Once.{refuses, acts_append}
 
 -- an answer is right by a list
@@ -56,10 +57,6 @@ noted_with a (x ∷ notes) client = go (noted_with a notes client) (cases_Bool (
     go h (inr s) (inr t) (inr u) = rw (s, t, u, h, t) refl
 
 -- what the table decides
-
-abbrev pub is_later : ℕ → Option Answered → Bool
-is_later seq None = true
-is_later seq (Some last) = nat_lt last.seq seq
 
 later_more : (o : Option Answered) (low high : ℕ) → is_later low o ≡ true → low < high → is_later high o ≡ true
 later_more None low high h l = refl
