@@ -28,7 +28,9 @@ use Rattle.cx_model.specs.World.{World, change, step, run_from, run, log_of}
 use Rattle.cx_inv_run.proofs.Histories.{log_by_time}
 use Rattle.cx_inv_run.proofs.Members.{Member-reverse}
 use Rattle.cx_inv_run.proofs.Steps.{run_append}
-use Rattle.cx_inv_list.specs.Told.{AreAsked, ListKeeps, log_in, IsNoted, IsTold}
+use Rattle.cx_model.specs.Reader.{token}
+use Rattle.cx_inv_list.specs.Laws.{AnswersAreOfALog, PrefixIsLongest, ReadsTellTheList}
+use Rattle.cx_inv_list.specs.Told.{ListKeeps, IsNoted, IsTold}
 use Rattle.cx_inv_list.proofs.Once.{none_acts_twice, Member-in}
 use Rattle.cx_inv_list.proofs.Prefix.{chosen_voted, prefix_chosen, prefix_longest, still_chosen}
 use Rattle.cx_inv_list.proofs.Requests.{WasRead, one_key}
@@ -75,6 +77,43 @@ pub commands_were_asked : (c : Cluster) (es : List Event) (s : ℕ) (before : Li
 commands_were_asked c es s before command h =
     chosen_asked c es s h.value (prefix_chosen (run c es).kept s h.value h.has) command (stands_in (chosen_prefix (run c es).kept) s before command h)
 
+-- what is answered, by the values of some replica
+
+by_log : (c : Cluster) (es : List Event) (client seq at : ℕ) (reply : Reply) → IsNoted (reverse (run c es).kept) client seq at reply
+    → (p : ℕ) × IsRight (log_of p (run c es).kept) client seq at reply
+by_log c es client seq at reply (p, h) = (p, subst (λ vs. IsRight vs client seq at reply) (sym (log_by_time p (run c es).kept)) h)
+
+pub answer_by_log : (c : Cluster) (es : List Event) (from to : RoleId) (seq at : ℕ) (reply : Reply)
+    → Member (letter from to (msg.Answer seq at reply)) (run c es).sent → (p : ℕ) × IsRight (log_of p (run c es).kept) to.index seq at reply
+answer_by_log c es from to seq at reply m = by_log c es to.index seq at reply ((run_listed c es).says (letter from to (msg.Answer seq at reply)) m)
+
+pub read_by_log : (c : Cluster) (es : List Event) (from to : RoleId) (seq n : ℕ) (found : Option (List ℕ))
+    → Member (letter from to (msg.ReadAnswer seq n found)) (run c es).sent
+    → (p : ℕ) × (n ≤ length (log_of p (run c es).kept))
+    × ((reader replica : ℕ) (key : List ℕ) → WasRead (run c es).events to.index seq reader replica key → found ≡ text_at key (fold (take n (log_of p (run c es).kept))))
+read_by_log c es from to seq n found m = told ((run_listed c es).says (letter from to (msg.ReadAnswer seq n found)) m)
+  where
+    told : IsTold (requests_in (run c es).events) (reverse (run c es).kept) (token to.index seq) n found
+        → (p : ℕ) × (n ≤ length (log_of p (run c es).kept))
+        × ((reader replica : ℕ) (key : List ℕ) → WasRead (run c es).events to.index seq reader replica key → found ≡ text_at key (fold (take n (log_of p (run c es).kept))))
+    told h = (
+      h.replica,
+      subst (λ vs. n ≤ length vs) (sym (log_by_time h.replica (run c es).kept)) h.within,
+      λ reader replica key was.
+          let w = h.wanted in
+          h.found_is
+          ∙ ap (λ vs. text_at h.key (fold (take n vs))) (sym (log_by_time h.replica (run c es).kept))
+          ∙ ap (λ k. text_at k (fold (take n (log_of h.replica (run c es).kept)))) (one_key c es to.index seq w.0 w.1 reader replica h.key key w.2 was),
+    )
+
+pub answers_are_of_a_log : AnswersAreOfALog
+answers_are_of_a_log = record {
+  results = λ c es from to slot answers m a k.
+      by_log c es a.client a.seq a.at a.reply ((run_listed c es).says (letter from to (msg.Results slot answers)) m a k);
+  answer = answer_by_log;
+  read = λ c es from to seq n found m reader replica key was. let r = read_by_log c es from to seq n found m in (r.0, r.1, r.2 reader replica key was);
+}
+
 abbrev pub IsOnce : Type 0
 IsOnce = (c : Cluster) (es : List Event) (s : ℕ) (v w : Value) → is_chosen (run c es).kept s v ≡ true → is_chosen (run c es).kept s w ≡ true → v ≡ w
 
@@ -95,13 +134,10 @@ module _ (once : IsOnce) (logged : IsLogged) where
 
   right : (c : Cluster) (es : List Event) (from to : RoleId) (seq at : ℕ) (reply : Reply) → Member (letter from to (msg.Answer seq at reply)) (run c es).sent
       → IsRight (chosen_prefix (run c es).kept) to.index seq at reply
-  right c es from to seq at reply m = by_log ((run_listed c es).says (letter from to (msg.Answer seq at reply)) m)
-    where
-      by_log : IsNoted (reverse (run c es).kept) to.index seq at reply → IsRight (chosen_prefix (run c es).kept) to.index seq at reply
-      by_log (p, h) =
-          let b = log_begins c es p in
-          subst (λ vs. IsRight vs to.index seq at reply) (sym b.1)
-          (grown_right (log_of p (run c es).kept) b.0 to.index seq at reply (subst (λ vs. IsRight vs to.index seq at reply) (sym (log_by_time p (run c es).kept)) h))
+  right c es from to seq at reply m =
+      let r = answer_by_log c es from to seq at reply m in
+      let b = log_begins c es r.0 in
+      subst (λ vs. IsRight vs to.index seq at reply) (sym b.1) (grown_right (log_of r.0 (run c es).kept) b.0 to.index seq at reply r.1)
 
   right_in : (c : Cluster) (es : List Event) (from to : RoleId) (seq at : ℕ) (reply : Reply) → Member (letter from to (msg.Answer seq at reply)) (run c es).sent
       → IsRight (chosen_prefix (run c es).kept) to.index seq at reply × (at ≤ length (chosen_prefix (run c es).kept))
@@ -137,36 +173,25 @@ module _ (once : IsOnce) (logged : IsLogged) where
     order = later_order;
   }
 
-  -- reads
+  pub longest_prefix : PrefixIsLongest
+  longest_prefix = longest
 
-  told : (c : Cluster) (es : List Event) (from to : RoleId) (seq n : ℕ) (found : Option (List ℕ))
-      → Member (letter from to (msg.ReadAnswer seq n found)) (run c es).sent → IsTold (requests_in (run c es).events) (reverse (run c es).kept) (Rattle.cx_model.specs.Reader.token to.index seq) n found
-  told c es from to seq n found m = (run_listed c es).says (letter from to (msg.ReadAnswer seq n found)) m
-
-  -- a read's answer tells a front of the list
-  told_front : (c : Cluster) (es : List Event) (p n : ℕ) → n ≤ length (log_in (reverse (run c es).kept) p)
-      → (n ≤ length (chosen_prefix (run c es).kept)) × (take n (log_in (reverse (run c es).kept) p) ≡ take n (chosen_prefix (run c es).kept))
-  told_front c es p n l =
+  -- what a replica holds so many values of, the list has so many of
+  front_within : (c : Cluster) (es : List Event) (p n : ℕ) → n ≤ length (log_of p (run c es).kept) → n ≤ length (chosen_prefix (run c es).kept)
+  front_within c es p n l =
       let b = log_begins c es p in
-      let e : log_of p (run c es).kept ≡ log_in (reverse (run c es).kept) p = log_by_time p (run c es).kept in
-      let k : n ≤ length (log_of p (run c es).kept) = subst (λ vs. n ≤ length vs) (sym e) l in
-      let q : length (chosen_prefix (run c es).kept) ≡ length (log_of p (run c es).kept ++ b.0) = ap length b.1 in (
-        omega (arith, q, length-append (log_of p (run c es).kept) b.0, k),
-        ap (λ vs. take n vs) (sym e) ∙ sym (ap (λ vs. take n vs) b.1 ∙ take-append-le n (log_of p (run c es).kept) b.0 k),
-      )
+      let q : length (chosen_prefix (run c es).kept) ≡ length (log_of p (run c es).kept ++ b.0) = ap length b.1 in
+      omega (arith, q, length-append (log_of p (run c es).kept) b.0, l)
 
-  pub read_in_the_list : (c : Cluster) (es : List Event) (from to : RoleId) (seq n : ℕ) (found : Option (List ℕ))
-      → Member (letter from to (msg.ReadAnswer seq n found)) (run c es).sent → n ≤ length (chosen_prefix (run c es).kept)
-  read_in_the_list c es from to seq n found m = let h = told c es from to seq n found m in (told_front c es h.replica n h.within).0
+  front_same : (c : Cluster) (es : List Event) (p n : ℕ) → n ≤ length (log_of p (run c es).kept) → take n (log_of p (run c es).kept) ≡ take n (chosen_prefix (run c es).kept)
+  front_same c es p n l =
+      let b = log_begins c es p in
+      sym (ap (λ vs. take n vs) b.1 ∙ take-append-le n (log_of p (run c es).kept) b.0 l)
 
-  pub read_value : (c : Cluster) (es : List Event) (from to : RoleId) (seq n : ℕ) (found : Option (List ℕ))
-      → Member (letter from to (msg.ReadAnswer seq n found)) (run c es).sent
-      → (reader replica : ℕ) (key : List ℕ)
-      → Member {X = Happened} (record { event = event.Read to.index seq reader replica key; why = why.Sent }) (run c es).events
-      → found ≡ text_at key (fold (take n (chosen_prefix (run c es).kept)))
-  read_value c es from to seq n found m reader replica key was =
-      let h = told c es from to seq n found m in
-      let w = h.wanted in
-      h.found_is
-      ∙ ap (λ vs. text_at h.key (fold vs)) (told_front c es h.replica n h.within).1
-      ∙ ap (λ k. text_at k (fold (take n (chosen_prefix (run c es).kept)))) (one_key c es to.index seq w.0 w.1 reader replica h.key key w.2 was)
+  pub reads_tell : ReadsTellTheList
+  reads_tell = record {
+    in_the_list = λ c es from to seq n found m. let r = read_by_log c es from to seq n found m in front_within c es r.0 n r.1;
+    value = λ c es from to seq n found m reader replica key was.
+        let r = read_by_log c es from to seq n found m in
+        r.2 reader replica key was ∙ ap (λ vs. text_at key (fold vs)) (front_same c es r.0 n r.1);
+  }

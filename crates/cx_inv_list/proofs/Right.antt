@@ -19,6 +19,7 @@ use Rattle.cx_model.specs.Member.{Member}
 use Rattle.cx_model.specs.Outcome.{either_way}
 use Rattle.cx_model.specs.Replica.{Machine, Executed, new_machine, execute, execute_all, execute_value, machine_from, machine_of, results_at, results_from}
 use Rattle.cx_inv_run.proofs.Members.{Member-cases}
+use Rattle.cx_inv_list.specs.Laws.{MachineIsTheFold}
 use Rattle.cx_inv_list.proofs.Table.{IsRightAnswer, IsMachine, new_is, executed_right}
 
 -- places in lists
@@ -116,12 +117,23 @@ log_right log more =
     subst (λ n. IsMachine (log ++ more) (command_list (take n (log ++ more))) (machine_of log)) (omega arith)
     (machine_right (log ++ more) log 0 new_machine (are_at (log ++ more) [] log more 0 refl refl) (new_is (log ++ more)))
 
+-- the machine of a log is that of its commands
+machine_is : (log : List Value) → IsMachine log (command_list log) (machine_of log)
+machine_is log =
+    subst (λ vs. IsMachine log (command_list vs) (machine_of log)) (take_all (length log) log (omega arith))
+    (subst (λ vs. IsMachine vs (command_list (take (length log) vs)) (machine_of log)) (append-nil log) (log_right log []))
+
 -- the map of a replica's machine is the fold of its log
 pub map_is_fold : (log : List Value) → (machine_of log).map ≡ fold log
-map_is_fold log =
-    let is = log_right log [] in
-    subst (λ vs. (machine_of log).map ≡ fold vs) (take_all (length log) log (omega arith))
-    (subst (λ vs. (machine_of log).map ≡ fold (take (length log) vs)) (append-nil log) is.map)
+map_is_fold log = (machine_is log).map
+
+pub machine_is_the_fold : MachineIsTheFold
+machine_is_the_fold = record {
+  map = map_is_fold;
+  decides = λ log command. (machine_is log).decides command;
+  right = λ log client a e. let r = (machine_is log).right client a e in
+  (r.0, subst (λ k. IsRight log k a.seq a.at a.reply) r.0 r.1);
+}
 
 -- lists that grow
 
@@ -152,7 +164,3 @@ right_within log client seq at reply h =
     let l = slice_get_within log h.slot h.stands.value h.stands.has in
     let e = h.at_is in
     omega arith
-
--- so many values of a list that grew
-pub take_grown : (n : ℕ) (log more : List Value) → n ≤ length log → take n (log ++ more) ≡ take n log
-take_grown n log more l = take-append-le n log more l
