@@ -1,9 +1,8 @@
 -- The one command list, given that no slot has two chosen values and that what replicas kept is chosen.
-use Rattle.std.proofs.Common.{◌≡◌, ◌⊎◌, ℕ, ◌+◌, ◌<◌, ◌≤◌, Bool, true, List, [], ◌∷◌, ◌++◌, length, take, reverse, inl, inr, ap, sym, subst, ◌∙◌, ⊎_elim, refl, arith, append-nil}
-use Rattle.std.specs.Prelude.{slice_get, Option, None, Some}
+use Rattle.std.proofs.Common.{◌≡◌, ℕ, ◌<◌, ◌≤◌, true, List, [], ◌∷◌, ◌++◌, length, take, reverse, ap, sym, subst, ◌∙◌, ⊎_elim, refl, arith, append-nil}
+use Rattle.std.specs.Prelude.{slice_get, Option, Some}
 use Rattle.std.proofs.lemmas.Bool.{cases_lt}
 use Rattle.std.proofs.lemmas.List.{append_assoc, length-append, take-append-le}
-use Rattle.std.proofs.lemmas.Option.{slice_get_within}
 use Rattle.cx_base.specs.declared.cluster.Cluster.{Cluster}
 use Rattle.cx_base.specs.declared.command.Command.{Command}
 use Rattle.cx_base.specs.declared.command.Reply.{Reply}
@@ -11,14 +10,10 @@ use Rattle.cx_base.specs.declared.command.Value.{Value}
 use Rattle.cx_base.specs.declared.event.Event.{Event}
 use Rattle.cx_base.specs.declared.event.Event.TheVariants as event
 use Rattle.cx_base.specs.declared.event.Happened.{Happened}
-use Rattle.cx_base.specs.declared.role.Kind.TheVariants as kind
 use Rattle.cx_base.specs.declared.role.RoleId.{RoleId}
 use Rattle.cx_base.specs.declared.why.Why.TheVariants as why
 use Rattle.cx_base.specs.Fold.{commands_of, fold, text_at}
-use Rattle.cx_base.specs.Role.{role}
-use Rattle.cx_msg.specs.Letter.{Letter, letter}
-use Rattle.cx_msg.specs.declared.input.KeptRecord.{KeptRecord}
-use Rattle.cx_msg.specs.declared.kept.Record.TheVariants as kept
+use Rattle.cx_msg.specs.Letter.{letter}
 use Rattle.cx_msg.specs.declared.message.Msg.TheVariants as msg
 use Rattle.cx_model.specs.Chosen.{is_chosen, chosen_prefix}
 use Rattle.cx_model.specs.CommandList.{Stands, IsRight}

@@ -1,5 +1,5 @@
 -- What is said of the list stays so when a record is kept; and what a row gives lands.
-use Rattle.std.proofs.Common.{◌≡◌, ◌⊎◌, ℕ, ◌≤◌, List, [], ◌∷◌, ◌++◌, take, length, inl, inr, ap, sym, subst, ◌∙◌, ⊎_elim, refl, arith, append-nil}
+use Rattle.std.proofs.Common.{◌≡◌, ℕ, List, [], ◌∷◌, ◌++◌, take, length, inl, inr, ap, sym, subst, ◌∙◌, ⊎_elim, refl, arith, append-nil}
 use Rattle.std.specs.Prelude.{Option, None, Some}
 use Rattle.std.proofs.lemmas.List.{length-append, take-append-le}
 use Rattle.cx_base.specs.declared.command.Reply.{Reply}
@@ -15,6 +15,7 @@ use Rattle.cx_msg.specs.declared.kept.Record.{Record}
 use Rattle.cx_msg.specs.declared.kept.Record.TheVariants as kept
 use Rattle.cx_msg.specs.declared.message.Msg.{Msg}
 use Rattle.cx_msg.specs.declared.message.Msg.TheVariants as msg
+use Rattle.cx_model.specs.CommandList.{IsRight}
 use Rattle.cx_model.specs.Member.{Member, Begins}
 use Rattle.cx_model.specs.Outcome.{Outcome}
 use Rattle.cx_model.specs.Reader.{token}
@@ -51,7 +52,7 @@ module _ (q : Requests) (history : List KeptRecord) (me : RoleId) (r : Record) w
   still_noted : (client seq at : ℕ) (reply : Reply) → IsNoted history client seq at reply → IsNoted (entry_by me r ∷ history) client seq at reply
   still_noted client seq at reply (p, h) =
       let more = log_grows me r history p in
-      (p, subst (λ vs. Rattle.cx_model.specs.CommandList.IsRight vs client seq at reply) (sym more.1) (grown_right (log_in history p) more.0 client seq at reply h))
+      (p, subst (λ vs. IsRight vs client seq at reply) (sym more.1) (grown_right (log_in history p) more.0 client seq at reply h))
 
   still_told : (t : Token) (n : ℕ) (found : Option (List ℕ)) → IsTold q history t n found → IsTold q (entry_by me r ∷ history) t n found
   still_told t n found h =

@@ -1,13 +1,10 @@
 -- What all rows share in what they say of the list; and the rows of acceptors, matchmakers, batchers and unbatchers.
-use Rattle.std.proofs.Common.{◌≡◌, ◌⊎◌, ℕ, Bool, List, [], ◌∷◌, ◌++◌, map, filter, inl, inr, ap, sym, subst, ◌∙◌, ⊎_elim, refl}
-use Rattle.std.specs.Prelude.{◌==◌, ◌&&◌, max, nat_lt, nat_le, length, if◌then◌else◌, Option, None, Some}
+use Rattle.std.proofs.Common.{◌≡◌, ◌⊎◌, ℕ, Bool, List, [], ◌∷◌, ◌++◌, map, inl, inr, sym, subst, ⊎_elim, refl}
+use Rattle.std.specs.Prelude.{◌==◌, ◌&&◌, max, nat_lt, nat_le, length, if◌then◌else◌, Some}
 use Rattle.std.specs.List.{list_any}
 use Rattle.cx_base.specs.declared.cluster.Cluster.{Cluster}
-use Rattle.cx_base.specs.declared.command.Answered.{Answered}
 use Rattle.cx_base.specs.declared.command.Command.{Command}
-use Rattle.cx_base.specs.declared.command.Value.{Value}
 use Rattle.cx_base.specs.declared.role.RoleId.{RoleId}
-use Rattle.cx_base.specs.declared.round.Round.{Round}
 use Rattle.cx_base.specs.declared.why.Why.{Why}
 use Rattle.cx_base.specs.Fold.{commands_of}
 use Rattle.cx_base.specs.Role.{same_role}
@@ -30,8 +27,8 @@ use Rattle.cx_model.specs.Names.{names}
 use Rattle.cx_model.specs.Outcome.{Outcome, answered, replied, either_way}
 use Rattle.cx_model.specs.Unbatcher.{answer_to, unbatcher_row, unbatcher_takes}
 use Rattle.cx_inv_run.specs.States.{State, BatcherIn, plain, Given, entry_by, durable_of}
-use Rattle.cx_inv_run.proofs.Members.{Member-cases, Member-both, Member-one, Member-map, Member-filter}
-use Rattle.cx_inv_list.specs.Told.{Requests, AreAsked, AreVotesAsked, ListSays, ListKeeps, InList, MayKeep, IsListed}
+use Rattle.cx_inv_run.proofs.Members.{Member-both, Member-one, Member-map, Member-filter}
+use Rattle.cx_inv_list.specs.Told.{Requests, AreAsked, AreVotesAsked, ListSays, ListKeeps, InList, IsListed}
 
 -- what all rows share
 

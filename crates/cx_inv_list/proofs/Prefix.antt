@@ -2,15 +2,14 @@
 use Rattle.std.proofs.Common.{◌≡◌, ◌⊎◌, ℕ, zero, suc, ◌+◌, ◌<◌, ◌≤◌, Bool, true, false, not, ◌&&◌, List, [], ◌∷◌, ◌++◌, length, filter, inl, inr, ap, sym, subst, ◌∙◌, ⊎_elim, refl, arith}
 use Rattle.std.specs.Prelude.{◌==◌, nat_lt, slice_get, Option, None, Some}
 use Rattle.std.specs.List.{list_any, list_all}
-use Rattle.std.proofs.lemmas.Bool.{and_parts, and_from, eqb-true, eq-eqb, ltb-true, not_from_false, not_from_true, ne_eqb, or_left}
+use Rattle.std.proofs.lemmas.Bool.{and_parts, and_from, both_ways, eqb-true, eq-eqb, ltb-true, not_from_false, not_from_true, ne_eqb, or_left}
 use Rattle.std.proofs.lemmas.List.Folds.{list_any-append}
 use Rattle.std.proofs.lemmas.Option.{same_Some}
 use Rattle.cx_base.specs.declared.command.Value.{Value}
 use Rattle.cx_base.specs.declared.role.Kind.TheVariants.{Acceptor}
-use Rattle.cx_base.specs.declared.role.RoleId.{RoleId}
 use Rattle.cx_base.specs.declared.round.Round.{Round}
 use Rattle.cx_base.specs.Grid.{Shape}
-use Rattle.cx_base.specs.Lists.{numbers, below}
+use Rattle.cx_base.specs.Lists.{below}
 use Rattle.cx_base.specs.Log.{before_following}
 use Rattle.cx_base.specs.Role.{role, same_role}
 use Rattle.cx_base.specs.Round.{same_round}
@@ -21,8 +20,9 @@ use Rattle.cx_msg.specs.declared.kept.Record.{Record}
 use Rattle.cx_msg.specs.declared.kept.Record.TheVariants as kept
 use Rattle.cx_model.specs.Chosen.{is_vote, has_vote, is_chosen_in, is_chosen_by, is_chosen, chosen_vote, first_chosen, chosen_at, prefix_from, chosen_prefix}
 use Rattle.cx_model.specs.Member.{Member, Begins}
-use Rattle.cx_model.specs.Outcome.{by_test}
-use Rattle.cx_inv_run.proofs.Members.{any-Member, Member-any, all-Member, Member-all, Member-filter, filter-Member}
+use Rattle.cx_model.specs.Outcome.{either_way, by_test}
+use Rattle.cx_inv_run.proofs.Members.{any-Member, Member-any, all-Member, Member-all, filter-Member}
+use Rattle.cx_inv_list.proofs.Right.{get_there}
 use Rattle.cx_inv_list.proofs.Same.{value_is}
 
 -- a vote for a value in a slot, in some round with some watermark
@@ -109,7 +109,7 @@ module _ (history : List KeptRecord) (s : ℕ) where
   vote_some : (i : Round) (cw : ℕ) (v : Value) (later : Option Value) → is_chosen history s v ≡ true → IsSome (chosen_vote history s (kept.Vote i s cw v) later)
   vote_some i cw v later h =
       by_test IsSome ((s == s) && is_chosen history s v) (Some v) later (λ e. (v, refl))
-      (λ e. absurd (Rattle.std.proofs.lemmas.Bool.both_ways ((s == s) && is_chosen history s v) e (and_from (s == s) (is_chosen history s v) (eq-eqb s s refl) h)))
+      (λ e. absurd (both_ways ((s == s) && is_chosen history s v) e (and_from (s == s) (is_chosen history s v) (eq-eqb s s refl) h)))
 
   first_some : (v : Value) → is_chosen history s v ≡ true → (ks : List KeptRecord) (k : KeptRecord) → Member k ks → IsVoteFor s v k.what → IsSome (first_chosen history s ks)
   first_some v h [] k m is = absurd m
@@ -137,7 +137,7 @@ at_other : (s t : ℕ) (v : Value) (what : Record) → (s ≡ t → ⊥) → IsV
 at_other s t v what d is = subst (λ x. is_at t x ≡ false) (sym is.2) (ne_eqb s t d)
 
 filter_one : (p : KeptRecord → Bool) (x : KeptRecord) (xs : List KeptRecord) → length (filter p (x ∷ xs)) ≤ suc (length (filter p xs))
-filter_one p x xs = Rattle.cx_model.specs.Outcome.either_way (λ (ys : List KeptRecord). length ys ≤ suc (length (filter p xs))) (p x) (x ∷ filter p xs) (filter p xs) (omega arith) (omega arith)
+filter_one p x xs = either_way (λ (ys : List KeptRecord). length ys ≤ suc (length (filter p xs))) (p x) (x ∷ filter p xs) (filter p xs) (omega arith) (omega arith)
 
 filter_within : (p : KeptRecord → Bool) (xs : List KeptRecord) → length (filter p xs) ≤ length xs
 filter_within p [] = omega arith
@@ -214,7 +214,7 @@ module _ (history : List KeptRecord) where
     pub prefix_longest : (vs : List Value) → ((s : ℕ) (v : Value) → slice_get vs s ≡ Some v → is_chosen history s v ≡ true) → Begins vs (chosen_prefix history)
     prefix_longest vs h =
         from_longest vs 0 (length history) (λ i v e. subst (λ n. chosen_at history n ≡ Some v) (omega arith) (chosen_at-is i v (h i v e)))
-        (enough_records (length vs) history (λ s l. let x = Rattle.cx_inv_list.proofs.Right.get_there vs s l in (x.0, chosen_voted history s x.0 (h s x.0 x.1))))
+        (enough_records (length vs) history (λ s l. let x = get_there vs s l in (x.0, chosen_voted history s x.0 (h s x.0 x.1))))
 
 -- what is chosen stays chosen
 

@@ -1,32 +1,29 @@
 -- A reader asks for the key that it was asked for; a replica answers commands and reads by its own values.
-use Rattle.std.proofs.Common.{◌≡◌, ◌⊎◌, ℕ, ◌+◌, ◌≤◌, Bool, not, ◌&&◌, ◌||◌, List, [], ◌∷◌, ◌++◌, map, filter, take, length, inl, inr, ap, sym, subst, ◌∙◌, ⊎_elim, refl, arith, append-nil}
-use Rattle.std.specs.Prelude.{◌==◌, nat_lt, nat_le, slice_get, if◌then◌else◌, Option, None, Some}
+use Rattle.std.proofs.Common.{◌≡◌, ℕ, ◌+◌, ◌≤◌, not, ◌&&◌, List, [], ◌∷◌, ◌++◌, map, filter, take, length, inl, inr, ap, sym, subst, ◌∙◌, ⊎_elim, refl, arith, append-nil}
+use Rattle.std.specs.Prelude.{nat_lt, nat_le, slice_get, Option, None, Some}
 use Rattle.std.specs.List.{list_any}
 use Rattle.std.proofs.lemmas.List.{take_all}
 use Rattle.std.proofs.lemmas.Option.{same_Some}
 use Rattle.cx_base.specs.declared.cluster.Cluster.{Cluster}
-use Rattle.cx_base.specs.declared.command.Answered.{Answered}
 use Rattle.cx_base.specs.declared.command.Value.{Value}
 use Rattle.cx_base.specs.declared.role.Kind.TheVariants as kind
 use Rattle.cx_base.specs.declared.role.RoleId.{RoleId}
 use Rattle.cx_base.specs.declared.round.Round.{Round}
 use Rattle.cx_base.specs.Fold.{fold, text_at}
 use Rattle.cx_base.specs.Lists.{below}
-use Rattle.cx_base.specs.Log.{value_for, ready_values}
+use Rattle.cx_base.specs.Log.{ready_values}
 use Rattle.cx_base.specs.Role.{role, same_role}
 use Rattle.cx_base.specs.Round.{same_round}
 use Rattle.cx_field.specs.declared.parts.Entry.{Entry}
 use Rattle.cx_field.specs.declared.parts.Token.{Token}
-use Rattle.cx_msg.specs.Letter.{Letter, letter}
+use Rattle.cx_msg.specs.Letter.{Letter}
 use Rattle.cx_msg.specs.declared.input.Input.{Input}
 use Rattle.cx_msg.specs.declared.input.Input.TheVariants.{Take, Tick, Order}
 use Rattle.cx_msg.specs.declared.input.KeptRecord.{KeptRecord}
 use Rattle.cx_msg.specs.declared.kept.Record.TheVariants as kept
 use Rattle.cx_msg.specs.declared.message.Msg.{Msg}
 use Rattle.cx_msg.specs.declared.message.Msg.TheVariants as msg
-use Rattle.cx_model.specs.declared.states.Acked.{Acked}
 use Rattle.cx_model.specs.declared.states.Deferred.{Deferred}
-use Rattle.cx_model.specs.declared.states.MatchAnswer.{MatchAnswer}
 use Rattle.cx_model.specs.CommandList.{IsRight}
 use Rattle.cx_model.specs.Matched.{is_counted, greatest_watermark, is_member_of, members_of, matchmakers, live_entries, rows_whole}
 use Rattle.cx_model.specs.Member.{Member}
@@ -37,12 +34,12 @@ use Rattle.cx_model.specs.Reader.{Reading, ReaderVolatile, token}
 use Rattle.cx_model.specs.Replica as replica
 use Rattle.cx_model.specs.Replica.{ReplicaDurable, ReplicaVolatile, replica_rules, machine_of}
 use Rattle.cx_model.specs.Request.{same_read}
-use Rattle.cx_inv_run.specs.States.{State, ReplicaIn, ReaderIn, entry_by, durable_of}
+use Rattle.cx_inv_run.specs.States.{ReplicaIn, ReaderIn, entry_by, durable_of}
 use Rattle.cx_inv_run.proofs.Histories.{durable_own}
 use Rattle.cx_inv_run.proofs.Members.{Member-both, Member-one, Member-filter}
 use Rattle.cx_inv_list.specs.Told.{Requests, log_in, IsTold, ListSays, InList, IsListed}
 use Rattle.cx_inv_list.proofs.Listed.{Sends, Heard, listed_if, listed_answered, listed_replied, one_send, each_send, both_send}
-use Rattle.cx_inv_list.proofs.Right.{AreAt, are_at, log_right, results_right, map_is_fold}
+use Rattle.cx_inv_list.proofs.Right.{are_at, log_right, results_right, map_is_fold}
 
 -- a reader
 

@@ -1,21 +1,20 @@
 -- Of one client and number there is one request.
-use Rattle.std.proofs.Common.{◌≡◌, ◌⊎◌, ℕ, Bool, true, false, not, ◌&&◌, ◌||◌, List, [], ◌∷◌, ◌++◌, inl, inr, ap, sym, subst, ◌∙◌, ⊎_elim, refl}
-use Rattle.std.specs.Prelude.{◌==◌, if◌then◌else◌, Option, None, Some}
+use Rattle.std.proofs.Common.{◌≡◌, ◌⊎◌, ℕ, true, false, not, ◌&&◌, List, [], ◌∷◌, inl, inr, ap, sym, subst, ◌∙◌, refl}
+use Rattle.std.specs.Prelude.{◌==◌, Option, Some}
 use Rattle.std.specs.List.{list_any}
 use Rattle.std.specs.Str.{bytes_eq}
-use Rattle.std.proofs.lemmas.Bool.{and_from, and_cases, or_parts, not-false, eq-eqb, both_ways, cases_Bool}
+use Rattle.std.proofs.lemmas.Bool.{and_from, and_cases, or_parts, not-false, eq-eqb, both_ways}
 use Rattle.cx_base.specs.declared.cluster.Cluster.{Cluster}
 use Rattle.cx_base.specs.declared.event.Event.{Event}
 use Rattle.cx_base.specs.declared.event.Event.TheVariants as event
 use Rattle.cx_base.specs.declared.event.Happened.{Happened}
-use Rattle.cx_base.specs.declared.role.Kind.TheVariants as kind
 use Rattle.cx_base.specs.declared.why.Why.{Why}
 use Rattle.cx_base.specs.declared.why.Why.TheVariants as why
 use Rattle.cx_base.specs.Same.{same_op}
 use Rattle.cx_field.specs.declared.parts.Token.{Token}
 use Rattle.cx_model.specs.Member.{Member}
 use Rattle.cx_model.specs.Outcome.{by_test}
-use Rattle.cx_model.specs.Request.{token_of, same_request, same_token, not_below, was_sent, is_stale, request}
+use Rattle.cx_model.specs.Request.{token_of, same_request, same_token, not_below, was_sent, is_stale}
 use Rattle.cx_model.specs.World.{World, Change, ask, change, step, run_from, run}
 use Rattle.cx_inv_run.proofs.Members.{Member-cases, none-Member}
 use Rattle.cx_inv_list.specs.Laws.{RequestsAreOnce}

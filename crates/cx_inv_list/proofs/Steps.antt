@@ -1,17 +1,16 @@
 -- Each step keeps what is said of the list, so every run has it.
-use Rattle.std.proofs.Common.{◌≡◌, ◌⊎◌, ℕ, List, [], ◌∷◌, ◌++◌, inl, inr, ap, sym, subst, ◌∙◌, ⊎_elim, refl, append-nil, reverse}
-use Rattle.std.specs.Prelude.{Option, None, Some}
+use Rattle.std.proofs.Common.{◌≡◌, ℕ, List, [], ◌∷◌, inl, ap, sym, subst, ⊎_elim, append-nil}
+use Rattle.std.specs.Prelude.{None}
 use Rattle.cx_base.specs.declared.cluster.Cluster.{Cluster}
-use Rattle.cx_base.specs.declared.command.Command.{Command}
 use Rattle.cx_base.specs.declared.event.Event.{Event}
 use Rattle.cx_base.specs.declared.event.Event.TheVariants as event
 use Rattle.cx_base.specs.declared.event.Happened.{Happened}
 use Rattle.cx_base.specs.declared.role.Kind.{Kind}
 use Rattle.cx_base.specs.declared.role.Kind.TheVariants as kind
 use Rattle.cx_base.specs.declared.role.RoleId.{RoleId}
+use Rattle.cx_base.specs.declared.why.Why.{Why}
 use Rattle.cx_base.specs.declared.why.Why.TheVariants as why
 use Rattle.cx_base.specs.Role.{role}
-use Rattle.cx_field.specs.declared.parts.Token.{Token}
 use Rattle.cx_msg.specs.Letter.{Letter}
 use Rattle.cx_msg.specs.declared.input.KeptRecord.{KeptRecord}
 use Rattle.cx_msg.specs.declared.message.Msg.TheVariants as msg
@@ -23,7 +22,7 @@ use Rattle.cx_model.specs.Reader.{token}
 use Rattle.cx_model.specs.Request.{request}
 use Rattle.cx_model.specs.World.{World, change, step, run_from, run}
 use Rattle.cx_inv_run.specs.Laws.{Laws, anything, AllAllowed}
-use Rattle.cx_inv_run.specs.States.{State, Down, Plain, BatcherIn, LeaderIn, ProxyIn, ReplicaIn, ReaderIn, plain, fresh_state, set_state, durable_of, HoldsIn}
+use Rattle.cx_inv_run.specs.States.{State, Down, BatcherIn, LeaderIn, ProxyIn, ReplicaIn, ReaderIn, plain, fresh_state, set_state, durable_of, HoldsIn}
 use Rattle.cx_inv_run.proofs.Members.{Member-first, Member-second, Member-cases}
 use Rattle.cx_inv_run.proofs.Steps.{run_keeps, along_anything}
 use Rattle.cx_inv_list.specs.Told.{Requests, ListSays, InList, ListFacts}
@@ -130,7 +129,7 @@ unfolding step sent_request
 step_sent w e sent =
     Member-second (sent_request e) w.events (record { event = e; why = (change w e).why } ∷ []) (inl (ap (λ x. happened x) (sym sent)))
   where
-    happened : Rattle.cx_base.specs.declared.why.Why.Why → Happened
+    happened : Why → Happened
     happened x = record { event = e; why = x }
 
 pub run_has : (w : World) (es : List Event) (h : Happened) → Member h w.events → Member h (run_from w es).events
