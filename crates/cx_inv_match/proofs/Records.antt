@@ -1,0 +1,523 @@
+-- One law for each kind of record: the facts hold once it is kept and its role has stopped.
+use Rattle.std.proofs.Common.{◌≡◌, ℕ, ◌+◌, ◌<◌, ◌≤◌, true, false, ◌⊎◌, List, [], ◌∷◌, ◌++◌, length, Some, inl, inr, ap, sym, subst, ◌∙◌, ⊎_elim, refl, arith, max, zero, suc}
+use Rattle.std.specs.Prelude.{slice_get}
+use Rattle.std.proofs.lemmas.Bool.{cases_eq, cases_lt}
+use Rattle.std.proofs.lemmas.Option.{same_Some}
+use Rattle.cx_base.specs.declared.cluster.Cluster.{Cluster}
+use Rattle.cx_base.specs.declared.command.Value.{Value}
+use Rattle.cx_base.specs.declared.role.Kind.TheVariants as kind
+use Rattle.cx_base.specs.declared.role.RoleId.{RoleId}
+use Rattle.cx_base.specs.declared.round.Round.{Round}
+use Rattle.cx_base.specs.Grid.{Shape}
+use Rattle.cx_base.specs.Role.{role}
+use Rattle.cx_base.specs.Round.{is_before}
+use Rattle.cx_field.specs.declared.parts.Entry.{Entry}
+use Rattle.cx_field.specs.declared.parts.Vote.{Vote}
+use Rattle.cx_msg.specs.Letter.{Letter}
+use Rattle.cx_msg.specs.declared.input.KeptRecord.{KeptRecord}
+use Rattle.cx_msg.specs.declared.kept.Record.{Record}
+use Rattle.cx_msg.specs.declared.kept.Record.TheVariants as kept
+use Rattle.cx_model.specs.Acceptor.{acceptor_rules, acceptor_after, with_vote, votes_from}
+use Rattle.cx_model.specs.Facts.{HasVoted, IsProposed, IsRetiring}
+use Rattle.cx_model.specs.Leader.{leader_rules, leader_after}
+use Rattle.cx_model.specs.Matchmaker.{matchmaker_rules, matchmaker_after, entry, entries_from}
+use Rattle.cx_model.specs.Member.{Member}
+use Rattle.cx_model.specs.Promises.{HasKept, IsConfig}
+use Rattle.cx_model.specs.Replica.{replica_rules}
+use Rattle.cx_inv_run.specs.States.{State, Down, set_state, entry_by, durable_of}
+use Rattle.cx_inv_run.proofs.Histories.{kept_cases, kept_else}
+use Rattle.cx_inv_run.proofs.Members.{Member-cases, Member-first, Member-second}
+use Rattle.cx_inv_run.proofs.Rounds.{before-trans, before-itself, itself-not_before, before-not, before-from_at_most, before-to_at_least, at_most-trans, before-both}
+use Rattle.cx_inv_match.specs.Words.{HasMatch, HasGarbage, HasLog, HasMark, HasPromise, IsPast, IsChosen, AreChosen, IsCollected}
+use Rattle.cx_inv_match.specs.Facts.{IsAcceptor, IsLog, IsLast, Facts}
+use Rattle.cx_inv_match.proofs.Grow.{Grows, grown_config, grown_collected, grown_chosen_somewhere}
+use Rattle.cx_inv_match.proofs.Parts.{put-itself, put-cases, put-older, from-member, from-there, entries-member, entries-there, with-member, with-older, with-itself, get-cases}
+use Rattle.cx_inv_match.proofs.Keep.{IsVoteRecord, IsWaterRecord, old_matches, old_garbages, old_votes, old_marks, more_mark, more_low, kept_facts, new_last, new_logs, new_acceptors, new_logged, old_owner, old_one_grid, old_last, old_asked, old_garbaged, old_logs, old_acceptors, old_voted, old_logged}
+
+abbrev no : ⊥ → ⊥
+no x = x
+
+-- of records that are no acceptor's: what they add is no vote, no watermark and no promise
+grows_else : (history : List KeptRecord) (me : RoleId) (r : Record) → (IsVoteRecord r → ⊥) → (IsWaterRecord r → ⊥)
+    → ((m : RoleId) (i j : Round) (h : Shape) → is_before j i ≡ true → HasLog history m i → HasMatch (entry_by me r ∷ history) m j h → HasMatch history m j h)
+    → Grows history (entry_by me r ∷ history)
+grows_else history me r vote water no_match = record {
+  more = λ k m. inr m;
+  no_vote = λ a j s v past x. old_votes me r history vote a j s v x;
+  no_mark = λ a j n past x. old_marks me r history vote water a j n x;
+  no_match = no_match;
+}
+
+-- an acceptor's records: a round that isn't below its promise isn't below any that it has promised
+
+module _ (c : Cluster) (history : List KeptRecord) (sent : List Letter) (states : RoleId → State) (facts : Facts c history sent states)
+    (me : RoleId) (i : Round) (at_least : is_before i (durable_of acceptor_rules me history).promise ≡ false) where
+  promised_below : (x : Round) → HasPromise history me x → is_before i x ≡ false
+  promised_below x h = at_most-trans x (durable_of acceptor_rules me history).promise i ((facts.acceptors me).bound x h) at_least
+
+  not_past : (a : RoleId) (j : Round) → a ≡ me → j ≡ i → IsPast history a j → ⊥
+  not_past a j p q past =
+      before-both i past.0 (subst (λ x. is_before x past.0 ≡ true) q past.1) (promised_below past.0 (subst (λ x. HasPromise history x past.0) p past.2))
+
+-- a promise
+
+module _ (c : Cluster) (history : List KeptRecord) (sent : List Letter) (states : RoleId → State) (facts : Facts c history sent states)
+    (me : RoleId) (i : Round) (at_least : is_before i (durable_of acceptor_rules me history).promise ≡ false) where
+  pub grows_promise : Grows history (entry_by me (kept.Promise i) ∷ history)
+  grows_promise = grows_else history me (kept.Promise i) no no (λ m k j h l x y. old_matches me (kept.Promise i) history no m j h y)
+
+  promise_bound : (x : Round) → HasPromise (entry_by me (kept.Promise i) ∷ history) me x → is_before i x ≡ false
+  promise_bound x (inl m) = ⊎_elim
+      (λ q. let e : kept.Promise x ≡ kept.Promise i = q.1 in let p : x ≡ i = cc in subst (λ y. is_before i y ≡ false) (sym p) (itself-not_before i))
+      (λ o. promised_below c history sent states facts me i at_least x (inl o))
+      (kept_cases me me (kept.Promise i) (kept.Promise x) history m)
+  promise_bound x (inr h) = promised_below c history sent states facts me i at_least x (inr (h.0, old_marks me (kept.Promise i) history no no me x h.0 h.1))
+
+  promise_own : IsAcceptor (entry_by me (kept.Promise i) ∷ history) me (acceptor_after (durable_of acceptor_rules me history) (kept.Promise i))
+  promise_own = record {
+    bound = promise_bound;
+    promised = λ j l. inl (inl refl);
+    last = λ j s v l x. (facts.acceptors me).last j s v l (old_votes me (kept.Promise i) history no me j s v x);
+    only = λ u m. let x = (facts.acceptors me).only u m in ((x.0.0, inr x.0.1), x.1);
+    mark = λ j n x. (facts.acceptors me).mark j n (old_marks me (kept.Promise i) history no no me j n x);
+    low = more_low history (entry_by me (kept.Promise i) ∷ history) (λ k m. inr m) me (durable_of acceptor_rules me history) (facts.acceptors me).low;
+    top = λ j s v x. (facts.acceptors me).top j s v (old_votes me (kept.Promise i) history no me j s v x);
+  }
+
+  pub keep_promise : Facts c (entry_by me (kept.Promise i) ∷ history) sent (set_state me Down states)
+  keep_promise = kept_facts c history sent states facts me (kept.Promise i) grows_promise
+      (old_owner c history sent states facts me (kept.Promise i) grows_promise no)
+      (old_one_grid c history sent states facts me (kept.Promise i) grows_promise no)
+      (old_last c history sent states facts me (kept.Promise i) grows_promise no refl)
+      (old_asked c history sent states facts me (kept.Promise i) grows_promise no)
+      (old_garbaged c history sent states facts me (kept.Promise i) grows_promise no)
+      (old_logs c history sent states facts me (kept.Promise i) grows_promise no no refl)
+      (new_acceptors c history sent states facts me (kept.Promise i) grows_promise promise_own)
+      (old_voted c history sent states facts me (kept.Promise i) grows_promise no)
+      (old_logged c history sent states facts me (kept.Promise i) grows_promise refl)
+
+max_cases : (a b : ℕ) → (max a b ≡ a) ⊎ (max a b ≡ b)
+max_cases a b = ⊎_elim (λ l. inr (omega arith)) (λ l. inl (omega arith)) (cases_lt a b)
+
+-- a vote
+
+module _ (c : Cluster) (history : List KeptRecord) (sent : List Letter) (states : RoleId → State) (facts : Facts c history sent states)
+    (me : RoleId) (i : Round) (s low : ℕ) (v : Value) (at_least : is_before i (durable_of acceptor_rules me history).promise ≡ false)
+    (own_low : (durable_of acceptor_rules me history).cw ≤ s) (new_low : low ≤ s) (proposed : IsProposed sent i s v) where
+  -- a vote or a watermark of the longer history is the new one or an old one
+  vote_cases : (a : RoleId) (j : Round) (t : ℕ) (w : Value) → HasVoted (entry_by me (kept.Vote i s low v) ∷ history) a j t w
+      → ((a ≡ me) × (j ≡ i) × (t ≡ s) × (w ≡ v)) ⊎ HasVoted history a j t w
+  vote_cases a j t w x = ⊎_elim
+      (λ q. let e : kept.Vote j t x.0 w ≡ kept.Vote i s low v = q.1 in inl (q.0, cc, cc, cc))
+      (λ o. inr (x.0, o))
+      (kept_cases me a (kept.Vote i s low v) (kept.Vote j t x.0 w) history x.1)
+
+  vote_mark_cases : (a : RoleId) (j : Round) (n : ℕ) → HasMark (entry_by me (kept.Vote i s low v) ∷ history) a j n
+      → ((a ≡ me) × (j ≡ i) × (n ≡ low)) ⊎ HasMark history a j n
+  vote_mark_cases a j n (inl x) = ⊎_elim
+      (λ q. let e : kept.Vote j x.0 n x.1 ≡ kept.Vote i s low v = q.1 in inl (q.0, cc, cc))
+      (λ o. inr (inl (x.0, x.1, o)))
+      (kept_cases me a (kept.Vote i s low v) (kept.Vote j x.0 n x.1) history x.2)
+  vote_mark_cases a j n (inr m) = inr (inr (kept_else me a (kept.Vote i s low v) (kept.Water j n) history (λ e. cc) m))
+
+  pub grows_vote : Grows history (entry_by me (kept.Vote i s low v) ∷ history)
+  grows_vote = record {
+    more = λ k m. inr m;
+    no_vote = λ a j t w past x. ⊎_elim
+        (λ q. absurd (not_past c history sent states facts me i at_least a j q.0 q.1 past)) (λ h. h) (vote_cases a j t w x);
+    no_mark = λ a j n past x. ⊎_elim
+        (λ q. absurd (not_past c history sent states facts me i at_least a j q.0 q.1 past)) (λ h. h) (vote_mark_cases a j n x);
+    no_match = λ m k j h l x y. old_matches me (kept.Vote i s low v) history no m j h y;
+  }
+
+  vote_bound : (x : Round) → HasPromise (entry_by me (kept.Vote i s low v) ∷ history) me x → is_before i x ≡ false
+  vote_bound x (inl m) =
+      promised_below c history sent states facts me i at_least x
+      (inl (kept_else me me (kept.Vote i s low v) (kept.Promise x) history (λ e. cc) m))
+  vote_bound x (inr h) = ⊎_elim
+      (λ q. subst (λ y. is_before i y ≡ false) (sym q.1) (itself-not_before i))
+      (λ o. promised_below c history sent states facts me i at_least x (inr (h.0, o)))
+      (vote_mark_cases me x h.0 h.1)
+
+  abbrev old_votes_left : List Vote
+  old_votes_left = votes_from (max (durable_of acceptor_rules me history).cw low) (durable_of acceptor_rules me history).votes
+
+  abbrev new_vote : Vote
+  new_vote = record { round = i; slot = s; value = v }
+
+  -- the last vote at a slot, with the new one put among the old
+  vote_last : (j : Round) (t : ℕ) (w : Value) → max (durable_of acceptor_rules me history).cw low ≤ t
+      → HasVoted (entry_by me (kept.Vote i s low v) ∷ history) me j t w
+      → (u : Vote) × Member u (with_vote new_vote old_votes_left) × (u.slot ≡ t) × (is_before u.round j ≡ false)
+  vote_last j t w l x = ⊎_elim new old (vote_cases me j t w x)
+    where
+      new : (me ≡ me) × (j ≡ i) × (t ≡ s) × (w ≡ v)
+          → (u : Vote) × Member u (with_vote new_vote old_votes_left) × (u.slot ≡ t) × (is_before u.round j ≡ false)
+      new q = (new_vote, put-itself new_vote old_votes_left, sym q.2, subst (λ y. is_before i y ≡ false) (sym q.1) (itself-not_before i))
+
+      old : HasVoted history me j t w → (u : Vote) × Member u (with_vote new_vote old_votes_left) × (u.slot ≡ t) × (is_before u.round j ≡ false)
+      old h = ⊎_elim
+          (λ e. (new_vote, put-itself new_vote old_votes_left, e, promised_below c history sent states facts me i at_least j (inr (h.0, inl (t, w, h.1)))))
+          (λ d. let u = (facts.acceptors me).last j t w (omega arith) h in (
+            u.0,
+            put-older new_vote old_votes_left u.0 (λ e. d (sym e ∙ u.2))
+                (from-there (max (durable_of acceptor_rules me history).cw low) (durable_of acceptor_rules me history).votes u.0 (rw u.2 l) u.1),
+            u.2,
+            u.3,
+          ))
+          (cases_eq s t)
+
+  vote_only : (u : Vote) → Member u (with_vote new_vote old_votes_left)
+      → HasVoted (entry_by me (kept.Vote i s low v) ∷ history) me u.round u.slot u.value × (max (durable_of acceptor_rules me history).cw low ≤ u.slot)
+  vote_only u m = ⊎_elim
+      (λ e. subst (λ (x : Vote). HasVoted (entry_by me (kept.Vote i s low v) ∷ history) me x.round x.slot x.value × (max (durable_of acceptor_rules me history).cw low ≤ x.slot))
+      (sym e) ((low, inl refl), omega arith))
+      (λ k. let f = from-member (max (durable_of acceptor_rules me history).cw low) (durable_of acceptor_rules me history).votes u k in
+      let x = (facts.acceptors me).only u f.0 in ((x.0.0, inr x.0.1), f.1))
+      (put-cases new_vote old_votes_left u m)
+
+  vote_mark : (j : Round) (n : ℕ) → HasMark (entry_by me (kept.Vote i s low v) ∷ history) me j n → n ≤ max (durable_of acceptor_rules me history).cw low
+  vote_mark j n x = ⊎_elim (λ q. let p = q.2 in omega arith) (λ h. let p = (facts.acceptors me).mark j n h in omega arith) (vote_mark_cases me j n x)
+
+  vote_top : (j : Round) (t : ℕ) (w : Value) → HasVoted (entry_by me (kept.Vote i s low v) ∷ history) me j t w
+      → t < max (durable_of acceptor_rules me history).top (s + 1)
+  vote_top j t w x = ⊎_elim (λ q. let p = q.2 in omega arith) (λ h. let p = (facts.acceptors me).top j t w h in omega arith) (vote_cases me j t w x)
+
+  vote_low : (max (durable_of acceptor_rules me history).cw low ≡ 0)
+      ⊎ ((j : Round) × HasMark (entry_by me (kept.Vote i s low v) ∷ history) me j (max (durable_of acceptor_rules me history).cw low))
+  vote_low = ⊎_elim
+      (λ e. ⊎_elim
+      (λ z. inl (e ∙ z))
+      (λ h. inr (
+        h.0,
+        subst (λ n. HasMark (entry_by me (kept.Vote i s low v) ∷ history) me h.0 n) (sym e)
+            (more_mark history (entry_by me (kept.Vote i s low v) ∷ history) (λ k m. inr m) me h.0 (durable_of acceptor_rules me history).cw h.1),
+      ))
+      (facts.acceptors me).low)
+      (λ e. inr (i, subst (λ n. HasMark (entry_by me (kept.Vote i s low v) ∷ history) me i n) (sym e) (inl (s, v, inl refl))))
+      (max_cases (durable_of acceptor_rules me history).cw low)
+
+  vote_own : IsAcceptor (entry_by me (kept.Vote i s low v) ∷ history) me (acceptor_after (durable_of acceptor_rules me history) (kept.Vote i s low v))
+  vote_own = record {
+    bound = vote_bound;
+    promised = λ j l. inr (low, inl (s, v, inl refl));
+    last = vote_last;
+    only = vote_only;
+    mark = vote_mark;
+    low = vote_low;
+    top = vote_top;
+  }
+
+  vote_voted : (a : RoleId) (j : Round) (t : ℕ) (w : Value) → HasVoted (entry_by me (kept.Vote i s low v) ∷ history) a j t w → IsProposed sent j t w
+  vote_voted a j t w x = ⊎_elim (λ q. rw (q.1, q.2, q.3) proposed) (λ h. facts.voted a j t w h) (vote_cases a j t w x)
+
+  pub keep_vote : Facts c (entry_by me (kept.Vote i s low v) ∷ history) sent (set_state me Down states)
+  keep_vote = kept_facts c history sent states facts me (kept.Vote i s low v) grows_vote
+      (old_owner c history sent states facts me (kept.Vote i s low v) grows_vote no)
+      (old_one_grid c history sent states facts me (kept.Vote i s low v) grows_vote no)
+      (old_last c history sent states facts me (kept.Vote i s low v) grows_vote no refl)
+      (old_asked c history sent states facts me (kept.Vote i s low v) grows_vote no)
+      (old_garbaged c history sent states facts me (kept.Vote i s low v) grows_vote no)
+      (old_logs c history sent states facts me (kept.Vote i s low v) grows_vote no no refl)
+      (new_acceptors c history sent states facts me (kept.Vote i s low v) grows_vote vote_own)
+      vote_voted
+      (old_logged c history sent states facts me (kept.Vote i s low v) grows_vote refl)
+
+-- a watermark
+
+module _ (c : Cluster) (history : List KeptRecord) (sent : List Letter) (states : RoleId → State) (facts : Facts c history sent states)
+    (me : RoleId) (i : Round) (low : ℕ) (at_least : is_before i (durable_of acceptor_rules me history).promise ≡ false) where
+  water_mark_cases : (a : RoleId) (j : Round) (n : ℕ) → HasMark (entry_by me (kept.Water i low) ∷ history) a j n
+      → ((a ≡ me) × (j ≡ i) × (n ≡ low)) ⊎ HasMark history a j n
+  water_mark_cases a j n (inl x) = inr (inl (x.0, x.1, kept_else me a (kept.Water i low) (kept.Vote j x.0 n x.1) history (λ e. cc) x.2))
+  water_mark_cases a j n (inr m) = ⊎_elim
+      (λ q. let e : kept.Water j n ≡ kept.Water i low = q.1 in inl (q.0, cc, cc))
+      (λ o. inr (inr o))
+      (kept_cases me a (kept.Water i low) (kept.Water j n) history m)
+
+  pub grows_water : Grows history (entry_by me (kept.Water i low) ∷ history)
+  grows_water = record {
+    more = λ k m. inr m;
+    no_vote = λ a j t w past x. old_votes me (kept.Water i low) history no a j t w x;
+    no_mark = λ a j n past x. ⊎_elim
+        (λ q. absurd (not_past c history sent states facts me i at_least a j q.0 q.1 past)) (λ h. h) (water_mark_cases a j n x);
+    no_match = λ m k j h l x y. old_matches me (kept.Water i low) history no m j h y;
+  }
+
+  water_bound : (x : Round) → HasPromise (entry_by me (kept.Water i low) ∷ history) me x → is_before i x ≡ false
+  water_bound x (inl m) =
+      promised_below c history sent states facts me i at_least x
+      (inl (kept_else me me (kept.Water i low) (kept.Promise x) history (λ e. cc) m))
+  water_bound x (inr h) = ⊎_elim
+      (λ q. subst (λ y. is_before i y ≡ false) (sym q.1) (itself-not_before i))
+      (λ o. promised_below c history sent states facts me i at_least x (inr (h.0, o)))
+      (water_mark_cases me x h.0 h.1)
+
+  water_last : (j : Round) (t : ℕ) (w : Value) → max (durable_of acceptor_rules me history).cw low ≤ t
+      → HasVoted (entry_by me (kept.Water i low) ∷ history) me j t w
+      → (u : Vote) × Member u (votes_from (max (durable_of acceptor_rules me history).cw low) (durable_of acceptor_rules me history).votes)
+      × (u.slot ≡ t) × (is_before u.round j ≡ false)
+  water_last j t w l x =
+      let u = (facts.acceptors me).last j t w (omega arith) (old_votes me (kept.Water i low) history no me j t w x) in
+      (u.0, from-there (max (durable_of acceptor_rules me history).cw low) (durable_of acceptor_rules me history).votes u.0 (rw u.2 l) u.1, u.2, u.3)
+
+  water_only : (u : Vote) → Member u (votes_from (max (durable_of acceptor_rules me history).cw low) (durable_of acceptor_rules me history).votes)
+      → HasVoted (entry_by me (kept.Water i low) ∷ history) me u.round u.slot u.value × (max (durable_of acceptor_rules me history).cw low ≤ u.slot)
+  water_only u m =
+      let f = from-member (max (durable_of acceptor_rules me history).cw low) (durable_of acceptor_rules me history).votes u m in
+      let x = (facts.acceptors me).only u f.0 in ((x.0.0, inr x.0.1), f.1)
+
+  water_mark : (j : Round) (n : ℕ) → HasMark (entry_by me (kept.Water i low) ∷ history) me j n → n ≤ max (durable_of acceptor_rules me history).cw low
+  water_mark j n x = ⊎_elim (λ q. let p = q.2 in omega arith) (λ h. let p = (facts.acceptors me).mark j n h in omega arith) (water_mark_cases me j n x)
+
+  water_low : (max (durable_of acceptor_rules me history).cw low ≡ 0)
+      ⊎ ((j : Round) × HasMark (entry_by me (kept.Water i low) ∷ history) me j (max (durable_of acceptor_rules me history).cw low))
+  water_low = ⊎_elim
+      (λ e. ⊎_elim
+      (λ z. inl (e ∙ z))
+      (λ h. inr (
+        h.0,
+        subst (λ n. HasMark (entry_by me (kept.Water i low) ∷ history) me h.0 n) (sym e)
+            (more_mark history (entry_by me (kept.Water i low) ∷ history) (λ k m. inr m) me h.0 (durable_of acceptor_rules me history).cw h.1),
+      ))
+      (facts.acceptors me).low)
+      (λ e. inr (i, subst (λ n. HasMark (entry_by me (kept.Water i low) ∷ history) me i n) (sym e) (inr (inl refl))))
+      (max_cases (durable_of acceptor_rules me history).cw low)
+
+  water_own : IsAcceptor (entry_by me (kept.Water i low) ∷ history) me (acceptor_after (durable_of acceptor_rules me history) (kept.Water i low))
+  water_own = record {
+    bound = water_bound;
+    promised = λ j l. inr (low, inr (inl refl));
+    last = water_last;
+    only = water_only;
+    mark = water_mark;
+    low = water_low;
+    top = λ j t w x. (facts.acceptors me).top j t w (old_votes me (kept.Water i low) history no me j t w x);
+  }
+
+  pub keep_water : Facts c (entry_by me (kept.Water i low) ∷ history) sent (set_state me Down states)
+  keep_water = kept_facts c history sent states facts me (kept.Water i low) grows_water
+      (old_owner c history sent states facts me (kept.Water i low) grows_water no)
+      (old_one_grid c history sent states facts me (kept.Water i low) grows_water no)
+      (old_last c history sent states facts me (kept.Water i low) grows_water no refl)
+      (old_asked c history sent states facts me (kept.Water i low) grows_water no)
+      (old_garbaged c history sent states facts me (kept.Water i low) grows_water no)
+      (old_logs c history sent states facts me (kept.Water i low) grows_water no no refl)
+      (new_acceptors c history sent states facts me (kept.Water i low) grows_water water_own)
+      (old_voted c history sent states facts me (kept.Water i low) grows_water no)
+      (old_logged c history sent states facts me (kept.Water i low) grows_water refl)
+
+-- a match
+
+module _ (c : Cluster) (history : List KeptRecord) (sent : List Letter) (states : RoleId → State) (facts : Facts c history sent states)
+    (me : RoleId) (i : Round) (g : Shape) (config : IsConfig history i g)
+    (above : (j : Round) → HasLog history me j → is_before j i ≡ true)
+    (at_watermark : is_before i (durable_of matchmaker_rules me history).watermark ≡ false) where
+  match_cases : (m : RoleId) (j : Round) (h : Shape) → HasMatch (entry_by me (kept.Match i g) ∷ history) m j h
+      → ((m ≡ me) × (j ≡ i) × (h ≡ g)) ⊎ HasMatch history m j h
+  match_cases m j h x = ⊎_elim
+      (λ q. let e : kept.Match j h ≡ kept.Match i g = q.1 in inl (q.0, cc, cc))
+      (λ o. inr o)
+      (kept_cases me m (kept.Match i g) (kept.Match j h) history x)
+
+  match_below : (m : RoleId) (k j : Round) (h : Shape) → is_before j k ≡ true → HasLog history m k
+      → HasMatch (entry_by me (kept.Match i g) ∷ history) m j h → HasMatch history m j h
+  match_below m k j h l y z = ⊎_elim
+      (λ q. absurd (before-itself i (before-trans i k i (subst (λ t. is_before t k ≡ true) q.1 l) (above k (subst (λ t. HasLog history t k) q.0 y)))))
+      (λ o. o)
+      (match_cases m j h z)
+
+  pub grows_match : Grows history (entry_by me (kept.Match i g) ∷ history)
+  grows_match = grows_else history me (kept.Match i g) no no match_below
+
+  match_asked : (m : RoleId) (j : Round) (h : Shape) → HasMatch (entry_by me (kept.Match i g) ∷ history) m j h
+      → IsConfig (entry_by me (kept.Match i g) ∷ history) j h
+  match_asked m j h x =
+      grown_config c history (entry_by me (kept.Match i g) ∷ history) grows_match j h
+      (⊎_elim (λ q. rw (q.1, q.2) config) (λ o. facts.asked m j h o) (match_cases m j h x))
+
+  match_own : IsLog (entry_by me (kept.Match i g) ∷ history) me (matchmaker_after (durable_of matchmaker_rules me history) (kept.Match i g))
+  match_own = record {
+    all = λ j h l x. ⊎_elim
+        (λ q. Member-second (entry j h) (durable_of matchmaker_rules me history).entries (entry i g ∷ []) (inl (rw (q.1, q.2) refl)))
+        (λ o. Member-first (entry j h) (durable_of matchmaker_rules me history).entries (entry i g ∷ []) ((facts.logs me).all j h l o))
+        (match_cases me j h x);
+    only = λ e m. ⊎_elim
+        (λ o. ⊎_elim (λ y. inl (inr y)) (λ y. inr (inr y)) ((facts.logs me).only e o))
+        (λ n. ⊎_elim (λ q. inl (inl (ap (λ (y : Entry). entry_by me (kept.Match y.round y.grid)) q))) (λ z. absurd z) n)
+        (Member-cases e (durable_of matchmaker_rules me history).entries (entry i g ∷ []) m);
+    from_watermark = λ e m. ⊎_elim
+        (λ o. (facts.logs me).from_watermark e o)
+        (λ n. ⊎_elim
+        (λ q. subst (λ (y : Entry). is_before y.round (durable_of matchmaker_rules me history).watermark ≡ false) (sym q) at_watermark) (λ z. absurd z) n)
+        (Member-cases e (durable_of matchmaker_rules me history).entries (entry i g ∷ []) m);
+    bound = λ j h x. (facts.logs me).bound j h (old_garbages me (kept.Match i g) history no me j h x);
+    raised = ⊎_elim
+        (λ x. inl (x.0, λ j h y. x.1 j h (old_garbages me (kept.Match i g) history no me j h y)))
+        (λ x. inr ((x.0.0, inr x.0.1), (x.1.0, Member-first _ (durable_of matchmaker_rules me history).entries (entry i g ∷ []) x.1.1)))
+        (facts.logs me).raised;
+  }
+
+  pub keep_match : Facts c (entry_by me (kept.Match i g) ∷ history) sent (set_state me Down states)
+  keep_match = kept_facts c history sent states facts me (kept.Match i g) grows_match
+      (old_owner c history sent states facts me (kept.Match i g) grows_match no)
+      (old_one_grid c history sent states facts me (kept.Match i g) grows_match no)
+      (old_last c history sent states facts me (kept.Match i g) grows_match no refl)
+      match_asked
+      (old_garbaged c history sent states facts me (kept.Match i g) grows_match no)
+      (new_logs c history sent states facts me (kept.Match i g) grows_match match_own)
+      (old_acceptors c history sent states facts me (kept.Match i g) grows_match no no no refl)
+      (old_voted c history sent states facts me (kept.Match i g) grows_match no)
+      (old_logged c history sent states facts me (kept.Match i g) grows_match refl)
+
+-- a matchmaker forgets
+
+module _ (c : Cluster) (history : List KeptRecord) (sent : List Letter) (states : RoleId → State) (facts : Facts c history sent states)
+    (me : RoleId) (i : Round) (g : Shape) (config : IsConfig history i g) (collected : IsCollected c history i) (retiring : IsRetiring sent i)
+    (raises : is_before (durable_of matchmaker_rules me history).watermark i ≡ true) where
+  garbage_cases : (m : RoleId) (j : Round) (h : Shape) → HasGarbage (entry_by me (kept.Garbage i g) ∷ history) m j h
+      → ((m ≡ me) × (j ≡ i) × (h ≡ g)) ⊎ HasGarbage history m j h
+  garbage_cases m j h x = ⊎_elim
+      (λ q. let e : kept.Garbage j h ≡ kept.Garbage i g = q.1 in inl (q.0, cc, cc))
+      (λ o. inr o)
+      (kept_cases me m (kept.Garbage i g) (kept.Garbage j h) history x)
+
+  pub grows_garbage : Grows history (entry_by me (kept.Garbage i g) ∷ history)
+  grows_garbage = grows_else history me (kept.Garbage i g) no no (λ m k j h l x y. old_matches me (kept.Garbage i g) history no m j h y)
+
+  garbage_garbaged : (m : RoleId) (j : Round) (h : Shape) → HasGarbage (entry_by me (kept.Garbage i g) ∷ history) m j h
+      → IsConfig (entry_by me (kept.Garbage i g) ∷ history) j h × IsCollected c (entry_by me (kept.Garbage i g) ∷ history) j × IsRetiring sent j
+  garbage_garbaged m j h x =
+      let y : IsConfig history j h × IsCollected c history j × IsRetiring sent j =
+      ⊎_elim (λ q. rw (q.1, q.2) (config, collected, retiring)) (λ o. facts.garbaged m j h o) (garbage_cases m j h x) in (
+        grown_config c history (entry_by me (kept.Garbage i g) ∷ history) grows_garbage j h y.0,
+        grown_collected c history (entry_by me (kept.Garbage i g) ∷ history) grows_garbage j y.1,
+        y.2,
+      )
+
+  garbage_own : IsLog (entry_by me (kept.Garbage i g) ∷ history) me (matchmaker_after (durable_of matchmaker_rules me history) (kept.Garbage i g))
+  garbage_own = record {
+    all = λ j h l x.
+        let above = before-to_at_least (durable_of matchmaker_rules me history).watermark i j raises l in
+        with-older i g (entries_from i (durable_of matchmaker_rules me history).entries) (entry j h)
+        (entries-there i (durable_of matchmaker_rules me history).entries (entry j h) l
+        ((facts.logs me).all j h (before-not (durable_of matchmaker_rules me history).watermark j above) (old_matches me (kept.Garbage i g) history no me j h x)));
+    only = λ e m. ⊎_elim
+        (λ q. inr (inl (ap (λ (y : Entry). entry_by me (kept.Garbage y.round y.grid)) q)))
+        (λ o. ⊎_elim (λ y. inl (inr y)) (λ y. inr (inr y))
+        ((facts.logs me).only e (entries-member i (durable_of matchmaker_rules me history).entries e o).0))
+        (with-member i g (entries_from i (durable_of matchmaker_rules me history).entries) e m);
+    from_watermark = λ e m. ⊎_elim
+        (λ q. subst (λ (y : Entry). is_before y.round i ≡ false) (sym q) (itself-not_before i))
+        (λ o. (entries-member i (durable_of matchmaker_rules me history).entries e o).1)
+        (with-member i g (entries_from i (durable_of matchmaker_rules me history).entries) e m);
+    bound = λ j h x. ⊎_elim
+        (λ q. subst (λ y. is_before i y ≡ false) (sym q.1) (itself-not_before i))
+        (λ o. before-not j i (before-from_at_most j (durable_of matchmaker_rules me history).watermark i ((facts.logs me).bound j h o) raises))
+        (garbage_cases me j h x);
+    raised = inr ((g, inl refl), with-itself i g (entries_from i (durable_of matchmaker_rules me history).entries));
+  }
+
+  pub keep_garbage : Facts c (entry_by me (kept.Garbage i g) ∷ history) sent (set_state me Down states)
+  keep_garbage = kept_facts c history sent states facts me (kept.Garbage i g) grows_garbage
+      (old_owner c history sent states facts me (kept.Garbage i g) grows_garbage no)
+      (old_one_grid c history sent states facts me (kept.Garbage i g) grows_garbage no)
+      (old_last c history sent states facts me (kept.Garbage i g) grows_garbage no refl)
+      (old_asked c history sent states facts me (kept.Garbage i g) grows_garbage no)
+      garbage_garbaged
+      (new_logs c history sent states facts me (kept.Garbage i g) grows_garbage garbage_own)
+      (old_acceptors c history sent states facts me (kept.Garbage i g) grows_garbage no no no refl)
+      (old_voted c history sent states facts me (kept.Garbage i g) grows_garbage no)
+      (old_logged c history sent states facts me (kept.Garbage i g) grows_garbage refl)
+
+-- a replica's values
+
+chosen_at : (history : List KeptRecord) (first : ℕ) (new : List Value) → AreChosen history first new
+    → (k : ℕ) (u : Value) → slice_get new k ≡ Some u → IsChosen history (first + k) u
+chosen_at history first [] chosen k u x = cc
+chosen_at history first (v ∷ new) chosen zero u x =
+    subst (λ s. IsChosen history s u) (omega arith) (subst (λ w. IsChosen history first w) (same_Some v u x) chosen.0)
+chosen_at history first (v ∷ new) chosen (suc k) u x =
+    subst (λ s. IsChosen history s u) (omega arith) (chosen_at history (first + 1) new chosen.1 k u x)
+
+module _ (c : Cluster) (history : List KeptRecord) (sent : List Letter) (states : RoleId → State) (facts : Facts c history sent states)
+    (me : RoleId) (new : List Value) (chosen : AreChosen history (length (durable_of replica_rules me history).log) new) where
+  pub grows_log : Grows history (entry_by me (kept.Log new) ∷ history)
+  grows_log = grows_else history me (kept.Log new) no no (λ m k j h l x y. old_matches me (kept.Log new) history no m j h y)
+
+  log_own : (s : ℕ) (u : Value) → slice_get ((durable_of replica_rules me history).log ++ new) s ≡ Some u → IsChosen (entry_by me (kept.Log new) ∷ history) s u
+  log_own s u x =
+      grown_chosen_somewhere c history (entry_by me (kept.Log new) ∷ history) grows_log s u
+      (⊎_elim
+      (λ o. facts.logged me s u o)
+      (λ r. subst (λ t. IsChosen history t u) (sym r.1) (chosen_at history (length (durable_of replica_rules me history).log) new chosen r.0 u r.2))
+      (get-cases (durable_of replica_rules me history).log new s u x))
+
+  pub keep_log : Facts c (entry_by me (kept.Log new) ∷ history) sent (set_state me Down states)
+  keep_log = kept_facts c history sent states facts me (kept.Log new) grows_log
+      (old_owner c history sent states facts me (kept.Log new) grows_log no)
+      (old_one_grid c history sent states facts me (kept.Log new) grows_log no)
+      (old_last c history sent states facts me (kept.Log new) grows_log no refl)
+      (old_asked c history sent states facts me (kept.Log new) grows_log no)
+      (old_garbaged c history sent states facts me (kept.Log new) grows_log no)
+      (old_logs c history sent states facts me (kept.Log new) grows_log no no refl)
+      (old_acceptors c history sent states facts me (kept.Log new) grows_log no no no refl)
+      (old_voted c history sent states facts me (kept.Log new) grows_log no)
+      (new_logged c history sent states facts me (kept.Log new) grows_log log_own)
+
+-- a round
+
+module _ (c : Cluster) (history : List KeptRecord) (sent : List Letter) (states : RoleId → State) (facts : Facts c history sent states)
+    (me : RoleId) (i : Round) (g : Shape) (owned : me ≡ role kind.Leader i.id)
+    (above : (j : Round) (h : Shape) → HasKept history me (kept.Round j h) → is_before j i ≡ true) where
+  round_cases : (a : RoleId) (j : Round) (h : Shape) → HasKept (entry_by me (kept.Round i g) ∷ history) a (kept.Round j h)
+      → ((a ≡ me) × (j ≡ i) × (h ≡ g)) ⊎ HasKept history a (kept.Round j h)
+  round_cases a j h x = ⊎_elim
+      (λ q. let e : kept.Round j h ≡ kept.Round i g = q.1 in inl (q.0, cc, cc))
+      (λ o. inr o)
+      (kept_cases me a (kept.Round i g) (kept.Round j h) history x)
+
+  pub grows_round : Grows history (entry_by me (kept.Round i g) ∷ history)
+  grows_round = grows_else history me (kept.Round i g) no no (λ m k j h l x y. old_matches me (kept.Round i g) history no m j h y)
+
+  round_owner : (a : RoleId) (j : Round) (h : Shape) → HasKept (entry_by me (kept.Round i g) ∷ history) a (kept.Round j h) → a ≡ role kind.Leader j.id
+  round_owner a j h m = ⊎_elim (λ q. rw (q.0, q.1) owned) (λ o. facts.owner a j h o) (round_cases a j h m)
+
+  -- nobody kept the round before
+  pub round_new : (a : RoleId) (h : Shape) → HasKept history a (kept.Round i h) → ⊥
+  round_new a h m =
+      let p : a ≡ me = facts.owner a i h m ∙ sym owned in
+      before-itself i (above i h (subst (λ x. HasKept history x (kept.Round i h)) p m))
+
+  round_one_grid : (j : Round) (h k : Shape) → IsConfig (entry_by me (kept.Round i g) ∷ history) j h → IsConfig (entry_by me (kept.Round i g) ∷ history) j k → h ≡ k
+  round_one_grid j h k x y = ⊎_elim
+      (λ p. ⊎_elim
+      (λ q. p.2 ∙ sym q.2)
+      (λ q. absurd (round_new y.0 k (subst (λ t. HasKept history y.0 (kept.Round t k)) p.1 q)))
+      (round_cases y.0 j k y.1))
+      (λ p. ⊎_elim
+      (λ q. absurd (round_new x.0 h (subst (λ t. HasKept history x.0 (kept.Round t h)) q.1 p)))
+      (λ q. facts.one_grid j h k (x.0, p) (y.0, q))
+      (round_cases y.0 j k y.1))
+      (round_cases x.0 j h x.1)
+
+  round_own : IsLast (entry_by me (kept.Round i g) ∷ history) me (leader_after (durable_of leader_rules me history) (kept.Round i g)).own
+  round_own = (
+    inl refl,
+    λ j h m. ⊎_elim
+        (λ q. subst (λ t. is_before i t ≡ false) (sym q.1) (itself-not_before i))
+        (λ o. before-not j i (above j h o))
+        (round_cases me j h m),
+  )
+
+  pub keep_round : Facts c (entry_by me (kept.Round i g) ∷ history) sent (set_state me Down states)
+  keep_round = kept_facts c history sent states facts me (kept.Round i g) grows_round
+      round_owner
+      round_one_grid
+      (new_last c history sent states facts me (kept.Round i g) grows_round round_own)
+      (old_asked c history sent states facts me (kept.Round i g) grows_round no)
+      (old_garbaged c history sent states facts me (kept.Round i g) grows_round no)
+      (old_logs c history sent states facts me (kept.Round i g) grows_round no no refl)
+      (old_acceptors c history sent states facts me (kept.Round i g) grows_round no no no refl)
+      (old_voted c history sent states facts me (kept.Round i g) grows_round no)
+      (old_logged c history sent states facts me (kept.Round i g) grows_round refl)

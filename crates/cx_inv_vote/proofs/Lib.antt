@@ -1,0 +1,17 @@
+pub mod Searches
+pub mod Send
+pub mod Lead
+pub mod Moves
+pub mod Told
+pub mod Rows
+pub mod Leaders
+pub mod Acceptors
+pub mod Matchmakers
+pub mod Proxies
+pub mod Replicas
+pub mod Readers
+pub mod Start
+pub mod Steps
+pub mod Same
+pub mod Chosen
+pub mod Agree
