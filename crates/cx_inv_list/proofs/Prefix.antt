@@ -1,79 +1,40 @@
 -- The chosen prefix: each of its values is chosen, it is the longest such list, and it grows with the history.
 use Rattle.std.proofs.Common.{◌≡◌, ◌⊎◌, ℕ, zero, suc, ◌+◌, ◌<◌, ◌≤◌, Bool, true, false, not, ◌&&◌, List, [], ◌∷◌, ◌++◌, length, filter, inl, inr, ap, sym, subst, ◌∙◌, ⊎_elim, refl, arith}
-use Rattle.std.specs.Prelude.{◌==◌, nat_lt, slice_get, Option, None, Some}
-use Rattle.std.specs.List.{list_any, list_all}
-use Rattle.std.proofs.lemmas.Bool.{and_parts, and_from, both_ways, eqb-true, eq-eqb, ltb-true, not_from_false, not_from_true, ne_eqb, or_left}
-use Rattle.std.proofs.lemmas.List.Folds.{list_any-append}
+use Rattle.std.specs.Prelude.{◌==◌, slice_get, Option, None, Some}
+use Rattle.std.proofs.lemmas.Bool.{and_parts, and_from, both_ways, eq-eqb, not_from_false, not_from_true, ne_eqb}
 use Rattle.std.proofs.lemmas.Option.{same_Some}
 use Rattle.cx_base.specs.declared.command.Value.{Value}
 use Rattle.cx_base.specs.declared.role.Kind.TheVariants.{Acceptor}
 use Rattle.cx_base.specs.declared.round.Round.{Round}
-use Rattle.cx_base.specs.Grid.{Shape}
-use Rattle.cx_base.specs.Lists.{below}
 use Rattle.cx_base.specs.Log.{before_following}
-use Rattle.cx_base.specs.Role.{role, same_role}
-use Rattle.cx_base.specs.Round.{same_round}
-use Rattle.cx_base.specs.Same.{same_value}
-use Rattle.cx_grid.specs.Quorum.{column_of, member_at}
+use Rattle.cx_base.specs.Role.{role}
+use Rattle.cx_grid.specs.Quorum.{member_at}
 use Rattle.cx_msg.specs.declared.input.KeptRecord.{KeptRecord}
 use Rattle.cx_msg.specs.declared.kept.Record.{Record}
 use Rattle.cx_msg.specs.declared.kept.Record.TheVariants as kept
-use Rattle.cx_model.specs.Chosen.{is_vote, has_vote, is_chosen_in, is_chosen_by, is_chosen, chosen_vote, first_chosen, chosen_at, prefix_from, chosen_prefix}
+use Rattle.cx_model.specs.Chosen.{is_chosen, chosen_vote, first_chosen, chosen_at, prefix_from, chosen_prefix}
 use Rattle.cx_model.specs.Member.{Member, Begins}
 use Rattle.cx_model.specs.Outcome.{either_way, by_test}
-use Rattle.cx_inv_run.proofs.Members.{any-Member, Member-any, all-Member, Member-all, filter-Member}
+use Rattle.cx_inv_run.proofs.Members.{Member-first, filter-Member}
+use Rattle.cx_inv_run.specs.States.{entry_by}
 use Rattle.cx_inv_list.proofs.Right.{get_there}
-use Rattle.cx_inv_list.proofs.Same.{value_is}
+use Rattle.cx_inv_vote.proofs.Chosen.{chosen-true, true-chosen}
 
 -- a vote for a value in a slot, in some round with some watermark
 abbrev pub IsVoteFor : ℕ → Value → Record → Type 0
 IsVoteFor s v what = (i : Round) × (cw : ℕ) × (what ≡ kept.Vote i s cw v)
 
-vote_for : (j : Round) (s : ℕ) (v : Value) (what : Record) → is_vote j s v what ≡ true → IsVoteFor s v what
-vote_for j s v (kept.Vote i t cw u) h =
-    let p = and_parts (same_round i j && (t == s)) (same_value u v) h in
-    let q = and_parts (same_round i j) (t == s) p.0 in
-    let e = eqb-true t s q.1 in
-    let f = value_is u v p.1 in
-    (i, cw, cc)
-vote_for j s v (kept.Promise i) h = cc
-vote_for j s v (kept.Water i cw) h = cc
-vote_for j s v (kept.Match i g) h = cc
-vote_for j s v (kept.Garbage i g) h = cc
-vote_for j s v (kept.Round i g) h = cc
-vote_for j s v (kept.Log vs) h = cc
-
 abbrev HasVoteFor : List KeptRecord → ℕ → Value → Type 0
 HasVoteFor history s v = (k : KeptRecord) × Member k history × IsVoteFor s v k.what
-
--- the first member of a column that isn't empty
-first_of_column : (g : Shape) (b n : ℕ) → g.rows ≡ n → 0 < n → (a : ℕ) × Member a (column_of g b)
-first_of_column g b zero e l = absurd (omega arith)
-first_of_column g b (suc n) e l = (member_at g 0 b, rw e (inl refl))
-
-voted_in : (history : List KeptRecord) (j : Round) (g : Shape) (s : ℕ) (v : Value) → is_chosen_in history j g s v ≡ true → HasVoteFor history s v
-voted_in history j g s v h =
-    let p = and_parts (nat_lt 0 g.rows) (list_any (λ b. list_all (λ a. has_vote history a j s v) (column_of g b)) (below g.cols)) h in
-    let column = any-Member (λ b. list_all (λ a. has_vote history a j s v) (column_of g b)) (below g.cols) p.1 in
-    let one = first_of_column g column.0 g.rows refl (ltb-true 0 g.rows p.0) in
-    let voted = all-Member (λ a. has_vote history a j s v) (column_of g column.0) column.2 one.0 one.1 in
-    let k = any-Member (λ (k : KeptRecord). same_role k.role (role Acceptor one.0) && is_vote j s v k.what) history voted in
-    (k.0, k.1, vote_for j s v (k.0).what (and_parts (same_role (k.0).role (role Acceptor one.0)) (is_vote j s v (k.0).what) k.2).1)
-
-voted_by : (history : List KeptRecord) (s : ℕ) (v : Value) (what : Record) → is_chosen_by history s v what ≡ true → HasVoteFor history s v
-voted_by history s v (kept.Round j g) h = voted_in history j g s v h
-voted_by history s v (kept.Promise i) h = cc
-voted_by history s v (kept.Vote i t cw u) h = cc
-voted_by history s v (kept.Water i cw) h = cc
-voted_by history s v (kept.Match i g) h = cc
-voted_by history s v (kept.Garbage i g) h = cc
-voted_by history s v (kept.Log vs) h = cc
 
 -- what is chosen was voted for
 pub chosen_voted : (history : List KeptRecord) (s : ℕ) (v : Value) → is_chosen history s v ≡ true → HasVoteFor history s v
 chosen_voted history s v h =
-    let k = any-Member (λ (k : KeptRecord). is_chosen_by history s v k.what) history h in
-    voted_by history s v (k.0).what k.2
+    let x = chosen-true history s v h in
+    let i = x.0 in
+    let y = x.1 in
+    let vote = y.voted 0 y.some_row in
+    (entry_by (role Acceptor (member_at y.grid 0 y.column)) (kept.Vote i s vote.0 v), vote.1, (i, vote.0, refl))
 
 -- the first chosen value of a slot
 
@@ -217,37 +178,18 @@ module _ (history : List KeptRecord) where
         (enough_records (length vs) history (λ s l. let x = get_there vs s l in (x.0, chosen_voted history s x.0 (h s x.0 x.1))))
 
 -- what is chosen stays chosen
-
-any_more : {X : Type 0} (p q : X → Bool) (xs : List X) → ((x : X) → p x ≡ true → q x ≡ true) → list_any p xs ≡ true → list_any q xs ≡ true
-any_more p q xs more h = let r = any-Member p xs h in Member-any q r.0 xs r.1 (more r.0 r.2)
-
-all_more : {X : Type 0} (p q : X → Bool) (xs : List X) → ((x : X) → p x ≡ true → q x ≡ true) → list_all p xs ≡ true → list_all q xs ≡ true
-all_more p q xs more h = Member-all q xs (λ x m. more x (all-Member p xs h x m))
-
-module _ (history more : List KeptRecord) (s : ℕ) (v : Value) where
-  still_voted : (a : ℕ) (j : Round) → has_vote history a j s v ≡ true → has_vote (history ++ more) a j s v ≡ true
-  still_voted a j h =
-      list_any-append (λ (k : KeptRecord). same_role k.role (role Acceptor a) && is_vote j s v k.what) history more
-      ∙ or_left (has_vote history a j s v) (has_vote more a j s v) h
-
-  still_in : (j : Round) (g : Shape) → is_chosen_in history j g s v ≡ true → is_chosen_in (history ++ more) j g s v ≡ true
-  still_in j g h =
-      let p = and_parts (nat_lt 0 g.rows) (list_any (λ b. list_all (λ a. has_vote history a j s v) (column_of g b)) (below g.cols)) h in
-      and_from (nat_lt 0 g.rows) (list_any (λ b. list_all (λ a. has_vote (history ++ more) a j s v) (column_of g b)) (below g.cols)) p.0
-      (any_more (λ b. list_all (λ a. has_vote history a j s v) (column_of g b)) (λ b. list_all (λ a. has_vote (history ++ more) a j s v) (column_of g b)) (below g.cols)
-      (λ b. all_more (λ a. has_vote history a j s v) (λ a. has_vote (history ++ more) a j s v) (column_of g b) (λ a. still_voted a j)) p.1)
-
-  still_by : (what : Record) → is_chosen_by history s v what ≡ true → is_chosen_by (history ++ more) s v what ≡ true
-  still_by (kept.Round j g) h = still_in j g h
-  still_by (kept.Promise i) h = h
-  still_by (kept.Vote i t cw u) h = h
-  still_by (kept.Water i cw) h = h
-  still_by (kept.Match i g) h = h
-  still_by (kept.Garbage i g) h = h
-  still_by (kept.Log vs) h = h
-
-  pub still_chosen : is_chosen history s v ≡ true → is_chosen (history ++ more) s v ≡ true
-  still_chosen h =
-      list_any-append (λ (k : KeptRecord). is_chosen_by (history ++ more) s v k.what) history more
-      ∙ or_left (list_any (λ (k : KeptRecord). is_chosen_by (history ++ more) s v k.what) history) (list_any (λ (k : KeptRecord). is_chosen_by (history ++ more) s v k.what) more)
-      (any_more (λ (k : KeptRecord). is_chosen_by history s v k.what) (λ (k : KeptRecord). is_chosen_by (history ++ more) s v k.what) history (λ k. still_by k.what) h)
+pub still_chosen : (history more : List KeptRecord) (s : ℕ) (v : Value) → is_chosen history s v ≡ true → is_chosen (history ++ more) s v ≡ true
+still_chosen history more s v h =
+    let x = chosen-true history s v h in
+    let y = x.1 in
+    true-chosen (history ++ more) s v (
+      x.0,
+      record {
+        grid = y.grid;
+        config = ((y.config).0, Member-first _ history more (y.config).1);
+        column = y.column;
+        in_grid = y.in_grid;
+        some_row = y.some_row;
+        voted = λ a l. let vote = y.voted a l in (vote.0, Member-first _ history more vote.1);
+      },
+    )
