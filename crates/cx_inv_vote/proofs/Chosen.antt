@@ -1,5 +1,5 @@
 -- The test of what is chosen says that a column voted for it, in either order of the records.
-use Rattle.std.proofs.Common.{◌≡◌, ℕ, ◌<◌, Bool, true, false, ◌&&◌, ◌==◌, List, [], ◌∷◌, reverse, inl, inr, sym, subst, refl}
+use Rattle.std.proofs.Common.{◌≡◌, ℕ, true, ◌&&◌, ◌==◌, List, reverse, inl, inr, sym, subst}
 use Rattle.std.specs.Prelude.{nat_lt}
 use Rattle.std.specs.List.{list_any, list_all}
 use Rattle.std.proofs.lemmas.Bool.{and_parts, and_from}
@@ -21,7 +21,6 @@ use Rattle.cx_msg.specs.declared.kept.Record.TheVariants as kept
 use Rattle.cx_model.specs.Chosen.{is_vote, has_vote, is_chosen_in, is_chosen_by, is_chosen}
 use Rattle.cx_model.specs.Facts.{HasVoted}
 use Rattle.cx_model.specs.Lists.{same_number, number_itself, same_role-true, same_role-itself}
-use Rattle.cx_model.specs.Member.{Member}
 use Rattle.cx_model.specs.Promises.{HasKept, IsConfig}
 use Rattle.cx_inv_run.specs.States.{entry_by}
 use Rattle.cx_inv_run.proofs.Members.{Member-reverse, Member-turned, Member-map, map-Member, any-Member, Member-any, all-Member, Member-all, below-Member, Member-below}
@@ -35,11 +34,12 @@ use Rattle.cx_inv_vote.proofs.Same.{same_value-true, same_value-itself}
 vote_is : (history : List KeptRecord) (a : RoleId) (j : Round) (s : ℕ) (v : Value) (r : Record) → is_vote j s v r ≡ true → HasKept history a r → HasVoted history a j s v
 vote_is history a j s v (kept.Vote i t cw u) h m =
     let p = and_parts (same_round i j && (t == s)) (same_value u v) h in
-    let q = and_parts (same_round i j) (t == s) p.0 in
-    (cw,
+    let q = and_parts (same_round i j) (t == s) p.0 in (
+      cw,
       subst (λ x. HasKept history a (kept.Vote j s cw x)) (same_value-true u v p.1)
-      (subst (λ x. HasKept history a (kept.Vote j x cw u)) (same_number t s q.1)
-      (subst (λ x. HasKept history a (kept.Vote x t cw u)) (same_round-true i j q.0) m)))
+          (subst (λ x. HasKept history a (kept.Vote j x cw u)) (same_number t s q.1)
+          (subst (λ x. HasKept history a (kept.Vote x t cw u)) (same_round-true i j q.0) m)),
+    )
 vote_is history a j s v other h m = cc
 
 pub has_vote-true : (history : List KeptRecord) (a : ℕ) (j : Round) (s : ℕ) (v : Value) → has_vote history a j s v ≡ true → HasVoted history (role kind.Acceptor a) j s v

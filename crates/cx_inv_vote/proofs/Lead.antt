@@ -1,5 +1,5 @@
 -- What a leader may propose once it has promises of a whole row of each live grid.
-use Rattle.std.proofs.Common.{◌≡◌, ℕ, zero, suc, ◌+◌, ◌-◌, ◌*◌, ◌<◌, ◌≤◌, Bool, true, false, max, map, ◌⊎◌, List, [], ◌∷◌, ◌++◌, length, Option, Some, None, inl, inr, ap, sym, subst, ◌∙◌, refl, arith}
+use Rattle.std.proofs.Common.{◌≡◌, ℕ, ◌-◌, ◌<◌, ◌≤◌, true, false, map, ◌⊎◌, List, [], ◌++◌, length, Option, Some, None, inl, inr, sym, subst, ◌∙◌, refl, arith}
 use Rattle.std.proofs.lemmas.Bool.{true≢false, cases_Bool, cases_lt}
 use Rattle.cx_base.specs.declared.cluster.Cluster.{Cluster}
 use Rattle.cx_base.specs.declared.command.Placed.{Placed}
@@ -14,7 +14,7 @@ use Rattle.cx_base.specs.Round.{is_before, no_round}
 use Rattle.cx_field.specs.declared.parts.Entry.{Entry}
 use Rattle.cx_field.specs.declared.parts.Vote.{Vote}
 use Rattle.cx_grid.specs.Quorum.{member_at}
-use Rattle.cx_msg.specs.Letter.{Letter, letter}
+use Rattle.cx_msg.specs.Letter.{Letter}
 use Rattle.cx_msg.specs.declared.input.KeptRecord.{KeptRecord}
 use Rattle.cx_msg.specs.declared.kept.Record.TheVariants as kept
 use Rattle.cx_msg.specs.declared.message.Msg.{Msg}
@@ -23,19 +23,18 @@ use Rattle.cx_model.specs.declared.states.MatchAnswer.{MatchAnswer}
 use Rattle.cx_model.specs.declared.states.Mode.TheVariants.{Leading}
 use Rattle.cx_model.specs.declared.states.Plan.{Plan}
 use Rattle.cx_model.specs.declared.states.Promised.{Promised}
-use Rattle.cx_model.specs.declared.states.Stage.TheVariants.{Off}
 use Rattle.cx_model.specs.Facts.{HasVoted, IsProposed, IsRetiring, LeaderWasTold}
 use Rattle.cx_model.specs.Leader.{LeaderVolatile, leader_rules, round_of}
-use Rattle.cx_model.specs.Matched.{matchmakers, greatest_watermark, live_entries, rows_whole}
+use Rattle.cx_model.specs.Matched.{greatest_watermark, live_entries, rows_whole}
 use Rattle.cx_model.specs.Matchmaker.{entry, has_round}
 use Rattle.cx_model.specs.Member.{Member}
 use Rattle.cx_model.specs.Plan.{promised_by, votes_told, greatest_cw, end_told, best_vote, voted_value, plan, placed_from}
 use Rattle.cx_model.specs.Promises.{HasKept, IsConfig}
 use Rattle.cx_inv_run.specs.States.{State, Down, LeaderIn, set_state, durable_of}
 use Rattle.cx_inv_run.proofs.Members.{is_in-Member}
-use Rattle.cx_inv_run.proofs.Rounds.{before-trans, before-to_at_least, before-from_at_most, before_cases, at_most-trans, itself-not_before, least}
-use Rattle.cx_inv_match.specs.Words.{HasMatch, HasGarbage, HasPromise, HasLow, IsChosenIn, IsMatched, IsShut, IsSettled, IsSafe, IsCollected, IsAnswer, IsPromise, how_many}
-use Rattle.cx_inv_match.specs.Facts.{Facts, Says, InMode, InState, IsLast, IsMatching, IsLeading, IsInforming, InStage, told_by}
+use Rattle.cx_inv_run.proofs.Rounds.{before-to_at_least, before-from_at_most, before_cases, at_most-trans, itself-not_before, least}
+use Rattle.cx_inv_match.specs.Words.{HasMatch, HasGarbage, HasPromise, HasLow, IsMatched, IsShut, IsSettled, IsSafe, IsCollected, IsAnswer, IsPromise}
+use Rattle.cx_inv_match.specs.Facts.{Facts, Says, InMode, InState, IsLast, IsMatching, IsLeading, InStage, told_by}
 use Rattle.cx_inv_vote.proofs.Send.{proposed_cases, leader_told, send}
 use Rattle.cx_inv_vote.proofs.Searches.{told_count, told_member, not_there, there, live_from, live_has, top_above, top_told, promised_member, cw_above, votes_from, votes_has, IsGreatest, Greatest, best_is_greatest, end_above, end_at_least, placed_at, IsRowOf, rows_whole-row}
 

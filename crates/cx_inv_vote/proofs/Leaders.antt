@@ -1,12 +1,11 @@
 -- Each row of a leader keeps the facts: its whole step, and the step that is cut with its record kept.
-use Rattle.std.proofs.Common.{◌≡◌, ℕ, ◌+◌, ◌*◌, ◌<◌, ◌≤◌, Bool, true, false, not, ◌&&◌, ◌||◌, map, ◌⊎◌, List, [], ◌∷◌, ◌++◌, length, Option, Some, None, inl, inr, ap, sym, subst, ◌∙◌, refl, arith, max, ◌==◌}
+use Rattle.std.proofs.Common.{◌≡◌, ℕ, ◌+◌, ◌*◌, ◌<◌, ◌≤◌, Bool, true, false, not, ◌&&◌, ◌||◌, map, List, [], ◌∷◌, ◌++◌, length, Option, Some, None, inl, inr, ap, sym, subst, ◌∙◌, refl, arith, max, ◌==◌}
 use Rattle.std.specs.Prelude.{nat_lt, nat_le, slice_set, slice_index_or, if◌then◌else◌}
 use Rattle.std.proofs.lemmas.Option.{same_Some}
-use Rattle.std.proofs.lemmas.Bool.{true≢false, and_parts, not-true, not-false, ltb-true, ltb-false, leb-true}
+use Rattle.std.proofs.lemmas.Bool.{true≢false, and_parts, not-false, ltb-true, ltb-false, leb-true}
 use Rattle.cx_base.specs.declared.cluster.Cluster.{Cluster}
 use Rattle.cx_base.specs.declared.command.Command.{Command}
 use Rattle.cx_base.specs.declared.command.Placed.{Placed}
-use Rattle.cx_base.specs.declared.command.Value.{Value}
 use Rattle.cx_base.specs.declared.command.Value.TheVariants.{Batch}
 use Rattle.cx_base.specs.declared.event.Order.{Order as OrderOf}
 use Rattle.cx_base.specs.declared.event.Order.TheVariants.{Lead, Change, Collect}
@@ -19,7 +18,7 @@ use Rattle.cx_base.specs.declared.why.Why.TheVariants as why
 use Rattle.cx_base.specs.Grid.{Shape, is_in}
 use Rattle.cx_base.specs.Lists.{below}
 use Rattle.cx_base.specs.Role.{role, same_role}
-use Rattle.cx_base.specs.Round.{is_before, same_round, lead_after, change_after}
+use Rattle.cx_base.specs.Round.{is_before, lead_after, change_after}
 use Rattle.cx_field.specs.declared.parts.Entry.{Entry}
 use Rattle.cx_field.specs.declared.parts.Vote.{Vote}
 use Rattle.cx_grid.specs.Quorum.{column_whole, with_mark}
@@ -34,12 +33,10 @@ use Rattle.cx_model.specs.declared.states.MatchAnswer.{MatchAnswer}
 use Rattle.cx_model.specs.declared.states.Mode.{Mode}
 use Rattle.cx_model.specs.declared.states.Mode.TheVariants.{Idle, Matching, Phase1, Leading}
 use Rattle.cx_model.specs.declared.states.Promised.{Promised}
-use Rattle.cx_model.specs.declared.states.Stage.{Stage}
-use Rattle.cx_model.specs.declared.states.Stage.TheVariants.{Off, Informing, Collecting, Retired}
-use Rattle.cx_model.specs.Collection.{Collection, not_collecting, collection_from, with_informed, with_forgotten, is_off, is_informing, is_collecting, is_retired}
+use Rattle.cx_model.specs.declared.states.Stage.TheVariants.{Informing, Collecting, Retired}
+use Rattle.cx_model.specs.Collection.{Collection, not_collecting, collection_from, with_informed, with_forgotten, is_off, is_informing, is_collecting}
 use Rattle.cx_model.specs.Facts.{LeaderWasTold}
-use Rattle.cx_model.specs.Leader.{LeaderDurable, LeaderVolatile, leader_rules, round_of, is_own, is_idle, is_matching, is_promising, is_leading, match_a_to, phase1a_to, leads_to, propose_to, inform_to, garbage_a_to, begin_in, lead_row, change_row, lead_with, finish, matched_by, match_counted, match_b_row, promise_counted, phase1b_row, with_seen, nack_row, match_nack_row, is_past_window, propose_in, batch_row, chosen_in_row, raised_to, held_by, held_noted, held_row, is_settled, collect_in, collect_row, informed_counted, informed_in, informed_row, forgotten_counted, garbage_b_row, leader_takes, open_values, stage_sends, tick_in, order_row, leader_row}
-use Rattle.cx_model.specs.Lists.{same_role-true}
+use Rattle.cx_model.specs.Leader.{LeaderDurable, LeaderVolatile, leader_rules, round_of, is_own, is_idle, is_matching, is_promising, is_leading, match_a_to, phase1a_to, leads_to, propose_to, inform_to, garbage_a_to, begin_in, lead_row, change_row, finish, matched_by, match_counted, match_b_row, promise_counted, phase1b_row, with_seen, nack_row, match_nack_row, is_past_window, propose_in, batch_row, chosen_in_row, raised_to, held_by, held_row, is_settled, collect_in, collect_row, informed_counted, informed_in, informed_row, forgotten_counted, garbage_b_row, leader_takes, open_values, stage_sends, tick_in, order_row, leader_row}
 use Rattle.cx_model.specs.Matched.{enough, matchmakers, is_counted, live_entries, is_member_of, members_of, members_in, rows_whole}
 use Rattle.cx_model.specs.Member.{Member}
 use Rattle.cx_model.specs.Names.{names, names_role, names_body, names_grid, count_of}
@@ -48,15 +45,15 @@ use Rattle.cx_model.specs.Plan.{promised_by, has_promised, plan, placed_from}
 use Rattle.cx_model.specs.Promises.{HasKept, IsConfig}
 use Rattle.cx_inv_run.specs.Kinds.{Kinds}
 use Rattle.cx_inv_run.specs.Laws.{Lands}
-use Rattle.cx_inv_run.specs.States.{State, Down, LeaderIn, set_state, entry_by, durable_of, Given}
+use Rattle.cx_inv_run.specs.States.{State, LeaderIn, entry_by, durable_of, Given}
 use Rattle.cx_inv_run.proofs.Histories.{durable_own}
 use Rattle.cx_inv_run.proofs.Members.{Member-map, Member-both, Member-one, Member-second, Member-filter}
 use Rattle.cx_inv_run.proofs.Rounds.{before-from_at_most, before-higher, before-changed, same_round-true}
 use Rattle.cx_inv_match.specs.Words.{HasLow, IsMatched, IsCollected}
-use Rattle.cx_inv_match.specs.Facts.{Facts, Says, InMode, InState, InStage, IsInforming, IsLast, IsLeading, IsMatching, told_by}
+use Rattle.cx_inv_match.specs.Facts.{Facts, Says, InMode, InState, InStage, IsInforming, IsLast, IsLeading, IsMatching}
 use Rattle.cx_inv_match.proofs.Keep.{stop}
 use Rattle.cx_inv_match.proofs.Records.{keep_round, round_new}
-use Rattle.cx_inv_vote.proofs.Lead.{IsLeaders, lead, led_by, leader_state, leading_state, finish_leading, own_config}
+use Rattle.cx_inv_vote.proofs.Lead.{IsLeaders, lead, led_by, leader_state, finish_leading, own_config}
 use Rattle.cx_inv_vote.proofs.Moves.{lead_next, lead_known, lead_stage, lead_informs, informed_column, raised_mode, seen_mode, idle_mode, is_matching-mode, is_promising-mode, is_leading-mode, is_informing-stage, is_collecting-stage}
 use Rattle.cx_inv_vote.proofs.Rows.{lands, keeps_silent, keeps_sending, keeps_record}
 use Rattle.cx_inv_vote.proofs.Searches.{told_by-counted, told_more, once_more, mark-cases}
@@ -175,9 +172,10 @@ module _ (c : Cluster) (history : List KeptRecord) (sent : List Letter) (states 
     matched_fine v matching most told [] e =
         finish_fine v matching most told (subst (λ es. rows_whole es (promised_by v.promises) ≡ true) (sym e) refl)
     matched_fine v matching most told (x ∷ es) e =
-        asks_acceptors why.Phase1 (record v { mode = Phase1 }) (members_of c (x ∷ es))
-        (told_promising sent me own.round v told,
-          (record { unproposed = matching.unproposed; unended = matching.unended; off = matching.off; once = matching.once; known = matching.known }, most))
+        asks_acceptors why.Phase1 (record v { mode = Phase1 }) (members_of c (x ∷ es)) (
+          told_promising sent me own.round v told,
+          (record { unproposed = matching.unproposed; unended = matching.unended; off = matching.off; once = matching.once; known = matching.known }, most),
+        )
 
   -- a matchmaker answers
 
@@ -560,9 +558,10 @@ module _ (c : Cluster) (history : List KeptRecord) (sent : List Letter) (states 
   lead_after-fits : (o : Option Entry) → dur.own ≡ o → (seen i : Round) → lead_after (round_of o) seen l ≡ Some i
       → (i.id ≡ l) × ((j : Round) (k : Shape) → HasKept history me (kept.Round j k) → is_before j i ≡ true)
   lead_after-fits o e seen i is =
-      let p = next_is (max (round_of o).r seen.r == 4294967295) is in
-      (ap (λ (x : Round). x.id) p,
-        above_last o e i (before-higher (round_of o) i (let q : i.r ≡ max (round_of o).r seen.r + 1 = ap (λ (x : Round). x.r) p in omega arith)))
+      let p = next_is (max (round_of o).r seen.r == 4294967295) is in (
+        ap (λ (x : Round). x.id) p,
+        above_last o e i (before-higher (round_of o) i (let q : i.r ≡ max (round_of o).r seen.r + 1 = ap (λ (x : Round). x.r) p in omega arith)),
+      )
     where
       next_is : (b : Bool) → (if b then None else Some (record { r = max (round_of o).r seen.r + 1; id = l; s = 0 })) ≡ Some i
           → i ≡ record { r = max (round_of o).r seen.r + 1; id = l; s = 0 }
@@ -579,9 +578,10 @@ module _ (c : Cluster) (history : List KeptRecord) (sent : List Letter) (states 
       → (i.id ≡ l) × ((j : Round) (k : Shape) → HasKept history me (kept.Round j k) → is_before j i ≡ true)
   change_after-fits own e i is =
       let p = next_is (own.round.s == 4294967295) is in
-      let owner = facts.owner me own.round own.grid (subst (λ d. IsLast history me d) e (facts.last me)).0 in
-      (ap (λ (x : Round). x.id) p ∙ sym (ap (λ (a : RoleId). a.index) owner),
-        above_last (Some own) e i (subst (λ x. is_before own.round x ≡ true) (sym p) (before-changed own.round)))
+      let owner = facts.owner me own.round own.grid (subst (λ d. IsLast history me d) e (facts.last me)).0 in (
+        ap (λ (x : Round). x.id) p ∙ sym (ap (λ (a : RoleId). a.index) owner),
+        above_last (Some own) e i (subst (λ x. is_before own.round x ≡ true) (sym p) (before-changed own.round)),
+      )
     where
       next_is : (b : Bool) → (if b then None else Some (record own.round { s = own.round.s + 1 })) ≡ Some i → i ≡ record own.round { s = own.round.s + 1 }
       next_is true q = cc

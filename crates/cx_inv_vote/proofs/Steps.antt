@@ -1,11 +1,10 @@
 -- Each event keeps the facts, so they hold of every run.
-use Rattle.std.proofs.Common.{◌≡◌, List}
+use Rattle.std.proofs.Common.{List}
 use Rattle.cx_base.specs.declared.cluster.Cluster.{Cluster}
 use Rattle.cx_base.specs.declared.event.Event.{Event}
-use Rattle.cx_model.specs.World.{World, step, run}
+use Rattle.cx_model.specs.World.{run}
 use Rattle.cx_inv_run.specs.Kinds.{Kinds}
 use Rattle.cx_inv_run.specs.Laws.{Laws, HoldsAlong}
-use Rattle.cx_inv_run.specs.States.{HoldsIn}
 use Rattle.cx_inv_run.proofs.KindLaws.{kinds_hold}
 use Rattle.cx_inv_run.proofs.Steps.{step_keeps, always, along}
 use Rattle.cx_inv_match.specs.Facts.{Facts}
