@@ -9,6 +9,8 @@ pub mod Acceptors
 pub mod Matchmakers
 pub mod Proxies
 pub mod Replicas
+pub mod Mute
+pub mod Batchers
 pub mod Readers
 pub mod Start
 pub mod Steps
