@@ -1,6 +1,7 @@
 pub mod Searches
 pub mod Send
 pub mod Lead
+pub mod Leading
 pub mod Moves
 pub mod Told
 pub mod Rows
