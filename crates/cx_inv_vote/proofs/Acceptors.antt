@@ -1,5 +1,5 @@
 -- Each row of an acceptor keeps the facts.
-use Rattle.std.proofs.Common.{◌≡◌, ℕ, ◌≤◌, Bool, true, false, ◌&&◌, List, [], ◌∷◌, Option, Some, None, max, inl, inr, sym, subst, refl, arith}
+use Rattle.std.proofs.Common.{◌≡◌, ℕ, ◌≤◌, true, false, ◌&&◌, List, [], ◌∷◌, Option, Some, None, max, inl, inr, sym, subst, refl, arith}
 use Rattle.std.specs.Prelude.{nat_lt, nat_le, ◌==◌}
 use Rattle.std.proofs.lemmas.Bool.{and_parts}
 use Rattle.std.proofs.lemmas.Bool.Decides.{nat_tests}
@@ -13,7 +13,7 @@ use Rattle.cx_base.specs.declared.why.Why.TheVariants as why
 use Rattle.cx_base.specs.Role.{role, same_role}
 use Rattle.cx_base.specs.Round.{is_before, same_round}
 use Rattle.cx_field.specs.declared.parts.Vote.{Vote}
-use Rattle.cx_msg.specs.Letter.{Letter, letter}
+use Rattle.cx_msg.specs.Letter.{Letter}
 use Rattle.cx_msg.specs.declared.input.Input.{Input}
 use Rattle.cx_msg.specs.declared.input.Input.TheVariants as input
 use Rattle.cx_msg.specs.declared.input.KeptRecord.{KeptRecord}
@@ -21,7 +21,7 @@ use Rattle.cx_msg.specs.declared.kept.Record.{Record}
 use Rattle.cx_msg.specs.declared.kept.Record.TheVariants as kept
 use Rattle.cx_msg.specs.declared.message.Msg.{Msg}
 use Rattle.cx_msg.specs.declared.message.Msg.TheVariants as msg
-use Rattle.cx_model.specs.Acceptor.{AcceptorDurable, acceptor_rules, acceptor_after, acceptor_row, acceptor_takes, vote_at, is_of, nack_to, phase1b_to, phase2b_to, informed_to}
+use Rattle.cx_model.specs.Acceptor.{AcceptorDurable, acceptor_rules, acceptor_after, acceptor_row, acceptor_takes, vote_at, is_of, nack_to}
 use Rattle.cx_model.specs.Facts.{HasVoted, IsProposed}
 use Rattle.cx_model.specs.Lists.{same_number}
 use Rattle.cx_model.specs.Member.{Member}

@@ -13,3 +13,6 @@ pub mod Replicas
 pub mod Readers
 pub mod Start
 pub mod Steps
+pub mod Same
+pub mod Chosen
+pub mod Agree

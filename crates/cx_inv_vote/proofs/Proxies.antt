@@ -1,6 +1,6 @@
 -- Each row of a proxy leader keeps the facts.
-use Rattle.std.proofs.Common.{◌≡◌, ℕ, ◌<◌, ◌≤◌, ◌%◌, ◌==◌, Bool, true, false, not, ◌&&◌, ◌⊎◌, List, [], ◌∷◌, ◌++◌, map, filter, Option, Some, None, max, inl, inr, sym, subst, refl, cond}
-use Rattle.std.specs.Prelude.{nat_lt, nat_le, if◌then◌else◌}
+use Rattle.std.proofs.Common.{◌≡◌, ℕ, ◌==◌, true, false, not, ◌&&◌, ◌⊎◌, List, [], ◌∷◌, map, Option, Some, None, max, inl, inr, sym, subst, refl}
+use Rattle.std.specs.Prelude.{nat_lt, nat_le}
 use Rattle.std.proofs.lemmas.Bool.{and_parts, not-false, true≢false}
 use Rattle.std.proofs.lemmas.Option.{same_Some}
 use Rattle.cx_base.specs.declared.cluster.Cluster.{Cluster}
@@ -10,7 +10,7 @@ use Rattle.cx_base.specs.declared.role.RoleId.{RoleId}
 use Rattle.cx_base.specs.declared.round.Round.{Round}
 use Rattle.cx_base.specs.declared.why.Why.{Why}
 use Rattle.cx_base.specs.declared.why.Why.TheVariants as why
-use Rattle.cx_base.specs.Grid.{Shape, is_in}
+use Rattle.cx_base.specs.Grid.{is_in}
 use Rattle.cx_base.specs.Lists.{below, numbers}
 use Rattle.cx_base.specs.Role.{role, same_role}
 use Rattle.cx_base.specs.Round.{is_before, same_round}
@@ -22,16 +22,16 @@ use Rattle.cx_msg.specs.declared.input.KeptRecord.{KeptRecord}
 use Rattle.cx_msg.specs.declared.message.Msg.{Msg}
 use Rattle.cx_msg.specs.declared.message.Msg.TheVariants as msg
 use Rattle.cx_model.specs.declared.states.Pending.{Pending}
-use Rattle.cx_model.specs.Facts.{HasVoted, IsProposed, ProxyWasTold}
-use Rattle.cx_model.specs.Lists.{same_number, same_role-true}
+use Rattle.cx_model.specs.Facts.{HasVoted, IsProposed}
+use Rattle.cx_model.specs.Lists.{same_number}
 use Rattle.cx_model.specs.Member.{Member}
 use Rattle.cx_model.specs.Names.{names}
-use Rattle.cx_model.specs.Outcome.{Outcome, answered, replied, by_test}
+use Rattle.cx_model.specs.Outcome.{Outcome, answered, by_test}
 use Rattle.cx_model.specs.Proxy.{ProxyVolatile, pending_at, with_pending, raised_to, pending_of, phase2a_to, column_for, members_for, chosen_to, chosen_in_to, announcement, ask, propose_over, propose_row, vote_counted, vote_for, proxy_takes, again_for, again_at, proxy_tick, proxy_row}
 use Rattle.cx_inv_run.specs.Kinds.{Kinds}
 use Rattle.cx_inv_run.specs.Laws.{Lands}
 use Rattle.cx_inv_run.specs.States.{State, ProxyIn, Given}
-use Rattle.cx_inv_run.proofs.Members.{Member-cases, Member-both, Member-one, Member-map, Member-filter}
+use Rattle.cx_inv_run.proofs.Members.{Member-both, Member-one, Member-map, Member-filter}
 use Rattle.cx_inv_run.proofs.Quorums.{column-Member}
 use Rattle.cx_inv_run.proofs.Rounds.{same_round-true}
 use Rattle.cx_inv_run.proofs.Senders.{proxy_kinds}

@@ -1,6 +1,6 @@
 -- Each row of a replica keeps the facts.
-use Rattle.std.proofs.Common.{◌≡◌, ℕ, zero, suc, ◌+◌, ◌-◌, ◌%◌, ◌<◌, ◌≤◌, ◌==◌, Bool, true, false, ◌&&◌, ◌⊎◌, List, [], ◌∷◌, ◌++◌, length, map, filter, Option, Some, None, inl, inr, sym, subst, refl, arith}
-use Rattle.std.specs.Prelude.{nat_lt, nat_le, min, slice_get, if◌then◌else◌}
+use Rattle.std.proofs.Common.{◌≡◌, ℕ, zero, suc, ◌+◌, ◌-◌, ◌%◌, ◌==◌, ◌&&◌, ◌⊎◌, List, [], ◌∷◌, ◌++◌, length, map, filter, Option, Some, None, inl, inr, sym, subst, refl, arith}
+use Rattle.std.specs.Prelude.{nat_lt, nat_le, min, slice_get}
 use Rattle.std.specs.List.{list_any}
 use Rattle.std.proofs.lemmas.Bool.Decides.{nat_tests}
 use Rattle.std.proofs.lemmas.Option.{same_Some}
@@ -28,7 +28,7 @@ use Rattle.cx_model.specs.Lists.{same_number}
 use Rattle.cx_model.specs.Member.{Member}
 use Rattle.cx_model.specs.Names.{names}
 use Rattle.cx_model.specs.Outcome.{Outcome, answered, by_test, either_way}
-use Rattle.cx_model.specs.Replica.{ReplicaDurable, ReplicaVolatile, Machine, replica_rules, replica_row, replica_takes, replica_tick, chosen_row, read_row, fetch_found, apply, with_early, results_at, results_from, execute_value, machine_of, read_answer_to, read_answers, still_deferred, held_to, fetch_to}
+use Rattle.cx_model.specs.Replica.{ReplicaVolatile, Machine, replica_rules, replica_row, replica_takes, replica_tick, chosen_row, read_row, fetch_found, apply, with_early, results_at, results_from, execute_value, machine_of, read_answer_to, read_answers, still_deferred, held_to, fetch_to}
 use Rattle.cx_model.specs.Request.{same_read}
 use Rattle.cx_inv_run.specs.Laws.{Lands}
 use Rattle.cx_inv_run.specs.States.{State, ReplicaIn, entry_by, durable_of, Given}
