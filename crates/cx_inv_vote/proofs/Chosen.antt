@@ -1,5 +1,5 @@
 -- The test of what is chosen says that a column voted for it, in either order of the records.
-use Rattle.std.proofs.Common.{◌≡◌, ℕ, true, ◌&&◌, ◌==◌, List, reverse, inl, inr, sym, subst}
+use Rattle.std.proofs.Common.{◌≡◌, ℕ, ◌<◌, true, ◌&&◌, ◌==◌, List, reverse, inl, inr, sym, subst}
 use Rattle.std.specs.Prelude.{nat_lt}
 use Rattle.std.specs.List.{list_any, list_all}
 use Rattle.std.proofs.lemmas.Bool.{and_parts, and_from}
@@ -57,20 +57,24 @@ true-has_vote history a j s v h =
 
 -- chosen in a round
 
-pub chosen_in-true : (history : List KeptRecord) (j : Round) (g : Shape) (s : ℕ) (v : Value) → IsConfig history j g → is_chosen_in history j g s v ≡ true → IsChosenIn history j s v
-chosen_in-true history j g s v config h =
+pub chosen_in-column : (history : List KeptRecord) (j : Round) (g : Shape) (s : ℕ) (v : Value) → is_chosen_in history j g s v ≡ true
+    → (b : ℕ) × (b < g.cols) × (0 < g.rows) × ((a : ℕ) → a < g.rows → HasVoted history (role kind.Acceptor (member_at g a b)) j s v)
+chosen_in-column history j g s v h =
     let p = and_parts (nat_lt 0 g.rows) (list_any (λ b. list_all (λ a. has_vote history a j s v) (column_of g b)) (below g.cols)) h in
-    let r = any-Member (λ b. list_all (λ a. has_vote history a j s v) (column_of g b)) (below g.cols) p.1 in
-    record {
-      grid = g;
-      config = config;
-      column = r.0;
-      in_grid = below-Member r.0 g.cols r.1;
-      some_row = (Decides-ltb 0 g.rows).0 p.0;
-      voted = λ a l. has_vote-true history (member_at g a r.0) j s v
-          (all-Member (λ a. has_vote history a j s v) (column_of g r.0) r.2 (member_at g a r.0)
-          (map-Member (λ k. member_at g k r.0) a (below g.rows) (Member-below a g.rows l)));
-    }
+    let r = any-Member (λ b. list_all (λ a. has_vote history a j s v) (column_of g b)) (below g.cols) p.1 in (
+      r.0,
+      below-Member r.0 g.cols r.1,
+      (Decides-ltb 0 g.rows).0 p.0,
+      λ a l. has_vote-true history (member_at g a r.0) j s v
+          (all-Member (λ k. has_vote history k j s v) (column_of g r.0) r.2 (member_at g a r.0)
+          (map-Member (λ k. member_at g k r.0) a (below g.rows) (Member-below a g.rows l))),
+    )
+
+pub chosen_in-true : (history : List KeptRecord) (j : Round) (g : Shape) (s : ℕ) (v : Value) → IsConfig history j g → is_chosen_in history j g s v ≡ true
+    → IsChosenIn history j s v
+chosen_in-true history j g s v config h =
+    let r = chosen_in-column history j g s v h in
+    record { grid = g; config = config; column = r.0; in_grid = r.1; some_row = r.2; voted = r.3 }
 
 pub true-chosen_in : (history : List KeptRecord) (j : Round) (s : ℕ) (v : Value) (h : IsChosenIn history j s v) → is_chosen_in history j h.grid s v ≡ true
 true-chosen_in history j s v h =
