@@ -1,0 +1,5 @@
+pub mod Keep
+pub mod Live
+pub mod Matchmakers
+pub mod Leaders
+pub mod Readers
