@@ -25,7 +25,7 @@ use Rattle.cx_inv_run.specs.Laws.{Lands}
 use Rattle.cx_inv_run.specs.States.{State, Down, set_state, entry_by, with_record}
 use Rattle.cx_inv_run.proofs.Histories.{set_running, kept_longer}
 use Rattle.cx_inv_run.proofs.Members.{Member-both, Member-one}
-use Rattle.cx_inv_retire.specs.Retire.{Has, HasForgotten, IsFromRetired, AreConfigs, RetireSays, HasCounted, RetireFacts}
+use Rattle.cx_inv_retire.specs.Retire.{Has, HasForgotten, IsRetired, IsFromRetired, AreConfigs, RetireSays, HasCounted, RetireFacts}
 
 -- along a longer history
 
@@ -53,6 +53,13 @@ module _ (c : Cluster) (past : List KeptRecord) (fresh : Token → Type 0) (hist
   still_says from to (msg.MatchReadAck t w es) h = (λ e m. still_config e.round e.grid (h.0 e m), h.1)
   still_says from to (msg.PreRead t w) h = λ n. still_from to (h n)
   still_says from to other h = tt
+
+pub still_retired : (c : Cluster) (history longer : List KeptRecord) → Has longer history → (i : Round) → IsRetired c history i → IsRetired c longer i
+still_retired c history longer has i h = record {
+  who = h.who;
+  most = h.most;
+  each = λ m t. elim (h.each m t) [ inl e ↦ inl e | inr x ↦ inr (x.0, x.1, has _ x.2, x.3) ];
+}
 
 -- What a row gives: its sends say so, by the records with its own, and whom it has counted.
 pub record IsRetiring {V : Type 0} (c : Cluster) (past : List KeptRecord) (fresh : Token → Type 0) (history : List KeptRecord) (me : RoleId) (make : V → State) (o : Outcome V) : Type 0 where

@@ -84,21 +84,25 @@ retire_laws c past fresh = record {
 
 -- what is known along a run, from a past of it on
 
-pub step_has : (w : World) (e : Event) → Has (reverse (step w e).kept) (reverse w.kept)
+step_has : (w : World) (e : Event) → Has (reverse (step w e).kept) (reverse w.kept)
 unfolding step
 step_has w e k m = Member-reverse k (w.kept ++ (change w e).kept) (Member-first k w.kept (change w e).kept (Member-turned k w.kept m))
 
+has_from : (w : World) (es : List Event) → Has (reverse (run_from w es).kept) (reverse w.kept)
+has_from w [] k m = m
+has_from w (e ∷ es) k m = has_from (step w e) es k (step_has w e k m)
+
+pub has_run : (c : Cluster) (es more : List Event) → Has (reverse (run c (es ++ more)).kept) (reverse (run c es).kept)
+has_run c es more = subst (λ (w : World). Has (reverse w.kept) (reverse (run c es).kept)) (sym (run_append c es more)) (has_from (run c es) more)
+
 knows : (c : Cluster) (past : List KeptRecord) (es : List Event) → Has (reverse (run c es).kept) past → HoldsIn (Known c past) (run c es)
 knows c past es has = record { kinds = kinds_hold c es; facts = facts_hold c es; has = has }
-
-one_more : (c : Cluster) (es : List Event) (e : Event) → Has (reverse (run c (es ++ e ∷ [])).kept) (reverse (run c es).kept)
-one_more c es e = subst (λ (w : World). Has (reverse w.kept) (reverse (run c es).kept)) (sym (run_append c es (e ∷ []))) (step_has (run c es) e)
 
 knows_along : (c : Cluster) (past : List KeptRecord) (es more : List Event) → Has (reverse (run c es).kept) past → HoldsAlong (Known c past) (run c es) more
 knows_along c past es [] has = knows c past es has
 knows_along c past es (e ∷ more) has = (
   knows c past es has,
-  subst (λ w. HoldsAlong (Known c past) w more) (run_append c es (e ∷ [])) (knows_along c past (es ++ e ∷ []) more (λ k m. one_more c es e k (has k m))),
+  subst (λ w. HoldsAlong (Known c past) w more) (run_append c es (e ∷ [])) (knows_along c past (es ++ e ∷ []) more (λ k m. has_run c es (e ∷ []) k (has k m))),
 )
 
 -- from the start on there is no past, and no read is fresh
