@@ -1,0 +1,416 @@
+-- Which kinds of datagrams and records each kind of role sends and keeps: one walk over all rows, and what it gives of every run.
+use Rattle.std.proofs.Common.{◌≡◌, ℕ, Bool, true, false, ◌⊎◌, List, [], ◌∷◌, ◌++◌, map, filter, reverse, Option, None, Some, ap, sym, ◌∙◌, subst, refl, inl, inr}
+use Rattle.std.specs.Prelude.{◌+◌, ◌%◌, not, ◌==◌, ◌&&◌, ◌||◌, nat_lt, nat_le, length, if◌then◌else◌, slice_get, slice_index_or}
+use Rattle.std.specs.List.{list_any}
+use Rattle.cx_base.specs.declared.cluster.Cluster.{Cluster}
+use Rattle.cx_base.specs.declared.command.Answered.{Answered}
+use Rattle.cx_base.specs.declared.command.Command.{Command}
+use Rattle.cx_base.specs.declared.command.Placed.{Placed}
+use Rattle.cx_base.specs.declared.command.Value.{Value}
+use Rattle.cx_base.specs.declared.event.Event.{Event}
+use Rattle.cx_base.specs.declared.event.Event.TheVariants as event
+use Rattle.cx_base.specs.declared.event.Order.{Order as OrderOf}
+use Rattle.cx_base.specs.declared.event.Order.TheVariants.{Lead, Change, Collect}
+use Rattle.cx_base.specs.declared.role.Kind.{Kind}
+use Rattle.cx_base.specs.declared.role.Kind.TheVariants as kind
+use Rattle.cx_base.specs.declared.role.RoleId.{RoleId}
+use Rattle.cx_base.specs.declared.round.Round.{Round}
+use Rattle.cx_base.specs.declared.why.Why.{Why}
+use Rattle.cx_base.specs.Grid.{Shape, is_in}
+use Rattle.cx_base.specs.Lists.{below, numbers}
+use Rattle.cx_base.specs.Log.{ready_values}
+use Rattle.cx_base.specs.Role.{role, same_role}
+use Rattle.cx_base.specs.Round.{is_before, same_round, lead_after, change_after}
+use Rattle.cx_field.specs.declared.parts.Entry.{Entry}
+use Rattle.cx_field.specs.declared.parts.Token.{Token}
+use Rattle.cx_field.specs.declared.parts.Vote.{Vote}
+use Rattle.cx_grid.specs.Quorum.{column_whole, with_mark}
+use Rattle.cx_msg.specs.Letter.{Letter, letter}
+use Rattle.cx_msg.specs.declared.input.Input.{Input}
+use Rattle.cx_msg.specs.declared.input.Input.TheVariants.{Take, Tick, Order}
+use Rattle.cx_msg.specs.declared.input.KeptRecord.{KeptRecord}
+use Rattle.cx_msg.specs.declared.kept.Record.{Record}
+use Rattle.cx_msg.specs.declared.kept.Record.TheVariants as kept
+use Rattle.cx_msg.specs.declared.message.Msg.{Msg}
+use Rattle.cx_msg.specs.declared.message.Msg.TheVariants as msg
+use Rattle.cx_model.specs.declared.states.Deferred.{Deferred}
+use Rattle.cx_model.specs.declared.states.Mode.{Mode}
+use Rattle.cx_model.specs.declared.states.Mode.TheVariants.{Idle, Matching, Phase1, Leading}
+use Rattle.cx_model.specs.declared.states.Pending.{Pending}
+use Rattle.cx_model.specs.declared.states.Plan.{Plan}
+use Rattle.cx_model.specs.Acceptor.{AcceptorDurable, is_of, vote_at, acceptor_takes, acceptor_row}
+use Rattle.cx_model.specs.Batcher.{BatcherVolatile, batcher_takes, batcher_row}
+use Rattle.cx_model.specs.Collection.{Collection, with_informed, is_off, is_informing, is_collecting}
+use Rattle.cx_model.specs.Leader.{LeaderDurable, LeaderVolatile, is_idle, is_matching, is_promising, is_leading, is_own, round_of, match_a_to, phase1a_to, leads_to, propose_to, inform_to, garbage_a_to, begin_in, lead_with, matched_by, match_counted, promise_counted, is_past_window, propose_in, is_settled, collect_in, informed_in, leader_takes, open_values, stage_sends, tick_in, order_row, leader_row}
+use Rattle.cx_model.specs.Matched.{matchmakers, is_counted, greatest_watermark, live_entries, is_member_of, members_of, members_in, rows_whole, enough}
+use Rattle.cx_model.specs.Matchmaker.{MatchmakerDurable, has_round, matchmaker_takes, matchmaker_row}
+use Rattle.cx_model.specs.Member.{Member}
+use Rattle.cx_model.specs.Names.{names, names_grid}
+use Rattle.cx_model.specs.Outcome.{Outcome, answered, replied, either_way}
+use Rattle.cx_model.specs.Plan.{promised_by, has_promised, plan, placed_from}
+use Rattle.cx_model.specs.Proxy.{ProxyVolatile, raised_to, pending_of, pending_at, phase2a_to, column_for, members_for, chosen_to, chosen_in_to, announcement, ask, propose_over, vote_for, proxy_takes, again_for, again_at, proxy_tick, proxy_row}
+use Rattle.cx_model.specs.Reader.{ReaderVolatile, Reading, reading, token, reading_of, is_matched, acked_by, has_acked, greatest_mark, match_read_to, pre_read_to, ask_matchmakers, read_req_over, send_read, read_matched, match_ack_counted, match_ack_row, pre_read_counted, pre_read_ack_row, reader_takes, reader_row}
+use Rattle.cx_model.specs.Replica.{ReplicaDurable, ReplicaVolatile, Machine, execute_value, machine_of, results_at, results_from, read_answer_to, read_answers, apply, fetch_found, held_to, fetch_to, replica_takes, replica_tick, replica_row}
+use Rattle.cx_model.specs.Request.{request, same_read}
+use Rattle.cx_model.specs.Unbatcher.{answer_to, unbatcher_takes, unbatcher_row}
+use Rattle.cx_model.specs.World.{run}
+use Rattle.cx_inv_run.specs.Kinds.{IsSender, IsKeeper, IsKept, OfKind, Kinds, KindsLaw}
+use Rattle.cx_inv_run.specs.States.{State, set_state, entry_by, with_record, Property, HoldsIn}
+use Rattle.cx_inv_run.specs.Laws.{Lands, Laws, anything}
+use Rattle.cx_inv_run.proofs.Members.{Member-cases, Member-both, Member-map, Member-one, Member-reverse, Member-turned}
+use Rattle.cx_inv_run.proofs.Steps.{run_keeps, along_anything, all_allowed}
+
+-- datagrams of one role, each of its kind
+abbrev AreOwn : RoleId → List Letter → Type 0
+AreOwn me ds = (d : Letter) → Member d ds → (d.from ≡ me) × IsSender me.kind d.msg
+
+none : (me : RoleId) → AreOwn me []
+none me d m = absurd m
+
+one : (me to : RoleId) (x : Msg) → IsSender me.kind x → AreOwn me (letter me to x ∷ [])
+one me to x s = Member-one (λ d. (d.from ≡ me) × IsSender me.kind d.msg) (letter me to x) (refl, s)
+
+both : (me : RoleId) (ds es : List Letter) → AreOwn me ds → AreOwn me es → AreOwn me (ds ++ es)
+both me ds es = Member-both (λ d. (d.from ≡ me) × IsSender me.kind d.msg) ds es
+
+mapped : {X : Type 0} (me : RoleId) (f : X → Letter) (xs : List X) → ((x : X) → ((f x).from ≡ me) × IsSender me.kind (f x).msg) → AreOwn me (map f xs)
+mapped me f xs h d m =
+    let r = Member-map f d xs m in
+    subst (λ (e : Letter). (e.from ≡ me) × IsSender me.kind e.msg) (sym r.2) (h r.0)
+
+-- outcomes of one role
+module _ {V : Type 0} (me : RoleId) where
+  quiet : (w : Why) (v : V) → OfKind me (answered w v)
+  quiet w v = record { sends = none me; keeps = tt }
+
+  replying : (w : Why) (v : V) (ds : List Letter) → AreOwn me ds → OfKind me (replied w v ds)
+  replying w v ds own = record { sends = own; keeps = tt }
+
+  keeping : (w : Why) (r : Record) (v : V) (ds : List Letter) → IsKeeper me.kind r → AreOwn me ds
+      → OfKind {V = V} me (record { why = w; kept = Some r; volatile = v; sends = ds })
+  keeping w r v ds keeper own = record { sends = own; keeps = keeper }
+
+  -- a choice between two outcomes
+  pick : (b : Bool) (o p : Outcome V) → OfKind me o → OfKind me p → OfKind me (if b then o else p)
+  pick b o p = either_way (λ (x : Outcome V). OfKind me x) b o p
+
+-- the acceptor's rows
+module _ (c : Cluster) (me : RoleId) (is : me.kind ≡ kind.Acceptor) (d : AcceptorDurable) where
+  acceptor_took : (from : RoleId) (m : Msg) → OfKind me (acceptor_takes me d from m)
+  acceptor_took from (msg.Phase1A i) =
+      pick me (is_before i d.promise) _ _ (replying me _ tt _ (one me _ _ is))
+      (pick me (same_round i d.promise) _ _ (replying me _ tt _ (one me _ _ is)) (keeping me _ _ tt _ is (one me _ _ is)))
+  acceptor_took from (msg.Phase2A i s cw v) =
+      pick me (is_before i d.promise) _ _ (replying me _ tt _ (one me _ _ is))
+      (pick me (nat_lt s d.cw) _ _ (quiet me _ tt)
+      (pick me (is_of i (vote_at s d.votes)) _ _ (replying me _ tt _ (one me _ _ is)) (keeping me _ _ tt _ is (one me _ _ is))))
+  acceptor_took from (msg.Inform i cw) =
+      pick me (is_before i d.promise) _ _ (replying me _ tt _ (one me _ _ is))
+      (pick me (same_round i d.promise && nat_le cw d.cw) _ _ (replying me _ tt _ (one me _ _ is)) (keeping me _ _ tt _ is (one me _ _ is)))
+  acceptor_took from (msg.PreRead t w) = replying me _ tt _ (one me _ _ is)
+  acceptor_took from other = quiet me _ tt
+
+  pub acceptor_kinds : (i : Input) → OfKind me (acceptor_row c me d tt i)
+  acceptor_kinds (Take letter) = pick me (same_role letter.to me && names c letter) _ _ (acceptor_took letter.from letter.msg) (quiet me _ tt)
+  acceptor_kinds Tick = quiet me _ tt
+  acceptor_kinds (Order order) = quiet me _ tt
+
+-- the matchmaker's rows
+module _ (c : Cluster) (me : RoleId) (is : me.kind ≡ kind.Matchmaker) (d : MatchmakerDurable) where
+  matchmaker_took : (from : RoleId) (m : Msg) → OfKind me (matchmaker_takes me d from m)
+  matchmaker_took from (msg.MatchA i g) =
+      pick me (is_before i d.watermark) _ _ (replying me _ tt _ (one me _ _ is))
+      (pick me (list_any (λ (e : Entry). is_before i e.round) d.entries) _ _ (replying me _ tt _ (one me _ _ is))
+      (pick me (has_round i d.entries) _ _ (replying me _ tt _ (one me _ _ is))
+      (pick me (nat_le 16 (length d.entries)) _ _ (replying me _ tt _ (one me _ _ is)) (keeping me _ _ tt _ is (one me _ _ is)))))
+  matchmaker_took from (msg.GarbageA i g) =
+      pick me (is_before d.watermark i) _ _ (keeping me _ _ tt _ is (one me _ _ is)) (replying me _ tt _ (one me _ _ is))
+  matchmaker_took from (msg.MatchRead t) = replying me _ tt _ (one me _ _ is)
+  matchmaker_took from other = quiet me _ tt
+
+  pub matchmaker_kinds : (i : Input) → OfKind me (matchmaker_row c me d tt i)
+  matchmaker_kinds (Take letter) = pick me (same_role letter.to me && names c letter) _ _ (matchmaker_took letter.from letter.msg) (quiet me _ tt)
+  matchmaker_kinds Tick = quiet me _ tt
+  matchmaker_kinds (Order order) = quiet me _ tt
+
+-- the batcher's rows
+module _ (c : Cluster) (me : RoleId) (is : me.kind ≡ kind.Batcher) (v : BatcherVolatile) where
+  batcher_took : (m : Msg) → OfKind me (batcher_takes c me v m)
+  batcher_took (msg.Submit command) =
+      pick me (nat_le c.batch (length (v.waiting ++ command ∷ []))) _ _ (replying me _ _ _ (one me _ _ is)) (quiet me _ _)
+  batcher_took (msg.Leads i) = pick me (is_before v.round i) _ _ (quiet me _ _) (quiet me _ _)
+  batcher_took other = quiet me _ _
+
+  pub batcher_kinds : (i : Input) → OfKind me (batcher_row c me tt v i)
+  batcher_kinds (Take letter) = pick me (same_role letter.to me && names c letter) _ _ (batcher_took letter.msg) (quiet me _ v)
+  batcher_kinds Tick = pick me (nat_lt 0 (length v.waiting)) _ _ (replying me _ _ _ (one me _ _ is)) (quiet me _ _)
+  batcher_kinds (Order order) = quiet me _ _
+
+-- the unbatcher's rows
+module _ (c : Cluster) (me : RoleId) (is : me.kind ≡ kind.Unbatcher) where
+  unbatcher_took : (m : Msg) → OfKind me (unbatcher_takes me m)
+  unbatcher_took (msg.Results s answers) = replying me _ tt _ (mapped me (answer_to me) answers (λ a. (refl, is)))
+  unbatcher_took other = quiet me _ tt
+
+  pub unbatcher_kinds : (i : Input) → OfKind me (unbatcher_row c me tt tt i)
+  unbatcher_kinds (Take letter) = pick me (same_role letter.to me && names c letter) _ _ (unbatcher_took letter.msg) (quiet me _ tt)
+  unbatcher_kinds Tick = quiet me _ tt
+  unbatcher_kinds (Order order) = quiet me _ tt
+
+-- the proxy leader's rows
+module _ (c : Cluster) (me : RoleId) (is : me.kind ≡ kind.Proxy) where
+  announced : (p : Pending) → AreOwn me (announcement c me p)
+  announced p = both me (map (chosen_to me p) (below c.replicas)) (chosen_in_to me p ∷ []) (mapped me (chosen_to me p) (below c.replicas) (λ r. (refl, inl is))) (one me _ _ is)
+
+  asked : (v : ProxyVolatile) (p : Pending) → OfKind me (ask c me v p)
+  asked v p = replying me _ _ _ (mapped me (phase2a_to me p) (column_for c p) (λ a. (refl, is)))
+
+  proposed_over : (v : ProxyVolatile) (p : Pending) (o : Option Pending) → OfKind me (propose_over c me v p o)
+  proposed_over v p None = asked v p
+  proposed_over v p (Some old) =
+      pick me (is_before p.round old.round) _ _ (quiet me _ v) (pick me (same_round old.round p.round) _ _ (quiet me _ v) (asked v p))
+
+  voted_for : (v : ProxyVolatile) (acceptor : ℕ) (i : Round) (o : Option Pending) → OfKind me (vote_for c me v acceptor i o)
+  voted_for v acceptor i None = quiet me _ v
+  voted_for v acceptor i (Some p) =
+      pick me (not (same_round p.round i && is_in acceptor p.grid.members)) _ _ (quiet me _ v)
+      (pick me p.done _ _ (quiet me _ v)
+      (pick me (is_in acceptor p.marks) _ _ (quiet me _ v)
+      (pick me (column_whole p.grid (with_mark acceptor p.marks)) _ _ (replying me _ _ _ (announced (record p { marks = with_mark acceptor p.marks }))) (quiet me _ _))))
+
+  proxy_took : (v : ProxyVolatile) (from : RoleId) (m : Msg) → OfKind me (proxy_takes c me v from m)
+  proxy_took v from (msg.Propose i g s cw value) =
+      let raised = raised_to cw v in
+      let p = pending_of i g s cw value in
+      pick me (nat_lt s raised.known) _ _ (quiet me _ raised) (proposed_over raised p (pending_at s raised.pending))
+  proxy_took v from (msg.Phase2B i s) = voted_for v from.index i (pending_at s v.pending)
+  proxy_took v from other = quiet me _ v
+
+  again_one : (o : Option Pending) → AreOwn me (again_for c me o)
+  again_one None = none me
+  again_one (Some p) = either_way (AreOwn me) p.done _ _ (announced p) (mapped me (phase2a_to me p) (members_for c p) (λ a. (refl, is)))
+
+  again_all : (ps : List Pending) (slots : List ℕ) → AreOwn me (again_at c me ps slots)
+  again_all ps [] = none me
+  again_all ps (s ∷ slots) = both me (again_for c me (pending_at s ps)) (again_at c me ps slots) (again_one (pending_at s ps)) (again_all ps slots)
+
+  ticked : (v : ProxyVolatile) (ps : List Pending) → OfKind me (proxy_tick c me v ps)
+  ticked v [] = quiet me _ v
+  ticked v (p ∷ ps) = replying me _ v _ (again_all v.pending (numbers v.known 32))
+
+  pub proxy_kinds : (v : ProxyVolatile) (i : Input) → OfKind me (proxy_row c me tt v i)
+  proxy_kinds v (Take letter) = pick me (same_role letter.to me && names c letter) _ _ (proxy_took v letter.from letter.msg) (quiet me _ v)
+  proxy_kinds v Tick = ticked v v.pending
+  proxy_kinds v (Order order) = quiet me _ v
+
+-- the replica's rows
+module _ (c : Cluster) (me : RoleId) (is : me.kind ≡ kind.Replica) (d : ReplicaDurable) where
+  results_one : (slot : ℕ) (answers : List Answered) → AreOwn me (results_at c me slot answers)
+  results_one slot answers = either_way (AreOwn me) ((slot % c.replicas == me.index) && nat_lt 0 (length answers)) _ _ (one me _ _ is) (none me)
+
+  results_all : (slot : ℕ) (machine : Machine) (values : List Value) → AreOwn me (results_from c me slot machine values)
+  results_all slot machine [] = none me
+  results_all slot machine (v ∷ values) =
+      let e = execute_value slot machine v in
+      both me (results_at c me slot e.answers) (results_from c me (slot + 1) e.machine values) (results_one slot e.answers) (results_all (slot + 1) e.machine values)
+
+  read_all : (log : List Value) (rs : List Deferred) → AreOwn me (read_answers me log rs)
+  read_all log rs = mapped me (read_answer_to me log) (filter (λ (r : Deferred). nat_le r.mark (length log)) rs) (λ r. (refl, is))
+
+  applied : (v : ReplicaVolatile) (values : List Value) → OfKind me (apply c me d v values)
+  applied v values =
+      keeping me _ _ _ _ is
+      (both me (results_from c me (length d.log) (machine_of d.log) values) (read_answers me (d.log ++ values) v.deferred)
+      (results_all (length d.log) (machine_of d.log) values) (read_all (d.log ++ values) v.deferred))
+
+  fetched : (v : ReplicaVolatile) (from : RoleId) (s : ℕ) (o : Option Value) → OfKind me (fetch_found me v from s o)
+  fetched v from s None = quiet me _ v
+  fetched v from s (Some value) = replying me _ v _ (one me _ _ (inr is))
+
+  replica_took : (v : ReplicaVolatile) (from : RoleId) (m : Msg) → OfKind me (replica_takes c me d v from m)
+  replica_took v from (msg.Chosen s value) =
+      pick me (nat_lt s (length d.log)) _ _ (quiet me _ v)
+      (pick me (nat_le (length d.log + 32) s) _ _ (quiet me _ v)
+      (pick me (nat_lt (length d.log) s) _ _ (quiet me _ _) (applied v (ready_values (length d.log) v.early value))))
+  replica_took v from (msg.Read t n key) =
+      pick me (nat_le n (length d.log)) _ _ (replying me _ v _ (one me _ _ is))
+      (pick me (list_any (λ (other : Deferred). same_read t other.token) v.deferred) _ _ (quiet me _ v)
+      (pick me (nat_le 64 (length v.deferred)) _ _ (quiet me _ v) (quiet me _ _)))
+  replica_took v from (msg.Fetch s) = fetched v from s (slice_get d.log s)
+  replica_took v from other = quiet me _ v
+
+  replica_ticked : (v : ReplicaVolatile) → OfKind me (replica_tick c me d v)
+  replica_ticked v =
+      replying me _ v _
+      (both me (map (held_to me (length d.log)) (below c.leaders)) (fetch_to c me (length d.log))
+      (mapped me (held_to me (length d.log)) (below c.leaders) (λ l. (refl, is)))
+      (either_way (AreOwn me) (nat_lt 1 c.replicas) _ _ (one me _ _ is) (none me)))
+
+  pub replica_kinds : (v : ReplicaVolatile) (i : Input) → OfKind me (replica_row c me d v i)
+  replica_kinds v (Take letter) = pick me (same_role letter.to me && names c letter) _ _ (replica_took v letter.from letter.msg) (quiet me _ v)
+  replica_kinds v Tick = replica_ticked v
+  replica_kinds v (Order order) = quiet me _ v
+
+-- the reader's rows
+module _ (c : Cluster) (me : RoleId) (is : me.kind ≡ kind.Reader) where
+  asking : (t : Token) → AreOwn me (ask_matchmakers c me t)
+  asking t = mapped me (match_read_to me t) (matchmakers c) (λ m. (refl, is))
+
+  requested : (v : ReaderVolatile) (r : Reading) (o : Option Reading) → OfKind me (read_req_over c me v r o)
+  requested v r None = pick me (nat_le 64 (length v.reads)) _ _ (quiet me _ v) (replying me _ _ _ (asking r.token))
+  requested v r (Some old) = replying me _ _ _ (asking r.token)
+
+  read_sent : (v : ReaderVolatile) (r : Reading) (n : ℕ) → OfKind me (send_read me v r n)
+  read_sent v r n = replying me _ _ _ (one me _ _ is)
+
+  matched_read : (v : ReaderVolatile) (r : Reading) (es : List Entry) → OfKind me (read_matched c me v r es)
+  matched_read v r [] = read_sent v r 0
+  matched_read v r (e ∷ es) = replying me _ _ _ (mapped me (pre_read_to me r) (members_of c (e ∷ es)) (λ a. (refl, is)))
+
+  told_counted : (v : ReaderVolatile) (r : Reading) → OfKind me (match_ack_counted c me v r)
+  told_counted v r = pick me (is_matched c r) _ _ (matched_read v r (live_entries r.told)) (quiet me _ _)
+
+  told_row : (v : ReaderVolatile) (from : RoleId) (w : Round) (es : List Entry) (o : Option Reading) → OfKind me (match_ack_row c me v from w es o)
+  told_row v from w es None = quiet me _ v
+  told_row v from w es (Some r) =
+      pick me (is_matched c r) _ _ (quiet me _ v)
+      (pick me (is_counted from.index r.told) _ _ (quiet me _ v)
+      (told_counted v (record r { told = r.told ++ record { matchmaker = from.index; watermark = w; entries = es } ∷ [] })))
+
+  acks_counted : (v : ReaderVolatile) (r : Reading) → OfKind me (pre_read_counted me v r)
+  acks_counted v r = pick me (rows_whole (live_entries r.told) (acked_by r.acks)) _ _ (read_sent v r (greatest_mark r.acks)) (quiet me _ _)
+
+  acked_row : (v : ReaderVolatile) (from : RoleId) (w : Round) (n : ℕ) (o : Option Reading) → OfKind me (pre_read_ack_row c me v from w n o)
+  acked_row v from w n None = quiet me _ v
+  acked_row v from w n (Some r) =
+      pick me (not (is_matched c r && is_member_of (live_entries r.told) from.index)) _ _ (quiet me _ v)
+      (pick me (not (same_round w (greatest_watermark r.told))) _ _ (quiet me _ v)
+      (pick me (has_acked from.index r.acks) _ _ (quiet me _ v)
+      (acks_counted v (record r { acks = r.acks ++ record { acceptor = from.index; mark = n } ∷ [] }))))
+
+  reader_took : (v : ReaderVolatile) (from : RoleId) (m : Msg) → OfKind me (reader_takes c me v from m)
+  reader_took v from (msg.ReadReq seq replica key) =
+      let r = reading (token from.index seq) replica key in requested v r (reading_of r.token v.reads)
+  reader_took v from (msg.MatchReadAck t w es) = told_row v from w es (reading_of t v.reads)
+  reader_took v from (msg.PreReadAck t w n) = acked_row v from w n (reading_of t v.reads)
+  reader_took v from other = quiet me _ v
+
+  pub reader_kinds : (v : ReaderVolatile) (i : Input) → OfKind me (reader_row c me tt v i)
+  reader_kinds v (Take letter) = pick me (same_role letter.to me && names c letter) _ _ (reader_took v letter.from letter.msg) (quiet me _ v)
+  reader_kinds v Tick = quiet me _ v
+  reader_kinds v (Order order) = quiet me _ v
+
+-- the leader's rows
+module _ (c : Cluster) (me : RoleId) (is : me.kind ≡ kind.Leader) (d : LeaderDurable) where
+  asking_matchmakers : (i : Round) (g : Shape) → AreOwn me (map (match_a_to me i g) (matchmakers c))
+  asking_matchmakers i g = mapped me (match_a_to me i g) (matchmakers c) (λ m. (refl, is))
+
+  proposing : (own : Entry) (cw : ℕ) (ps : List Placed) → AreOwn me (map (propose_to c me own cw) ps)
+  proposing own cw ps = mapped me (propose_to c me own cw) ps (λ p. (refl, is))
+
+  leading : (i : Round) → AreOwn me (map (leads_to me i) (below c.batchers))
+  leading i = mapped me (leads_to me i) (below c.batchers) (λ b. (refl, is))
+
+  informing : (i : Round) (cw : ℕ) (g : Shape) → AreOwn me (map (inform_to me i cw) (members_in c g))
+  informing i cw g = mapped me (inform_to me i cw) (members_in c g) (λ a. (refl, is))
+
+  collecting : (own : Entry) → AreOwn me (map (garbage_a_to me own) (matchmakers c))
+  collecting own = mapped me (garbage_a_to me own) (matchmakers c) (λ m. (refl, is))
+
+  promising : (i : Round) (es : List Entry) → AreOwn me (map (phase1a_to me i) (members_of c es))
+  promising i es = mapped me (phase1a_to me i) (members_of c es) (λ a. (refl, is))
+
+  begun : (v : LeaderVolatile) (g : Shape) (o : Option Round) → OfKind me (begin_in c me v g o)
+  begun v g None = quiet me _ v
+  begun v g (Some i) = keeping me _ _ _ _ is (asking_matchmakers i g)
+
+  led : (own : Entry) (v : LeaderVolatile) (p : Plan) → OfKind me (lead_with c me own v p)
+  led own v p =
+      replying me _ _ _
+      (both me (map (propose_to c me own p.cw) (placed_from p.cw p.values)) (map (leads_to me own.round) (below c.batchers))
+      (proposing own p.cw (placed_from p.cw p.values)) (leading own.round))
+
+  matched : (own : Entry) (v : LeaderVolatile) (es : List Entry) → OfKind me (matched_by c me own v es)
+  matched own v [] = led own v (plan v.cw v.promises)
+  matched own v (e ∷ es) = replying me _ _ _ (promising own.round (e ∷ es))
+
+  answers_counted : (o : Option Entry) (v : LeaderVolatile) → OfKind me (match_counted c me o v)
+  answers_counted None v = quiet me _ v
+  answers_counted (Some own) v = pick me (nat_lt (length v.told) (enough c)) _ _ (quiet me _ v) (matched own v (live_entries v.told))
+
+  promises_counted : (o : Option Entry) (v : LeaderVolatile) → OfKind me (promise_counted c me o v)
+  promises_counted None v = quiet me _ v
+  promises_counted (Some own) v =
+      pick me (rows_whole (live_entries v.told) (promised_by v.promises)) _ _ (led own v (plan v.cw v.promises)) (quiet me _ v)
+
+  proposed : (v : LeaderVolatile) (commands : List Command) (o : Option Entry) → OfKind me (propose_in c me v commands o)
+  proposed v commands None = quiet me _ v
+  proposed v commands (Some own) = pick me (is_past_window v) _ _ (quiet me _ v) (replying me _ _ _ (one me _ _ is))
+
+  collection_begun : (v : LeaderVolatile) (o : Option Entry) → OfKind me (collect_in c me v o)
+  collection_begun v None = quiet me _ v
+  collection_begun v (Some own) =
+      pick me (not (is_off v.collection.stage)) _ _ (quiet me _ v)
+      (pick me (not (is_settled v)) _ _ (quiet me _ v) (replying me _ _ _ (informing own.round v.cw own.grid)))
+
+  informed : (v : LeaderVolatile) (from : RoleId) (o : Option Entry) → OfKind me (informed_in c me v from o)
+  informed v from None = quiet me _ v
+  informed v from (Some own) =
+      let k = with_informed own.grid from.index v.collection in
+      pick me (not (is_in from.index own.grid.members)) _ _ (quiet me _ v)
+      (pick me (is_in from.index v.collection.counted) _ _ (quiet me _ v)
+      (pick me (is_collecting k.stage) _ _ (replying me _ _ _ (collecting own)) (quiet me _ _)))
+
+  leader_took : (v : LeaderVolatile) (from : RoleId) (m : Msg) → OfKind me (leader_takes c me d v from m)
+  leader_took v from (msg.MatchB i w es) =
+      pick me (not (is_matching v.mode && is_own d i)) _ _ (quiet me _ v)
+      (pick me (is_counted from.index v.told) _ _ (quiet me _ v)
+      (answers_counted d.own (record v { told = v.told ++ record { matchmaker = from.index; watermark = w; entries = es } ∷ [] })))
+  leader_took v from (msg.MatchNack i reason other) =
+      pick me (is_idle v.mode || not (is_own d i)) _ _ (quiet me _ _) (pick me (reason == 2) _ _ (quiet me _ _) (quiet me _ _))
+  leader_took v from (msg.Phase1B i cw votes) =
+      pick me (not (is_promising v.mode && is_own d i)) _ _ (quiet me _ v)
+      (pick me (not (is_member_of (live_entries v.told) from.index)) _ _ (quiet me _ v)
+      (pick me (has_promised from.index v.promises) _ _ (quiet me _ v)
+      (promises_counted d.own (record v { promises = v.promises ++ record { acceptor = from.index; cw = cw; votes = votes } ∷ [] }))))
+  leader_took v from (msg.Nack i promise) = pick me (is_idle v.mode || not (is_own d i)) _ _ (quiet me _ _) (quiet me _ _)
+  leader_took v from (msg.Batch commands) = pick me (is_leading v.mode) _ _ (proposed v commands d.own) (quiet me _ v)
+  leader_took v from (msg.ChosenIn i s) =
+      pick me (not (is_leading v.mode && is_own d i)) _ _ (quiet me _ v)
+      (pick me (nat_lt s v.cw) _ _ (quiet me _ v)
+      (pick me (nat_le v.next s) _ _ (quiet me _ v) (pick me (is_in s v.chosen) _ _ (quiet me _ v) (quiet me _ _))))
+  leader_took v from (msg.Held n) = pick me (nat_le n (slice_index_or v.held from.index 0)) _ _ (quiet me _ v) (quiet me _ _)
+  leader_took v from (msg.Informed i cw) =
+      pick me (not (is_leading v.mode && is_own d i && is_informing v.collection.stage && nat_le v.collection.mark cw)) _ _ (quiet me _ v) (informed v from d.own)
+  leader_took v from (msg.GarbageB i) =
+      pick me (not (is_leading v.mode && is_own d i && is_collecting v.collection.stage)) _ _ (quiet me _ v)
+      (pick me (is_in from.index v.collection.counted) _ _ (quiet me _ v) (quiet me _ _))
+  leader_took v from other = quiet me _ v
+
+  stage_all : (own : Entry) (k : Collection) → AreOwn me (stage_sends c me own k)
+  stage_all own k =
+      either_way (AreOwn me) (is_informing k.stage) _ _ (informing own.round k.mark own.grid)
+      (either_way (AreOwn me) (is_collecting k.stage) _ _ (collecting own) (none me))
+
+  leader_ticked : (v : LeaderVolatile) (mode : Mode) (o : Option Entry) → OfKind me (tick_in c me v mode o)
+  leader_ticked v mode None = quiet me _ v
+  leader_ticked v Idle (Some own) = quiet me _ v
+  leader_ticked v Matching (Some own) = replying me _ v _ (asking_matchmakers own.round own.grid)
+  leader_ticked v Phase1 (Some own) = replying me _ v _ (promising own.round (live_entries v.told))
+  leader_ticked v Leading (Some own) =
+      replying me _ v _
+      (both me (map (propose_to c me own v.cw) (open_values v) ++ map (leads_to me own.round) (below c.batchers)) (stage_sends c me own v.collection)
+      (both me (map (propose_to c me own v.cw) (open_values v)) (map (leads_to me own.round) (below c.batchers)) (proposing own v.cw (open_values v)) (leading own.round))
+      (stage_all own v.collection))
+
+  ordered : (v : LeaderVolatile) (order : OrderOf) → OfKind me (order_row c me d v order)
+  ordered v (Lead g) = pick me (names_grid c g) _ _ (begun v g (lead_after (round_of d.own) v.seen me.index)) (quiet me _ v)
+  ordered v (Change g) =
+      pick me (not (names_grid c g)) _ _ (quiet me _ v)
+      (pick me (not (is_leading v.mode)) _ _ (quiet me _ v) (begun v g (change_after (round_of d.own))))
+  ordered v Collect = pick me (is_leading v.mode) _ _ (collection_begun v d.own) (quiet me _ v)
+
+  pub leader_kinds : (v : LeaderVolatile) (i : Input) → OfKind me (leader_row c me d v i)
+  leader_kinds v (Take letter) = pick me (same_role letter.to me && names c letter) _ _ (leader_took v letter.from letter.msg) (quiet me _ v)
+  leader_kinds v Tick = leader_ticked v v.mode d.own
+  leader_kinds v (Order order) = ordered v order
