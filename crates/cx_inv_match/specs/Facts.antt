@@ -16,6 +16,7 @@ use Rattle.cx_msg.specs.declared.input.KeptRecord.{KeptRecord}
 use Rattle.cx_msg.specs.declared.kept.Record.TheVariants as kept
 use Rattle.cx_msg.specs.declared.message.Msg.{Msg}
 use Rattle.cx_msg.specs.declared.message.Msg.TheVariants as msg
+use Rattle.cx_model.specs.declared.states.Acked.{Acked}
 use Rattle.cx_model.specs.declared.states.MatchAnswer.{MatchAnswer}
 use Rattle.cx_model.specs.declared.states.Mode.{Mode}
 use Rattle.cx_model.specs.declared.states.Mode.TheVariants.{Idle, Matching, Phase1, Leading}
@@ -29,6 +30,7 @@ use Rattle.cx_model.specs.Leader.{LeaderVolatile, leader_rules, round_of}
 use Rattle.cx_model.specs.Matchmaker.{MatchmakerDurable, matchmaker_rules, entry}
 use Rattle.cx_model.specs.Member.{Member}
 use Rattle.cx_model.specs.Promises.{HasKept, IsConfig}
+use Rattle.cx_model.specs.Reader.{ReaderVolatile, Reading, is_matched}
 use Rattle.cx_model.specs.Replica.{replica_rules}
 use Rattle.cx_inv_run.specs.States.{State, Down, Plain, BatcherIn, LeaderIn, ProxyIn, ReplicaIn, ReaderIn, durable_of}
 use Rattle.cx_inv_match.specs.Words.{HasMatch, HasGarbage, HasMark, HasPromise, HasLow, IsChosenIn, IsChosen, IsMatched, IsSafe, IsCollected, IsAnswer, IsPromise}
@@ -58,10 +60,12 @@ abbrev pub told_by : List MatchAnswer → List ℕ
 told_by [] = []
 told_by (a ∷ told) = a.matchmaker ∷ told_by told
 
--- a leader before the end of its first phase: nothing of its round was proposed, and nobody was asked to forget earlier ones for it
+-- a leader before the end of its first phase: nothing of its round was proposed, nobody was asked to forget earlier ones for it, and it isn't
+-- retiring them
 pub record IsMatching (c : Cluster) (sent : List Letter) (own : Entry) (v : LeaderVolatile) : Type 0 where
   pub unproposed : (s : ℕ) (u : Value) → IsProposed sent own.round s u → ⊥
   pub unended : IsRetiring sent own.round → ⊥
+  pub off : v.collection.stage ≡ Off
   pub once : AreOnce (told_by v.told)
   pub known : (m : ℕ) → Member m (told_by v.told) → m < 2 * c.f + 1
 
@@ -106,6 +110,10 @@ pub record IsPending (history : List KeptRecord) (sent : List Letter) (p : Pendi
   pub done : p.done ≡ true → IsChosenIn history p.round p.slot p.value
   pub window : p.cw ≤ p.slot
 
+-- before enough matchmakers answered, no acceptor's answer is counted for a read
+abbrev pub AreAsking : Cluster → ReaderVolatile → Type 0
+AreAsking c v = (r : Reading) → Member r v.reads → is_matched c r ≡ false → (a : Acked) → Member a r.acks → ⊥
+
 -- What is known of a running role: what it counted, holds pending or was told came to it in datagrams, and what else its rows rest on.
 abbrev pub InState : Cluster → List KeptRecord → List Letter → RoleId → State → Type 0
 InState c history sent me Down = Unit {0}
@@ -115,7 +123,7 @@ InState c history sent me (LeaderIn v) =
     LeaderWasTold sent me (round_of (durable_of leader_rules me history).own) v × InMode c history sent (durable_of leader_rules me history).own v v.mode
 InState c history sent me (ProxyIn v) = ProxyWasTold sent me v × ((p : Pending) → Member p v.pending → IsPending history sent p)
 InState c history sent me (ReplicaIn v) = ReplicaWasTold sent me v
-InState c history sent me (ReaderIn v) = ReaderWasTold sent me v
+InState c history sent me (ReaderIn v) = ReaderWasTold sent me v × AreAsking c v
 
 -- an acceptor is what its records say
 pub record IsAcceptor (history : List KeptRecord) (a : RoleId) (d : AcceptorDurable) : Type 0 where

@@ -1,0 +1,226 @@
+-- The facts after a role has sent datagrams and gone on.
+use Rattle.std.proofs.Common.{◌≡◌, ℕ, ◌<◌, false, ◌⊎◌, List, ◌++◌, Option, Some, None, inl, inr, sym, subst, ◌∙◌, refl}
+use Rattle.std.specs.Prelude.{slice_get}
+use Rattle.cx_base.specs.declared.cluster.Cluster.{Cluster}
+use Rattle.cx_base.specs.declared.command.Placed.{Placed}
+use Rattle.cx_base.specs.declared.command.Value.{Value}
+use Rattle.cx_base.specs.declared.role.Kind.TheVariants as kind
+use Rattle.cx_base.specs.declared.role.RoleId.{RoleId}
+use Rattle.cx_base.specs.declared.round.Round.{Round}
+use Rattle.cx_base.specs.Grid.{Shape}
+use Rattle.cx_base.specs.Role.{role, same_role}
+use Rattle.cx_field.specs.declared.parts.Entry.{Entry}
+use Rattle.cx_msg.specs.Letter.{Letter}
+use Rattle.cx_msg.specs.declared.input.KeptRecord.{KeptRecord}
+use Rattle.cx_msg.specs.declared.message.Msg.{Msg}
+use Rattle.cx_msg.specs.declared.message.Msg.TheVariants as msg
+use Rattle.cx_model.specs.declared.states.Mode.{Mode}
+use Rattle.cx_model.specs.declared.states.Mode.TheVariants.{Idle, Matching, Phase1, Leading}
+use Rattle.cx_model.specs.declared.states.Pending.{Pending}
+use Rattle.cx_model.specs.Batcher.{BatcherVolatile}
+use Rattle.cx_model.specs.Facts.{IsProposed, IsRetiring, LeaderWasTold, ProxyWasTold, BatcherWasTold, ReplicaWasTold, ReaderWasTold}
+use Rattle.cx_model.specs.Leader.{LeaderVolatile, leader_rules, round_of}
+use Rattle.cx_model.specs.Lists.{by_role, other_role}
+use Rattle.cx_model.specs.Member.{Member}
+use Rattle.cx_model.specs.Proxy.{ProxyVolatile}
+use Rattle.cx_model.specs.Reader.{ReaderVolatile}
+use Rattle.cx_model.specs.Replica.{ReplicaVolatile}
+use Rattle.cx_inv_run.specs.States.{State, Down, Plain, BatcherIn, LeaderIn, ProxyIn, ReplicaIn, ReaderIn, set_state, durable_of}
+use Rattle.cx_inv_run.proofs.Members.{Member-cases, Member-first, Member-second}
+use Rattle.cx_inv_run.proofs.Histories.{state_own, state_other}
+use Rattle.cx_inv_match.specs.Facts.{Says, InState, InMode, IsMatching, IsLeading, IsLast, IsPending, Facts}
+use Rattle.cx_inv_vote.specs.Laws.{IsPlainMsg}
+
+-- what was proposed or ended after more was sent, was so before or by what was sent
+
+pub proposed_cases : (sent ds : List Letter) (i : Round) (s : ℕ) (v : Value) → IsProposed (sent ++ ds) i s v → IsProposed sent i s v ⊎ IsProposed ds i s v
+proposed_cases sent ds i s v h = elim (Member-cases _ sent ds h.4) [
+  | inl m ↦ inl (h.0, h.1, h.2, h.3, m)
+  | inr m ↦ inr (h.0, h.1, h.2, h.3, m)
+]
+
+pub retiring_cases : (sent ds : List Letter) (i : Round) → IsRetiring (sent ++ ds) i → IsRetiring sent i ⊎ IsRetiring ds i
+retiring_cases sent ds i h = elim (Member-cases _ sent ds h.3) [
+  | inl m ↦ inl (h.0, h.1, h.2, m)
+  | inr m ↦ inr (h.0, h.1, h.2, m)
+]
+
+pub still_proposed : (sent ds : List Letter) (i : Round) (s : ℕ) (v : Value) → IsProposed sent i s v → IsProposed (sent ++ ds) i s v
+still_proposed sent ds i s v h = (h.0, h.1, h.2, h.3, Member-first _ sent ds h.4)
+
+pub still_retiring : (sent ds : List Letter) (i : Round) → IsRetiring sent i → IsRetiring (sent ++ ds) i
+still_retiring sent ds i h = (h.0, h.1, h.2, Member-first _ sent ds h.3)
+
+pub still_says : (c : Cluster) (history : List KeptRecord) (sent ds : List Letter) (from : RoleId) (m : Msg) → Says c history sent from m → Says c history (sent ++ ds) from m
+still_says c history sent ds from (msg.Leads i) h = h
+still_says c history sent ds from (msg.MatchA i g) h = h
+still_says c history sent ds from (msg.MatchB i w es) h = h
+still_says c history sent ds from (msg.Phase1B i cw votes) h = h
+still_says c history sent ds from (msg.Propose i g s cw v) h = h
+still_says c history sent ds from (msg.Phase2A i s cw v) h = (still_proposed sent ds i s v h.0, h.1)
+still_says c history sent ds from (msg.Phase2B i s) h = h
+still_says c history sent ds from (msg.Chosen s v) h = h
+still_says c history sent ds from (msg.ChosenIn i s) h = h
+still_says c history sent ds from (msg.Informed i n) h = h
+still_says c history sent ds from (msg.GarbageA i g) h = h
+still_says c history sent ds from other h = tt
+
+-- what a role was told, it was told
+
+pub leader_told : (sent ds : List Letter) (me : RoleId) (i : Round) (v : LeaderVolatile) → LeaderWasTold sent me i v → LeaderWasTold (sent ++ ds) me i v
+leader_told sent ds me i v h = record {
+  answers = λ a m. Member-first _ sent ds (h.answers a m);
+  promises = λ p m. Member-first _ sent ds (h.promises p m);
+  chosen = λ s t m. let r = h.chosen s t m in (r.0, Member-first _ sent ds r.1);
+  held = λ p n e. elim (h.held p n e) [ inl z ↦ inl z | inr m ↦ inr (Member-first _ sent ds m) ];
+  informed = λ a t m. let r = h.informed a t m in (r.0, r.1, r.2, Member-first _ sent ds r.3);
+  forgotten = λ a t m. Member-first _ sent ds (h.forgotten a t m);
+}
+
+pub proxy_told : (sent ds : List Letter) (me : RoleId) (v : ProxyVolatile) → ProxyWasTold sent me v → ProxyWasTold (sent ++ ds) me v
+proxy_told sent ds me v h = record {
+  proposed = λ p m. let r = h.proposed p m in (r.0, Member-first _ sent ds r.1);
+  votes = λ p a m k. Member-first _ sent ds (h.votes p a m k);
+}
+
+pub batcher_told : (sent ds : List Letter) (me : RoleId) (v : BatcherVolatile) → BatcherWasTold sent me v → BatcherWasTold (sent ++ ds) me v
+batcher_told sent ds me v h = record {
+  commands = λ k m. let r = h.commands k m in (r.0, Member-first _ sent ds r.1);
+  round = elim h.round [ inl e ↦ inl e | inr r ↦ inr (r.0, Member-first _ sent ds r.1) ];
+}
+
+pub replica_told : (sent ds : List Letter) (me : RoleId) (v : ReplicaVolatile) → ReplicaWasTold sent me v → ReplicaWasTold (sent ++ ds) me v
+replica_told sent ds me v h = record {
+  early = λ p m. let r = h.early p m in (r.0, Member-first _ sent ds r.1);
+  deferred = λ r m. let d = h.deferred r m in (d.0, Member-first _ sent ds d.1);
+}
+
+pub reader_told : (sent ds : List Letter) (me : RoleId) (v : ReaderVolatile) → ReaderWasTold sent me v → ReaderWasTold (sent ++ ds) me v
+reader_told sent ds me v h = record {
+  requests = λ r m. Member-first _ sent ds (h.requests r m);
+  answers = λ r a m k. Member-first _ sent ds (h.answers r a m k);
+  acks = λ r a m k. Member-first _ sent ds (h.acks r a m k);
+}
+
+pub still_pending : (history : List KeptRecord) (sent ds : List Letter) (p : Pending) → IsPending history sent p → IsPending history (sent ++ ds) p
+still_pending history sent ds p h = record { config = h.config; marks = h.marks; done = h.done; window = h.window }
+
+-- a round in which these datagrams propose nothing, and for which they ask nobody to forget others
+abbrev pub IsQuiet : List Letter → Round → Type 0
+IsQuiet ds i = ((s : ℕ) (v : Value) → IsProposed ds i s v → ⊥) × (IsRetiring ds i → ⊥)
+
+pub quiet_matching : (c : Cluster) (sent ds : List Letter) (own : Entry) (v : LeaderVolatile)
+    → IsQuiet ds own.round → IsMatching c sent own v → IsMatching c (sent ++ ds) own v
+quiet_matching c sent ds own v q h = record {
+  unproposed = λ s u x. elim (proposed_cases sent ds own.round s u x) [ inl y ↦ h.unproposed s u y | inr y ↦ q.0 s u y ];
+  unended = λ x. elim (retiring_cases sent ds own.round x) [ inl y ↦ h.unended y | inr y ↦ q.1 y ];
+  off = h.off;
+  once = h.once;
+  known = h.known;
+}
+
+pub quiet_leading : (c : Cluster) (history : List KeptRecord) (sent ds : List Letter) (own : Entry) (v : LeaderVolatile)
+    → ((s : ℕ) (u : Value) → IsProposed ds own.round s u → ⊥) → IsLeading c history sent own v → IsLeading c history (sent ++ ds) own v
+quiet_leading c history sent ds own v q h = record {
+  config = h.config;
+  matched = h.matched;
+  below_next = λ s u x. elim (proposed_cases sent ds own.round s u x) [ inl y ↦ h.below_next s u y | inr y ↦ absurd (q s u y) ];
+  remembered = λ s u x. elim (proposed_cases sent ds own.round s u x) [ inl y ↦ h.remembered s u y | inr y ↦ absurd (q s u y) ];
+  once = h.once;
+  window = h.window;
+  safe = h.safe;
+  free = h.free;
+  end_next = h.end_next;
+  cw_next = h.cw_next;
+  known = h.known;
+  stage = h.stage;
+}
+
+pub quiet_mode : (c : Cluster) (history : List KeptRecord) (sent ds : List Letter) (o : Option Entry) (v : LeaderVolatile) (mode : Mode)
+    → ((own : Entry) → o ≡ Some own → IsQuiet ds own.round) → InMode c history sent o v mode → InMode c history (sent ++ ds) o v mode
+quiet_mode c history sent ds None v mode q h = tt
+quiet_mode c history sent ds (Some own) v Idle q h = tt
+quiet_mode c history sent ds (Some own) v Matching q h = quiet_matching c sent ds own v (q own refl) h
+quiet_mode c history sent ds (Some own) v Phase1 q h = (quiet_matching c sent ds own v (q own refl) h.0, h.1)
+quiet_mode c history sent ds (Some own) v Leading q h = quiet_leading c history sent ds own v (q own refl).0 h
+
+-- What a role sends says what is so, proposes and ends only rounds that name it, and one value for each round and slot; and its new state is
+-- what it should be: then the facts hold.
+module _ (c : Cluster) (history : List KeptRecord) (sent : List Letter) (states : RoleId → State) (me : RoleId)
+    (facts : Facts c history sent (set_state me Down states)) (ds : List Letter) (s : State)
+    (says : (d : Letter) → Member d ds → Says c history (sent ++ ds) d.from d.msg)
+    (mine : (i : Round) (t : ℕ) (v : Value) → IsProposed ds i t v → role kind.Leader i.id ≡ me)
+    (ends : (i : Round) → IsRetiring ds i → role kind.Leader i.id ≡ me)
+    (one_value : (i : Round) (t : ℕ) (v w : Value) → IsProposed ds i t v → IsProposed (sent ++ ds) i t w → v ≡ w)
+    (running : InState c history (sent ++ ds) me s) where
+  -- the round of another leader is neither proposed in nor ended
+  other_quiet : (a : RoleId) → same_role a me ≡ false → (o : Option Entry) → IsLast history a o → (own : Entry) → o ≡ Some own → IsQuiet ds own.round
+  other_quiet a d None last own e = cc
+  other_quiet a d (Some first) last own e =
+      let p : first ≡ own = cc in
+      let q : a ≡ role kind.Leader own.round.id = subst (λ (y : Entry). a ≡ role kind.Leader y.round.id) p (facts.owner a first.round first.grid last.0) in
+      (λ t v x. other_role a me d (q ∙ mine own.round t v x), λ x. other_role a me d (q ∙ ends own.round x))
+
+  other_running : (a : RoleId) → same_role a me ≡ false → (st : State) → InState c history sent a st → InState c history (sent ++ ds) a st
+  other_running a d Down h = tt
+  other_running a d Plain h = tt
+  other_running a d (BatcherIn v) h = batcher_told sent ds a v h
+  other_running a d (LeaderIn v) h =
+      (leader_told sent ds a (round_of (durable_of leader_rules a history).own) v h.0, quiet_mode c history sent ds (durable_of leader_rules a history).own v v.mode (other_quiet a d (durable_of leader_rules a history).own (facts.last a)) h.1)
+  other_running a d (ProxyIn v) h = (proxy_told sent ds a v h.0, λ p m. still_pending history sent ds p (h.1 p m))
+  other_running a d (ReplicaIn v) h = replica_told sent ds a v h
+  other_running a d (ReaderIn v) h = (reader_told sent ds a v h.0, h.1)
+
+  pub send : Facts c history (sent ++ ds) (set_state me s states)
+  send = record {
+    owner = facts.owner;
+    one_grid = facts.one_grid;
+    last = facts.last;
+    asked = facts.asked;
+    garbaged = λ m i g x. let y = facts.garbaged m i g x in (y.0, y.1, still_retiring sent ds i y.2);
+    logs = facts.logs;
+    acceptors = facts.acceptors;
+    voted = λ a i t v h. still_proposed sent ds i t v (facts.voted a i t v h);
+    one_value = λ i t v w x y. elim (proposed_cases sent ds i t v x) [
+      | inl k ↦ (elim (proposed_cases sent ds i t w y) [ inl l ↦ facts.one_value i t v w k l | inr l ↦ sym (one_value i t w v l x) ])
+      | inr k ↦ one_value i t v w k y
+    ];
+    logged = facts.logged;
+    says = λ d m. elim (Member-cases d sent ds m) [ inl k ↦ still_says c history sent ds d.from d.msg (facts.says d k) | inr k ↦ says d k ];
+    running =
+        by_role (λ a. InState c history (sent ++ ds) a (set_state me s states a)) me
+        (subst (λ st. InState c history (sent ++ ds) me st) (sym (state_own me s states)) running)
+        (λ a e. subst (λ st. InState c history (sent ++ ds) a st) (sym (state_other me a s states e))
+        (other_running a e (states a)
+        (subst (λ st. InState c history sent a st) (state_other me a Down states e) (facts.running a))));
+  }
+
+-- Datagrams that propose nothing and end no round.
+abbrev pub QuietSends : List Letter → Type 0
+QuietSends ds = (d : Letter) → Member d ds → IsPlainMsg d.msg
+
+pub quiet_round : (ds : List Letter) → QuietSends ds → (i : Round) → IsQuiet ds i
+quiet_round ds quiet i = (λ s v x. (quiet _ x.4).0 i x.2 s x.3 v refl, λ x. (quiet _ x.3).1 i x.2 refl)
+
+-- what a role knows stays so while they are sent
+pub still_state : (c : Cluster) (history : List KeptRecord) (sent ds : List Letter) → QuietSends ds → (me : RoleId) (s : State)
+    → InState c history sent me s → InState c history (sent ++ ds) me s
+still_state c history sent ds quiet me Down h = tt
+still_state c history sent ds quiet me Plain h = tt
+still_state c history sent ds quiet me (BatcherIn v) h = batcher_told sent ds me v h
+still_state c history sent ds quiet me (LeaderIn v) h =
+    (leader_told sent ds me (round_of (durable_of leader_rules me history).own) v h.0,
+      quiet_mode c history sent ds (durable_of leader_rules me history).own v v.mode (λ own e. quiet_round ds quiet own.round) h.1)
+still_state c history sent ds quiet me (ProxyIn v) h = (proxy_told sent ds me v h.0, λ p m. still_pending history sent ds p (h.1 p m))
+still_state c history sent ds quiet me (ReplicaIn v) h = replica_told sent ds me v h
+still_state c history sent ds quiet me (ReaderIn v) h = (reader_told sent ds me v h.0, h.1)
+
+-- the frame: the facts hold after they are sent
+pub send_plain : (c : Cluster) (history : List KeptRecord) (sent : List Letter) (states : RoleId → State) (me : RoleId)
+    → Facts c history sent (set_state me Down states) → (ds : List Letter) (s : State)
+    → ((d : Letter) → Member d ds → Says c history (sent ++ ds) d.from d.msg) → QuietSends ds
+    → InState c history (sent ++ ds) me s → Facts c history (sent ++ ds) (set_state me s states)
+send_plain c history sent states me facts ds s says quiet running =
+    send c history sent states me facts ds s says
+    (λ i t v x. absurd ((quiet_round ds quiet i).0 t v x)) (λ i x. absurd ((quiet_round ds quiet i).1 x))
+    (λ i t v w x y. absurd ((quiet_round ds quiet i).0 t v x)) running
