@@ -1,1 +1,4 @@
 pub mod Above
+pub mod Rows
+pub mod Says
+pub mod Unread
