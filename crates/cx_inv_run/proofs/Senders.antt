@@ -1,5 +1,5 @@
 -- Which kinds of datagrams and records each kind of role sends and keeps: one walk over all rows, and what it gives of every run.
-use Rattle.std.proofs.Common.{◌≡◌, ℕ, Bool, true, false, ◌⊎◌, List, [], ◌∷◌, ◌++◌, map, filter, reverse, Option, None, Some, ap, sym, ◌∙◌, subst, refl, inl, inr}
+use Rattle.std.proofs.Common.{◌≡◌, ℕ, Bool, List, [], ◌∷◌, ◌++◌, map, filter, Option, None, Some, sym, subst, refl, inl, inr}
 use Rattle.std.specs.Prelude.{◌+◌, ◌%◌, not, ◌==◌, ◌&&◌, ◌||◌, nat_lt, nat_le, length, if◌then◌else◌, slice_get, slice_index_or}
 use Rattle.std.specs.List.{list_any}
 use Rattle.cx_base.specs.declared.cluster.Cluster.{Cluster}
@@ -7,11 +7,8 @@ use Rattle.cx_base.specs.declared.command.Answered.{Answered}
 use Rattle.cx_base.specs.declared.command.Command.{Command}
 use Rattle.cx_base.specs.declared.command.Placed.{Placed}
 use Rattle.cx_base.specs.declared.command.Value.{Value}
-use Rattle.cx_base.specs.declared.event.Event.{Event}
-use Rattle.cx_base.specs.declared.event.Event.TheVariants as event
 use Rattle.cx_base.specs.declared.event.Order.{Order as OrderOf}
 use Rattle.cx_base.specs.declared.event.Order.TheVariants.{Lead, Change, Collect}
-use Rattle.cx_base.specs.declared.role.Kind.{Kind}
 use Rattle.cx_base.specs.declared.role.Kind.TheVariants as kind
 use Rattle.cx_base.specs.declared.role.RoleId.{RoleId}
 use Rattle.cx_base.specs.declared.round.Round.{Round}
@@ -19,18 +16,15 @@ use Rattle.cx_base.specs.declared.why.Why.{Why}
 use Rattle.cx_base.specs.Grid.{Shape, is_in}
 use Rattle.cx_base.specs.Lists.{below, numbers}
 use Rattle.cx_base.specs.Log.{ready_values}
-use Rattle.cx_base.specs.Role.{role, same_role}
+use Rattle.cx_base.specs.Role.{same_role}
 use Rattle.cx_base.specs.Round.{is_before, same_round, lead_after, change_after}
 use Rattle.cx_field.specs.declared.parts.Entry.{Entry}
 use Rattle.cx_field.specs.declared.parts.Token.{Token}
-use Rattle.cx_field.specs.declared.parts.Vote.{Vote}
 use Rattle.cx_grid.specs.Quorum.{column_whole, with_mark}
 use Rattle.cx_msg.specs.Letter.{Letter, letter}
 use Rattle.cx_msg.specs.declared.input.Input.{Input}
 use Rattle.cx_msg.specs.declared.input.Input.TheVariants.{Take, Tick, Order}
-use Rattle.cx_msg.specs.declared.input.KeptRecord.{KeptRecord}
 use Rattle.cx_msg.specs.declared.kept.Record.{Record}
-use Rattle.cx_msg.specs.declared.kept.Record.TheVariants as kept
 use Rattle.cx_msg.specs.declared.message.Msg.{Msg}
 use Rattle.cx_msg.specs.declared.message.Msg.TheVariants as msg
 use Rattle.cx_model.specs.declared.states.Deferred.{Deferred}
@@ -51,14 +45,10 @@ use Rattle.cx_model.specs.Plan.{promised_by, has_promised, plan, placed_from}
 use Rattle.cx_model.specs.Proxy.{ProxyVolatile, raised_to, pending_of, pending_at, phase2a_to, column_for, members_for, chosen_to, chosen_in_to, announcement, ask, propose_over, vote_for, proxy_takes, again_for, again_at, proxy_tick, proxy_row}
 use Rattle.cx_model.specs.Reader.{ReaderVolatile, Reading, reading, token, reading_of, is_matched, acked_by, has_acked, greatest_mark, match_read_to, pre_read_to, ask_matchmakers, read_req_over, send_read, read_matched, match_ack_counted, match_ack_row, pre_read_counted, pre_read_ack_row, reader_takes, reader_row}
 use Rattle.cx_model.specs.Replica.{ReplicaDurable, ReplicaVolatile, Machine, execute_value, machine_of, results_at, results_from, read_answer_to, read_answers, apply, fetch_found, held_to, fetch_to, replica_takes, replica_tick, replica_row}
-use Rattle.cx_model.specs.Request.{request, same_read}
+use Rattle.cx_model.specs.Request.{same_read}
 use Rattle.cx_model.specs.Unbatcher.{answer_to, unbatcher_takes, unbatcher_row}
-use Rattle.cx_model.specs.World.{run}
-use Rattle.cx_inv_run.specs.Kinds.{IsSender, IsKeeper, IsKept, OfKind, Kinds, KindsLaw}
-use Rattle.cx_inv_run.specs.States.{State, set_state, entry_by, with_record, Property, HoldsIn}
-use Rattle.cx_inv_run.specs.Laws.{Lands, Laws, anything}
-use Rattle.cx_inv_run.proofs.Members.{Member-cases, Member-both, Member-map, Member-one, Member-reverse, Member-turned}
-use Rattle.cx_inv_run.proofs.Steps.{run_keeps, along_anything, all_allowed}
+use Rattle.cx_inv_run.specs.Kinds.{IsSender, IsKeeper, OfKind}
+use Rattle.cx_inv_run.proofs.Members.{Member-both, Member-map, Member-one}
 
 -- datagrams of one role, each of its kind
 abbrev AreOwn : RoleId → List Letter → Type 0

@@ -21,24 +21,24 @@ use Rattle.cx_msg.specs.declared.input.Input.TheVariants as input
 use Rattle.cx_msg.specs.declared.input.KeptRecord.{KeptRecord}
 use Rattle.cx_msg.specs.declared.kept.Record.{Record}
 use Rattle.cx_field.specs.declared.parts.Token.{Token}
-use Rattle.cx_model.specs.Acceptor.{AcceptorDurable, acceptor_rules, acceptor_row}
+use Rattle.cx_model.specs.Acceptor.{acceptor_rules, acceptor_row}
 use Rattle.cx_model.specs.Batcher.{BatcherVolatile, batcher_rules, batcher_row}
-use Rattle.cx_model.specs.Leader.{LeaderDurable, LeaderVolatile, leader_rules, leader_row}
+use Rattle.cx_model.specs.Leader.{LeaderVolatile, leader_rules, leader_row}
 use Rattle.cx_model.specs.Lists.{get_set_same, get_set_other, other_role, role_from_parts, number_itself, kind_same}
-use Rattle.cx_model.specs.Matchmaker.{MatchmakerDurable, matchmaker_rules, matchmaker_row}
+use Rattle.cx_model.specs.Matchmaker.{matchmaker_rules, matchmaker_row}
 use Rattle.cx_model.specs.Outcome.{Outcome}
 use Rattle.cx_model.specs.Proxy.{ProxyVolatile, proxy_rules, proxy_row}
 use Rattle.cx_model.specs.Reader.{ReaderVolatile, reader_rules, reader_row}
-use Rattle.cx_model.specs.Replica.{ReplicaDurable, ReplicaVolatile, replica_rules, replica_row}
-use Rattle.cx_model.specs.Request.{token_of, is_stale, request}
+use Rattle.cx_model.specs.Replica.{ReplicaVolatile, replica_rules, replica_row}
+use Rattle.cx_model.specs.Request.{is_stale, request}
 use Rattle.cx_model.specs.Rules.{Rules}
 use Rattle.cx_model.specs.Turn.{Turn, turn, turn_with}
 use Rattle.cx_model.specs.Unbatcher.{unbatcher_rules, unbatcher_row}
-use Rattle.cx_model.specs.World.{World, Roles, Change, Turns, change, changed, nothing, ask, come, act_at, act_of, turn_found, turn_at, durable_part, kept_by, fresh_roles, start, step, run, run_from}
+use Rattle.cx_model.specs.World.{World, Roles, Change, change, changed, nothing, come, act_at, act_of, turn_found, durable_part, kept_by, fresh_roles, start, step, run, run_from}
 use Rattle.cx_inv_run.specs.States.{State, Down, Plain, BatcherIn, LeaderIn, ProxyIn, ReplicaIn, ReaderIn, plain, state_of, state_found, state_in, states_of, fresh_state, set_state, entry_by, with_record, durable_of, Given, Property, HoldsIn}
 use Rattle.cx_inv_run.specs.Laws.{Lands, Laws, anything, AllAllowed, HoldsAlong, StepLaw, RunFromLaw, RunLaw}
 use Rattle.cx_inv_run.proofs.Members.{Member-at}
-use Rattle.cx_inv_run.proofs.Histories.{durable_by_time, set_running, set_same, state_other}
+use Rattle.cx_inv_run.proofs.Histories.{durable_by_time, set_running, set_same}
 
 -- How the roles of one kind stand among all: their list, all roles with another list of theirs, and what a role's state is.
 record Place (V : Type 0) (k : Kind) (make : V → State) : Type 0 where

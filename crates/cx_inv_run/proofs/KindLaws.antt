@@ -1,0 +1,89 @@
+-- In every run each datagram and each record is of its role's kind.
+use Rattle.std.proofs.Common.{List, [], ◌++◌, Option, None, Some, sym, subst, refl, inl, inr}
+use Rattle.cx_base.specs.declared.cluster.Cluster.{Cluster}
+use Rattle.cx_base.specs.declared.event.Event.{Event}
+use Rattle.cx_base.specs.declared.event.Event.TheVariants as event
+use Rattle.cx_base.specs.declared.role.Kind.TheVariants as kind
+use Rattle.cx_base.specs.declared.role.RoleId.{RoleId}
+use Rattle.cx_base.specs.Role.{role}
+use Rattle.cx_msg.specs.Letter.{Letter}
+use Rattle.cx_msg.specs.declared.input.KeptRecord.{KeptRecord}
+use Rattle.cx_msg.specs.declared.kept.Record.{Record}
+use Rattle.cx_model.specs.Acceptor.{acceptor_rules}
+use Rattle.cx_model.specs.Leader.{leader_rules}
+use Rattle.cx_model.specs.Matchmaker.{matchmaker_rules}
+use Rattle.cx_model.specs.Member.{Member}
+use Rattle.cx_model.specs.Outcome.{Outcome}
+use Rattle.cx_model.specs.Replica.{replica_rules}
+use Rattle.cx_model.specs.Request.{request}
+use Rattle.cx_model.specs.World.{run}
+use Rattle.cx_inv_run.specs.Kinds.{IsSender, IsKeeper, IsKept, OfKind, Kinds, KindsLaw}
+use Rattle.cx_inv_run.specs.Laws.{Lands, Laws, anything}
+use Rattle.cx_inv_run.specs.States.{State, BatcherIn, LeaderIn, ProxyIn, ReplicaIn, ReaderIn, plain, with_record, durable_of, HoldsIn}
+use Rattle.cx_inv_run.proofs.Members.{Member-both, Member-one, Member-reverse}
+use Rattle.cx_inv_run.proofs.Senders.{acceptor_kinds, matchmaker_kinds, batcher_kinds, unbatcher_kinds, proxy_kinds, replica_kinds, reader_kinds, leader_kinds}
+use Rattle.cx_inv_run.proofs.Sends.{keeps_only}
+use Rattle.cx_inv_run.proofs.Steps.{run_keeps, along_anything, all_allowed}
+
+-- the states don't matter
+restated : (kept : List KeptRecord) (sent : List Letter) (states others : RoleId → State) → Kinds kept sent states → Kinds kept sent others
+restated kept sent states others h = record { senders = h.senders; keepers = h.keepers }
+
+-- a request is of a client's kind
+requested : (e : Event) (d : Letter) → Member d (request e) → IsSender d.from.kind d.msg
+requested (event.Write command batcher) d m = Member-one (λ d. IsSender d.from.kind d.msg) _ refl d m
+requested (event.Read client seq reader replica key) d m = Member-one (λ d. IsSender d.from.kind d.msg) _ refl d m
+requested (event.Deliver number cut) d m = absurd m
+requested (event.Tick r) d m = absurd m
+requested (event.Order leader order cut) d m = absurd m
+requested (event.Crash r) d m = absurd m
+requested (event.Restart r) d m = absurd m
+
+module _ (kept : List KeptRecord) (sent : List Letter) (states : RoleId → State) (h : Kinds kept sent states) where
+  sent_more : (ds : List Letter) → ((d : Letter) → Member d ds → IsSender d.from.kind d.msg) → (d : Letter) → Member d (sent ++ ds) → IsSender d.from.kind d.msg
+  sent_more ds own = Member-both (λ (d : Letter). IsSender d.from.kind d.msg) sent ds h.senders own
+
+  kept_more : (me : RoleId) (o : Option Record) → IsKept me.kind o → (k : KeptRecord) → Member k (with_record me o kept) → IsKeeper k.role.kind k.what
+  kept_more me None own k m = h.keepers k m
+  kept_more me (Some r) own k (inl e) = subst (λ (x : KeptRecord). IsKeeper x.role.kind x.what) (sym e) own
+  kept_more me (Some r) own k (inr m) = h.keepers k m
+
+  -- a row whose outcome is of its role's kind
+  landed : {V : Type 0} (me : RoleId) (make : V → State) (o : Outcome V) → OfKind me o → Lands Kinds kept sent states me make o
+  landed me make o kinds = record {
+    whole = record {
+      senders = sent_more o.sends (λ d m. let own = kinds.sends d m in subst (λ (from : RoleId). IsSender from.kind d.msg) (sym own.0) own.1);
+      keepers = kept_more me o.kept kinds.keeps;
+    };
+    cut = λ r e. record { senders = h.senders; keepers = kept_more me (Some r) (keeps_only me o r kinds e) };
+  }
+
+pub kinds_laws : (c : Cluster) → Laws c (λ e. Unit {0}) anything Kinds
+kinds_laws c = record {
+  same = λ kept sent states others e h. restated kept sent states others h;
+  start = λ states fresh. record { senders = λ d m. absurd m; keepers = λ k m. absurd m };
+  stop = λ kept sent states me h. restated kept sent states _ h;
+  wake = λ kept sent states me h e. restated kept sent states _ h;
+  ask = λ kept sent states e allowed knows h. record { senders = sent_more kept sent states h (request e) (requested e); keepers = h.keepers };
+  batcher = λ kept sent states b v i knows h is given. landed kept sent states h (role kind.Batcher b) BatcherIn _ (batcher_kinds c (role kind.Batcher b) refl v i);
+  leader = λ kept sent states l v i knows h is given.
+      landed kept sent states h (role kind.Leader l) LeaderIn _ (leader_kinds c (role kind.Leader l) refl (durable_of leader_rules (role kind.Leader l) kept) v i);
+  proxy = λ kept sent states p v i knows h is given. landed kept sent states h (role kind.Proxy p) ProxyIn _ (proxy_kinds c (role kind.Proxy p) refl v i);
+  acceptor = λ kept sent states a i knows h is given.
+      landed kept sent states h (role kind.Acceptor a) plain _ (acceptor_kinds c (role kind.Acceptor a) refl (durable_of acceptor_rules (role kind.Acceptor a) kept) i);
+  matchmaker = λ kept sent states m i knows h is given.
+      landed kept sent states h (role kind.Matchmaker m) plain _ (matchmaker_kinds c (role kind.Matchmaker m) refl (durable_of matchmaker_rules (role kind.Matchmaker m) kept) i);
+  replica = λ kept sent states p v i knows h is given.
+      landed kept sent states h (role kind.Replica p) ReplicaIn _ (replica_kinds c (role kind.Replica p) refl (durable_of replica_rules (role kind.Replica p) kept) v i);
+  unbatcher = λ kept sent states u i knows h is given. landed kept sent states h (role kind.Unbatcher u) plain _ (unbatcher_kinds c (role kind.Unbatcher u) refl i);
+  reader = λ kept sent states r v i knows h is given. landed kept sent states h (role kind.Reader r) ReaderIn _ (reader_kinds c (role kind.Reader r) refl v i);
+}
+
+pub kinds_hold : (c : Cluster) (es : List Event) → HoldsIn Kinds (run c es)
+kinds_hold c es = run_keeps c (λ e. Unit {0}) anything Kinds (kinds_laws c) es (along_anything (run c []) es) (all_allowed (run c []) es)
+
+pub kinds_are_so : KindsLaw
+kinds_are_so = record {
+  senders = λ c es d m. (kinds_hold c es).senders d m;
+  keepers = λ c es k m. (kinds_hold c es).keepers k (Member-reverse k ((run c es).kept) m);
+}
