@@ -26,7 +26,7 @@ use Rattle.cx_model.specs.declared.states.Stage.TheVariants.{Off, Informing, Col
 use Rattle.cx_model.specs.Acceptor.{AcceptorDurable, acceptor_rules}
 use Rattle.cx_model.specs.Collection.{Collection}
 use Rattle.cx_model.specs.Facts.{HasVoted, IsProposed, IsRetiring, LeaderWasTold, ProxyWasTold, BatcherWasTold, ReplicaWasTold, ReaderWasTold}
-use Rattle.cx_model.specs.Leader.{LeaderVolatile, leader_rules, round_of}
+use Rattle.cx_model.specs.Leader.{LeaderVolatile, leader_rules, round_of, is_idle}
 use Rattle.cx_model.specs.Matchmaker.{MatchmakerDurable, matchmaker_rules, entry}
 use Rattle.cx_model.specs.Member.{Member}
 use Rattle.cx_model.specs.Promises.{HasKept, IsConfig}
@@ -96,9 +96,9 @@ pub record IsLeading (c : Cluster) (history : List KeptRecord) (sent : List Lett
   pub known : (s : ℕ) → Member s v.chosen → (u : Value) × IsChosenIn history own.round s u
   pub stage : InStage c history own v.end v.collection v.collection.stage
 
--- the record by which a leader asks the matchmakers is kept before
+-- the record by which a leader asks the matchmakers is kept before, so one without a round is idle
 abbrev pub InMode : Cluster → List KeptRecord → List Letter → Option Entry → LeaderVolatile → Mode → Type 0
-InMode c history sent None v mode = Unit {0}
+InMode c history sent None v mode = is_idle mode ≡ true
 InMode c history sent (Some own) v Idle = Unit {0}
 InMode c history sent (Some own) v Matching = IsMatching c sent own v
 InMode c history sent (Some own) v Phase1 = IsMatching c sent own v × (c.f < length v.told)

@@ -138,7 +138,7 @@ quiet_leading c history sent ds own v q h = record {
 
 pub quiet_mode : (c : Cluster) (history : List KeptRecord) (sent ds : List Letter) (o : Option Entry) (v : LeaderVolatile) (mode : Mode)
     → ((own : Entry) → o ≡ Some own → IsQuiet ds own.round) → InMode c history sent o v mode → InMode c history (sent ++ ds) o v mode
-quiet_mode c history sent ds None v mode q h = tt
+quiet_mode c history sent ds None v mode q h = h
 quiet_mode c history sent ds (Some own) v Idle q h = tt
 quiet_mode c history sent ds (Some own) v Matching q h = quiet_matching c sent ds own v (q own refl) h
 quiet_mode c history sent ds (Some own) v Phase1 q h = (quiet_matching c sent ds own v (q own refl) h.0, h.1)

@@ -1,0 +1,170 @@
+-- The facts of a moment in which nothing has happened, a role that was just opened, and a request that goes out.
+use Rattle.std.proofs.Common.{◌≡◌, ℕ, zero, suc, true, false, ◌⊎◌, List, [], ◌∷◌, ◌++◌, map, Option, Some, None, inl, inr, sym, subst, refl, append-nil}
+use Rattle.std.specs.Prelude.{slice_get}
+use Rattle.std.proofs.lemmas.Option.{same_Some}
+use Rattle.cx_base.specs.declared.cluster.Cluster.{Cluster}
+use Rattle.cx_base.specs.declared.command.Value.{Value}
+use Rattle.cx_base.specs.declared.event.Event.{Event}
+use Rattle.cx_base.specs.declared.event.Event.TheVariants as event
+use Rattle.cx_base.specs.declared.role.Kind.{Kind}
+use Rattle.cx_base.specs.declared.role.Kind.TheVariants as kind
+use Rattle.cx_base.specs.declared.role.RoleId.{RoleId}
+use Rattle.cx_base.specs.declared.round.Round.{Round}
+use Rattle.cx_base.specs.Lists.{below}
+use Rattle.cx_base.specs.Role.{role}
+use Rattle.cx_base.specs.Round.{is_before, no_round}
+use Rattle.cx_msg.specs.Letter.{Letter, letter}
+use Rattle.cx_msg.specs.declared.input.KeptRecord.{KeptRecord}
+use Rattle.cx_msg.specs.declared.message.Msg.TheVariants as msg
+use Rattle.cx_model.specs.Acceptor.{acceptor_rules}
+use Rattle.cx_model.specs.Leader.{leader_rules, idle_leader, round_of}
+use Rattle.cx_model.specs.Matchmaker.{matchmaker_rules}
+use Rattle.cx_model.specs.Member.{Member}
+use Rattle.cx_model.specs.Replica.{replica_rules}
+use Rattle.cx_model.specs.Request.{request}
+use Rattle.cx_inv_run.specs.States.{State, Down, fresh_state, set_state, durable_of}
+use Rattle.cx_inv_run.proofs.Histories.{set_running, set_same}
+use Rattle.cx_inv_run.proofs.Members.{Member-one}
+use Rattle.cx_inv_run.proofs.Rounds.{before-both, least}
+use Rattle.cx_inv_match.specs.Facts.{Says, InState, IsLast, IsLog, IsAcceptor, Facts}
+use Rattle.cx_inv_match.specs.Words.{HasMark, IsChosen}
+use Rattle.cx_inv_match.proofs.Keep.{stop, same_states}
+use Rattle.cx_inv_vote.specs.Laws.{IsPlainMsg}
+use Rattle.cx_inv_vote.proofs.Moves.{idle_mode}
+use Rattle.cx_inv_vote.proofs.Send.{QuietSends, still_state, send_plain}
+
+-- a role that was just opened
+
+zeros : (ns : List ℕ) (p n : ℕ) → slice_get (map (λ (r : ℕ). 0) ns) p ≡ Some n → n ≡ 0
+zeros [] p n e = cc
+zeros (m ∷ ns) zero n e = sym (same_Some 0 n e)
+zeros (m ∷ ns) (suc p) n e = zeros ns p n e
+
+pub fresh_holds : (c : Cluster) (history : List KeptRecord) (sent : List Letter) (me : RoleId) (k : Kind) → InState c history sent me (fresh_state c k)
+fresh_holds c history sent me kind.Client = tt
+fresh_holds c history sent me kind.Batcher = record { commands = λ k m. absurd m; round = inl refl }
+fresh_holds c history sent me kind.Leader = (
+  record {
+    answers = λ a m. absurd m;
+    promises = λ p m. absurd m;
+    chosen = λ s t m. absurd m;
+    held = λ p n e. inl (zeros (below c.replicas) p n e);
+    informed = λ a t m. absurd m;
+    forgotten = λ a t m. absurd m;
+  },
+  idle_mode c history sent (durable_of leader_rules me history).own (idle_leader c),
+)
+fresh_holds c history sent me kind.Proxy = (record { proposed = λ p m. absurd m; votes = λ p a m k. absurd m }, λ p m. absurd m)
+fresh_holds c history sent me kind.Acceptor = tt
+fresh_holds c history sent me kind.Matchmaker = tt
+fresh_holds c history sent me kind.Replica = record { early = λ p m. absurd m; deferred = λ r m. absurd m }
+fresh_holds c history sent me kind.Unbatcher = tt
+fresh_holds c history sent me kind.Reader =
+    (record { requests = λ r m. absurd m; answers = λ r a m k. absurd m; acks = λ r a m k. absurd m }, λ r m f a k. m)
+
+-- it doesn't matter in which state it was before
+pub wake : (c : Cluster) (history : List KeptRecord) (sent : List Letter) (states : RoleId → State) (me : RoleId)
+    → Facts c history sent states → Facts c history sent (set_state me (fresh_state c me.kind) states)
+wake c history sent states me facts = record {
+  owner = facts.owner;
+  one_grid = facts.one_grid;
+  last = facts.last;
+  asked = facts.asked;
+  garbaged = facts.garbaged;
+  logs = facts.logs;
+  acceptors = facts.acceptors;
+  voted = facts.voted;
+  one_value = facts.one_value;
+  logged = facts.logged;
+  says = facts.says;
+  running = set_running (λ a s. InState c history sent a s) me (fresh_state c me.kind) states (fresh_holds c history sent me me.kind) (λ a e. facts.running a);
+}
+
+-- nothing has happened
+
+start_last : (me : RoleId) → IsLast [] me (durable_of leader_rules me []).own
+unfolding durable_of
+start_last me = λ i g m. m
+
+start_log : (m : RoleId) → IsLog [] m (durable_of matchmaker_rules m [])
+unfolding durable_of
+start_log m = record {
+  all = λ j g l x. x;
+  only = λ e x. absurd x;
+  from_watermark = λ e x. absurd x;
+  bound = λ j g x. absurd x;
+  raised = inl (refl, λ j g x. x);
+}
+
+no_mark : (a : RoleId) (i : Round) (n : ℕ) → HasMark [] a i n → ⊥
+no_mark a i n (inl x) = x.2
+no_mark a i n (inr m) = m
+
+start_acceptor : (a : RoleId) → IsAcceptor [] a (durable_of acceptor_rules a [])
+unfolding durable_of
+start_acceptor a = record {
+  bound = λ i p. absurd (elim p [ inl m ↦ m | inr h ↦ no_mark a i h.0 h.1 ]);
+  promised = λ j l. absurd (before-both j no_round l (least j));
+  last = λ j s v l x. absurd x.1;
+  only = λ u m. absurd m;
+  mark = λ j n x. absurd (no_mark a j n x);
+  low = inl refl;
+  top = λ j s v x. absurd x.1;
+}
+
+start_values : (p : RoleId) (s : ℕ) (v : Value) → slice_get (durable_of replica_rules p []).log s ≡ Some v → IsChosen [] s v
+unfolding durable_of
+start_values p s v e = cc
+
+pub start_facts : (c : Cluster) (states : RoleId → State) → ((a : RoleId) → (states a ≡ Down) ⊎ (states a ≡ fresh_state c a.kind)) → Facts c [] [] states
+start_facts c states fresh = record {
+  owner = λ me i g m. absurd m;
+  one_grid = λ i g h x y. absurd x.1;
+  last = start_last;
+  asked = λ m i g x. absurd x;
+  garbaged = λ m i g x. absurd x;
+  logs = start_log;
+  acceptors = start_acceptor;
+  voted = λ a i s v x. absurd x.1;
+  one_value = λ i s u v x y. absurd x.4;
+  logged = start_values;
+  says = λ d m. absurd m;
+  running = λ a. elim (fresh a) [
+    | inl e ↦ subst (λ s. InState c [] [] a s) (sym e) tt
+    | inr e ↦ subst (λ s. InState c [] [] a s) (sym e) (fresh_holds c [] [] a a.kind)
+  ];
+}
+
+-- a request
+
+request_says : (c : Cluster) (history : List KeptRecord) (longer : List Letter) (e : Event) (d : Letter) → Member d (request e) → Says c history longer d.from d.msg
+request_says c history longer (event.Write command batcher) =
+    Member-one (λ (d : Letter). Says c history longer d.from d.msg) (letter (role kind.Client command.client) (role kind.Batcher batcher) (msg.Submit command)) tt
+request_says c history longer (event.Read client seq reader replica key) =
+    Member-one (λ (d : Letter). Says c history longer d.from d.msg) (letter (role kind.Client client) (role kind.Reader reader) (msg.ReadReq seq replica key)) tt
+request_says c history longer (event.Deliver number cut) = λ d m. absurd m
+request_says c history longer (event.Tick r) = λ d m. absurd m
+request_says c history longer (event.Order leader order cut) = λ d m. absurd m
+request_says c history longer (event.Crash r) = λ d m. absurd m
+request_says c history longer (event.Restart r) = λ d m. absurd m
+
+request_quiet : (e : Event) → QuietSends (request e)
+request_quiet (event.Write command batcher) =
+    Member-one (λ (d : Letter). IsPlainMsg d.msg) (letter (role kind.Client command.client) (role kind.Batcher batcher) (msg.Submit command)) (λ i g s cw v e. cc, λ i g e. cc)
+request_quiet (event.Read client seq reader replica key) =
+    Member-one (λ (d : Letter). IsPlainMsg d.msg) (letter (role kind.Client client) (role kind.Reader reader) (msg.ReadReq seq replica key)) (λ i g s cw v e. cc, λ i g e. cc)
+request_quiet (event.Deliver number cut) = λ d m. absurd m
+request_quiet (event.Tick r) = λ d m. absurd m
+request_quiet (event.Order leader order cut) = λ d m. absurd m
+request_quiet (event.Crash r) = λ d m. absurd m
+request_quiet (event.Restart r) = λ d m. absurd m
+
+pub asked : (c : Cluster) (history : List KeptRecord) (sent : List Letter) (states : RoleId → State) (e : Event)
+    → Facts c history sent states → Facts c history (sent ++ request e) states
+asked c history sent states e facts =
+    let client : RoleId = role kind.Client 0 in
+    same_states c history (sent ++ request e) (set_state client (states client) states) states
+    (λ a. sym (set_same client (states client) states refl a))
+    (send_plain c history sent states client (stop c history sent states client facts) (request e) (states client)
+    (request_says c history (sent ++ request e) e) (request_quiet e)
+    (still_state c history sent (request e) (request_quiet e) client (states client) (facts.running client)))
