@@ -2,3 +2,5 @@ pub mod Above
 pub mod Rows
 pub mod Says
 pub mod Unread
+pub mod Keep
+pub mod Steps

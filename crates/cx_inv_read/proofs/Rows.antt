@@ -151,7 +151,7 @@ module _ (P : Letter → Type 0) (c : Cluster) (me : RoleId) (plain : (to : Role
 make_token : ℕ → ℕ → Token
 make_token client seq = record { client = client; seq = seq }
 
-same_read-true : (t u : Token) → same_read t u ≡ true → t ≡ u
+pub same_read-true : (t u : Token) → same_read t u ≡ true → t ≡ u
 same_read-true t u h =
     let p = and_parts (t.client == u.client) (t.seq == u.seq) h in
     let q = same_number t.client u.client p.0 in

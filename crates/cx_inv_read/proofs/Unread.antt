@@ -23,21 +23,22 @@ use Rattle.cx_msg.specs.declared.input.KeptRecord.{KeptRecord}
 use Rattle.cx_msg.specs.declared.message.Msg.{Msg}
 use Rattle.cx_msg.specs.declared.message.Msg.TheVariants as msg
 use Rattle.cx_model.specs.declared.states.Deferred.{Deferred}
-use Rattle.cx_model.specs.Acceptor.{AcceptorDurable, acceptor_takes, acceptor_row}
+use Rattle.cx_model.specs.Acceptor.{AcceptorDurable, acceptor_rules, acceptor_takes, acceptor_row}
 use Rattle.cx_model.specs.Facts.{ReplicaWasTold}
 use Rattle.cx_model.specs.History.{was_asked}
+use Rattle.cx_model.specs.Leader.{leader_rules}
 use Rattle.cx_model.specs.Lists.{number_itself}
-use Rattle.cx_model.specs.Matchmaker.{MatchmakerDurable, matchmaker_takes, matchmaker_row}
+use Rattle.cx_model.specs.Matchmaker.{MatchmakerDurable, matchmaker_rules, matchmaker_takes, matchmaker_row}
 use Rattle.cx_model.specs.Member.{Member}
 use Rattle.cx_model.specs.Names.{names}
 use Rattle.cx_model.specs.Outcome.{Outcome, either_way}
 use Rattle.cx_model.specs.Reader.{Reading, ReaderVolatile, reading, token, reading_of, reader_takes, reader_row}
-use Rattle.cx_model.specs.Replica.{ReplicaDurable, ReplicaVolatile, read_answer_to, replica_takes, replica_row}
+use Rattle.cx_model.specs.Replica.{ReplicaDurable, ReplicaVolatile, replica_rules, read_answer_to, replica_takes, replica_row}
 use Rattle.cx_model.specs.Request.{token_of, same_token, was_sent, is_sent, request}
 use Rattle.cx_model.specs.World.{World, change, step, run_from}
 use Rattle.cx_inv_run.specs.Kinds.{IsSender}
 use Rattle.cx_inv_run.specs.Laws.{Lands, Laws, AllAllowed}
-use Rattle.cx_inv_run.specs.States.{State, ReplicaIn, Given}
+use Rattle.cx_inv_run.specs.States.{State, ReplicaIn, Given, durable_of}
 use Rattle.cx_inv_run.proofs.Members.{Member-cases, Member-first, Member-second, Member-one, Member-any, any-Member}
 use Rattle.cx_inv_run.proofs.Senders.{batcher_kinds, leader_kinds, proxy_kinds, unbatcher_kinds}
 use Rattle.cx_inv_run.proofs.Sends.{batcher_sends, leader_sends, proxy_sends, unbatcher_sends, sends_only}
@@ -152,19 +153,19 @@ module _ (t : Token) where
         (λ to. batcher_sends (λ m. IsElse t (role kind.Batcher b) to m) (λ commands. tt)));
     leader = λ history sent states l v i known h up given.
         lands history sent states h (role kind.Leader l) _ _
-        (sends_only Fresh (role kind.Leader l) _ (leader_kinds c (role kind.Leader l) refl _ v i)
+        (sends_only Fresh (role kind.Leader l) _ (leader_kinds c (role kind.Leader l) refl (durable_of leader_rules (role kind.Leader l) history) v i)
         (λ to. leader_sends (λ m. IsElse t (role kind.Leader l) to m) (λ j. tt) (λ j g. tt) (λ j. tt) (λ j g s cw u. tt) (λ j cw. tt) (λ j g. tt)));
     proxy = λ history sent states p v i known h up given.
         lands history sent states h (role kind.Proxy p) _ _
         (sends_only Fresh (role kind.Proxy p) _ (proxy_kinds c (role kind.Proxy p) refl v i)
         (λ to. proxy_sends (λ m. IsElse t (role kind.Proxy p) to m) (λ j s cw u. tt) (λ s u. tt) (λ j s. tt)));
     acceptor = λ history sent states a i known h up given.
-        lands history sent states h (role kind.Acceptor a) _ _ (acceptor_fresh c (role kind.Acceptor a) _ sent h i given);
+        lands history sent states h (role kind.Acceptor a) _ _ (acceptor_fresh c (role kind.Acceptor a) (durable_of acceptor_rules (role kind.Acceptor a) history) sent h i given);
     matchmaker = λ history sent states m i known h up given.
-        lands history sent states h (role kind.Matchmaker m) _ _ (matchmaker_fresh c (role kind.Matchmaker m) _ sent h i given);
+        lands history sent states h (role kind.Matchmaker m) _ _ (matchmaker_fresh c (role kind.Matchmaker m) (durable_of matchmaker_rules (role kind.Matchmaker m) history) sent h i given);
     replica = λ history sent states p v i known h up given.
         lands history sent states h (role kind.Replica p) _ _
-        (replica_fresh c (role kind.Replica p) _ v sent h (subst (λ s. InState c history sent (role kind.Replica p) s) up (known.1.running (role kind.Replica p))) i given);
+        (replica_fresh c (role kind.Replica p) (durable_of replica_rules (role kind.Replica p) history) v sent h (subst (λ s. InState c history sent (role kind.Replica p) s) up (known.1.running (role kind.Replica p))) i given);
     unbatcher = λ history sent states u i known h up given.
         lands history sent states h (role kind.Unbatcher u) _ _
         (sends_only Fresh (role kind.Unbatcher u) _ (unbatcher_kinds c (role kind.Unbatcher u) refl i)
