@@ -1,8 +1,7 @@
 -- Each row of a batcher, an unbatcher and a reader keeps the facts: what they send says nothing of what was kept.
-use Rattle.std.proofs.Common.{◌≡◌, ℕ, ◌+◌, ◌<◌, ◌≤◌, ◌==◌, Bool, true, false, not, ◌&&◌, ◌⊎◌, List, [], ◌∷◌, ◌++◌, length, filter, Option, Some, None, inl, inr, sym, ◌∙◌, subst, refl}
-use Rattle.std.specs.Prelude.{nat_lt, nat_le, if◌then◌else◌}
-use Rattle.std.proofs.lemmas.Bool.{and_parts, not-false, true≢false, cases_Bool}
-use Rattle.std.proofs.lemmas.Bool.Decides.{nat_tests}
+use Rattle.std.proofs.Common.{◌≡◌, ℕ, ◌==◌, true, false, not, ◌&&◌, ◌⊎◌, List, [], ◌∷◌, ◌++◌, length, Option, Some, None, inl, inr, sym, ◌∙◌, subst, refl}
+use Rattle.std.specs.Prelude.{nat_lt, nat_le}
+use Rattle.std.proofs.lemmas.Bool.{and_parts, not-false, true≢false}
 use Rattle.std.proofs.lemmas.Option.{same_Some}
 use Rattle.cx_base.specs.declared.cluster.Cluster.{Cluster}
 use Rattle.cx_base.specs.declared.command.Command.{Command}
@@ -24,24 +23,24 @@ use Rattle.cx_msg.specs.declared.message.Msg.{Msg}
 use Rattle.cx_msg.specs.declared.message.Msg.TheVariants as msg
 use Rattle.cx_model.specs.declared.states.Acked.{Acked}
 use Rattle.cx_model.specs.declared.states.MatchAnswer.{MatchAnswer}
-use Rattle.cx_model.specs.Batcher.{BatcherVolatile, batcher_row, batcher_takes, batcher_tick, submit_row, leads_row, send_batch}
+use Rattle.cx_model.specs.Batcher.{BatcherVolatile, batcher_row, batcher_takes}
 use Rattle.cx_model.specs.Facts.{BatcherWasTold, ReaderWasTold}
 use Rattle.cx_model.specs.Lists.{same_number}
-use Rattle.cx_model.specs.Matched.{enough, is_counted, is_member_of, greatest_watermark, live_entries, rows_whole}
+use Rattle.cx_model.specs.Matched.{is_counted, is_member_of, greatest_watermark, live_entries, rows_whole}
 use Rattle.cx_model.specs.Member.{Member}
 use Rattle.cx_model.specs.Names.{names}
 use Rattle.cx_model.specs.Outcome.{Outcome, by_test, either_way}
-use Rattle.cx_model.specs.Reader.{Reading, ReaderVolatile, reading, reading_of, with_reading, without_reading, is_matched, acked_by, has_acked, greatest_mark, token, read_req_row, read_req_over, send_read, read_matched, match_ack_counted, match_ack_row, pre_read_counted, pre_read_ack_row, reader_takes, reader_row}
+use Rattle.cx_model.specs.Reader.{Reading, ReaderVolatile, reading, reading_of, with_reading, without_reading, is_matched, acked_by, has_acked, token, read_req_over, read_matched, match_ack_counted, match_ack_row, pre_read_counted, pre_read_ack_row, reader_takes, reader_row}
 use Rattle.cx_model.specs.Request.{same_read}
 use Rattle.cx_model.specs.Unbatcher.{unbatcher_row}
 use Rattle.cx_inv_run.specs.Kinds.{Kinds, IsSender, IsKeeper, IsKept, OfKind}
 use Rattle.cx_inv_run.specs.Laws.{Lands}
-use Rattle.cx_inv_run.specs.States.{State, Down, Plain, BatcherIn, ReaderIn, plain, set_state, entry_by, with_record, Given}
-use Rattle.cx_inv_run.proofs.Members.{Member-cases, Member-both, Member-one, Member-filter}
+use Rattle.cx_inv_run.specs.States.{State, Plain, BatcherIn, ReaderIn, plain, with_record, Given}
+use Rattle.cx_inv_run.proofs.Members.{Member-both, Member-one, Member-filter}
 use Rattle.cx_inv_run.proofs.Rounds.{same_round-true}
 use Rattle.cx_inv_run.proofs.Senders.{batcher_kinds, unbatcher_kinds, reader_kinds}
 use Rattle.cx_inv_match.specs.Facts.{Says, InState, AreAsking, Facts}
-use Rattle.cx_inv_vote.proofs.Rows.{Keeps, lands, quiet_kind, is_role}
+use Rattle.cx_inv_vote.proofs.Rows.{lands, quiet_kind, is_role}
 
 -- Kinds of roles that keep nothing, and whose datagrams say nothing of what was kept.
 module _ (k : Kind) (no_leader : k ≡ kind.Leader → ⊥) (no_matchmaker : k ≡ kind.Matchmaker → ⊥) (no_acceptor : k ≡ kind.Acceptor → ⊥) (no_proxy : k ≡ kind.Proxy → ⊥) (no_replica : k ≡ kind.Replica → ⊥) where
