@@ -32,8 +32,8 @@ use Rattle.cx_inv_run.proofs.Quorums.{most_meet}
 use Rattle.cx_inv_run.proofs.Rounds.{before_cases, before-both, before-trans, before-not, before-to_at_least, same_round-true}
 use Rattle.cx_inv_match.specs.Facts.{IsLog, Facts}
 use Rattle.cx_inv_match.specs.Words.{HasMatch, HasPromise, IsChosenIn, IsChosen, IsMatched, IsShut, IsSettled}
-use Rattle.cx_inv_vote.specs.Laws.{KeptIsChosen, OpenAgrees}
-use Rattle.cx_inv_vote.proofs.Chosen.{chosen_turned, turned_chosen}
+use Rattle.cx_inv_vote.specs.Laws.{OneInARound, KeptIsChosen, OpenAgrees}
+use Rattle.cx_inv_vote.proofs.Chosen.{chosen_in-column, chosen_turned, turned_chosen}
 use Rattle.cx_inv_vote.proofs.Lead.{proposed_says}
 use Rattle.cx_inv_vote.proofs.Steps.{facts_hold}
 
@@ -80,6 +80,18 @@ agreement = record {
       chosen_once c (reverse (run c es).kept) (run c es).sent (states_of (run c es).roles) (facts_hold c es) s v w
       (chosen_turned c (run c es).kept s v x) (chosen_turned c (run c es).kept s w y);
 }
+
+-- two votes of one round and slot are for one value
+pub one_in_a_round : OneInARound
+one_in_a_round c es j g h s v u x y =
+    let facts = facts_hold c es in
+    let a = chosen_in-column (run c es).kept j g s v x in
+    let b = chosen_in-column (run c es).kept j h s u y in
+    let one = a.3 0 a.2 in
+    let other = b.3 0 b.2 in
+    facts.one_value j s v u
+    (facts.voted (role kind.Acceptor (member_at g 0 a.0)) j s v (one.0, Member-reverse _ (run c es).kept one.1))
+    (facts.voted (role kind.Acceptor (member_at h 0 b.0)) j s u (other.0, Member-reverse _ (run c es).kept other.1))
 
 pub kept_is_chosen : KeptIsChosen
 kept_is_chosen c es p s v e =
