@@ -123,6 +123,15 @@ module _ (c : Cluster) (asked : List KeptRecord) (t : Token) (history : List Kep
     ]))
   ]
 
+  -- more datagrams, of no role's step
+  pub sent_more : (ds : List Letter) → Each (λ d. ReadSays asked t history d.from d.to d.msg) ds → AcksAreSo ds → Reads c asked t history (sent ++ ds) states
+  sent_more ds says acks = record {
+    has = reads.has;
+    says = Member-both (λ (d : Letter). ReadSays asked t history d.from d.to d.msg) sent ds reads.says says;
+    evidence = λ w. more_evidence ds acks w (reads.evidence w);
+    readers = reads.readers;
+  }
+
   -- a row lands whose datagrams say what is so
   pub lands : {V : Type 0} (me : RoleId) (make : V → State) (o : Outcome V)
       → Each (λ d. ReadSays asked t history d.from d.to d.msg) o.sends → AcksAreSo o.sends → InReader c (make o.volatile)

@@ -4,3 +4,4 @@ pub mod Says
 pub mod Unread
 pub mod Keep
 pub mod Steps
+pub mod Fresh
