@@ -5,3 +5,5 @@ pub mod Unread
 pub mod Keep
 pub mod Steps
 pub mod Fresh
+pub mod Sent
+pub mod Within
