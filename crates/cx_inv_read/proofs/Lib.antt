@@ -7,3 +7,4 @@ pub mod Steps
 pub mod Fresh
 pub mod Sent
 pub mod Within
+pub mod Results
