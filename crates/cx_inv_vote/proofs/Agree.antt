@@ -1,42 +1,39 @@
 -- No slot has two chosen values, kept values are chosen, and what an open round can still choose is what later ones proposed.
-use Rattle.std.proofs.Common.{◌≡◌, ℕ, ◌+◌, ◌*◌, ◌<◌, ◌≤◌, Bool, true, false, not, ◌||◌, ◌⊎◌, List, [], ◌∷◌, reverse, filter, length, Some, inl, inr, sym, ◌∙◌, subst, ap, refl, arith}
+use Rattle.std.proofs.Common.{◌≡◌, ℕ, ◌<◌, true, false, not, ◌||◌, ◌⊎◌, List, [], ◌∷◌, reverse, Some, inl, inr, sym, ◌∙◌, subst, ap, refl, arith}
 use Rattle.std.specs.Prelude.{slice_get}
-use Rattle.std.specs.List.{list_any}
 use Rattle.std.proofs.lemmas.Bool.{cases_Bool, true≢false, or_cases, or_left, or_right, not-true}
 use Rattle.cx_base.specs.declared.cluster.Cluster.{Cluster}
 use Rattle.cx_base.specs.declared.command.Value.{Value}
-use Rattle.cx_base.specs.declared.event.Event.{Event}
 use Rattle.cx_base.specs.declared.role.Kind.TheVariants as kind
 use Rattle.cx_base.specs.declared.role.RoleId.{RoleId}
 use Rattle.cx_base.specs.declared.round.Round.{Round}
 use Rattle.cx_base.specs.Grid.{Shape}
 use Rattle.cx_base.specs.Lists.{below}
 use Rattle.cx_base.specs.Role.{role, same_role}
-use Rattle.cx_base.specs.Round.{is_before, same_round}
+use Rattle.cx_base.specs.Round.{is_before}
 use Rattle.cx_field.specs.declared.parts.Entry.{Entry}
-use Rattle.cx_grid.specs.Quorum.{member_at, column_of}
+use Rattle.cx_grid.specs.Quorum.{member_at}
 use Rattle.cx_msg.specs.Letter.{Letter}
 use Rattle.cx_msg.specs.declared.input.KeptRecord.{KeptRecord}
 use Rattle.cx_msg.specs.declared.kept.Record.{Record}
 use Rattle.cx_msg.specs.declared.kept.Record.TheVariants as kept
 use Rattle.cx_model.specs.Acceptor.{AcceptorDurable, acceptor_rules}
-use Rattle.cx_model.specs.Chosen.{is_chosen}
 use Rattle.cx_model.specs.Facts.{HasVoted, IsProposed, CanBeChosen, has_matched, is_match_of, is_closed, matchmaker_of, acceptor_of}
 use Rattle.cx_model.specs.Matchmaker.{MatchmakerDurable, matchmaker_rules, entry}
 use Rattle.cx_model.specs.Lists.{same_role-true}
 use Rattle.cx_model.specs.Member.{Member}
 use Rattle.cx_model.specs.Outcome.{by_test}
-use Rattle.cx_model.specs.Promises.{HasKept, IsConfig, Agreement}
-use Rattle.cx_model.specs.World.{run, records_of, log_of}
-use Rattle.cx_inv_run.specs.States.{State, states_of, entry_by, durable_of}
+use Rattle.cx_model.specs.Promises.{HasKept, Agreement}
+use Rattle.cx_model.specs.World.{run, records_of}
+use Rattle.cx_inv_run.specs.States.{State, states_of, entry_by}
 use Rattle.cx_inv_run.proofs.Histories.{durable_by_time, log_by_time}
-use Rattle.cx_inv_run.proofs.Members.{Member-reverse, Member-turned, map-Member, any-Member, Member-any, Member-below}
+use Rattle.cx_inv_run.proofs.Members.{Member-reverse, map-Member, any-Member, Member-any, Member-below}
 use Rattle.cx_inv_run.proofs.Quorums.{most_meet}
-use Rattle.cx_inv_run.proofs.Rounds.{before_cases, before-both, before-trans, before-not, before-to_at_least, before-from_at_most, same_round-true}
+use Rattle.cx_inv_run.proofs.Rounds.{before_cases, before-both, before-trans, before-not, before-to_at_least, same_round-true}
 use Rattle.cx_inv_match.specs.Facts.{IsLog, Facts}
 use Rattle.cx_inv_match.specs.Words.{HasMatch, HasPromise, IsChosenIn, IsChosen, IsMatched, IsShut, IsSettled}
-use Rattle.cx_inv_vote.specs.Laws.{KeptIsChosen, OpenAgrees}
-use Rattle.cx_inv_vote.proofs.Chosen.{chosen_turned, turned_chosen}
+use Rattle.cx_inv_vote.specs.Laws.{OneInARound, KeptIsChosen, OpenAgrees}
+use Rattle.cx_inv_vote.proofs.Chosen.{chosen_in-column, chosen_turned, turned_chosen}
 use Rattle.cx_inv_vote.proofs.Lead.{proposed_says}
 use Rattle.cx_inv_vote.proofs.Steps.{facts_hold}
 
@@ -83,6 +80,18 @@ agreement = record {
       chosen_once c (reverse (run c es).kept) (run c es).sent (states_of (run c es).roles) (facts_hold c es) s v w
       (chosen_turned c (run c es).kept s v x) (chosen_turned c (run c es).kept s w y);
 }
+
+-- two votes of one round and slot are for one value
+pub one_in_a_round : OneInARound
+one_in_a_round c es j g h s v u x y =
+    let facts = facts_hold c es in
+    let a = chosen_in-column (run c es).kept j g s v x in
+    let b = chosen_in-column (run c es).kept j h s u y in
+    let one = a.3 0 a.2 in
+    let other = b.3 0 b.2 in
+    facts.one_value j s v u
+    (facts.voted (role kind.Acceptor (member_at g 0 a.0)) j s v (one.0, Member-reverse _ (run c es).kept one.1))
+    (facts.voted (role kind.Acceptor (member_at h 0 b.0)) j s u (other.0, Member-reverse _ (run c es).kept other.1))
 
 pub kept_is_chosen : KeptIsChosen
 kept_is_chosen c es p s v e =

@@ -1,8 +1,8 @@
 -- Each row of a matchmaker keeps the facts.
-use Rattle.std.proofs.Common.{◌≡◌, ℕ, Bool, true, false, not, ◌&&◌, ◌⊎◌, List, [], ◌∷◌, Option, Some, None, inl, inr, ap, sym, ◌∙◌, subst, refl}
+use Rattle.std.proofs.Common.{◌≡◌, ℕ, true, false, ◌&&◌, ◌⊎◌, List, [], ◌∷◌, None, inl, inr, ap, sym, subst, refl}
 use Rattle.std.specs.Prelude.{nat_le, length}
 use Rattle.std.specs.List.{list_any}
-use Rattle.std.proofs.lemmas.Bool.{cases_Bool, true≢false}
+use Rattle.std.proofs.lemmas.Bool.{cases_Bool}
 use Rattle.cx_base.specs.declared.cluster.Cluster.{Cluster}
 use Rattle.cx_base.specs.declared.role.Kind.TheVariants as kind
 use Rattle.cx_base.specs.declared.role.RoleId.{RoleId}
@@ -11,13 +11,12 @@ use Rattle.cx_base.specs.declared.why.Why.{Why}
 use Rattle.cx_base.specs.declared.why.Why.TheVariants as why
 use Rattle.cx_base.specs.Grid.{Shape}
 use Rattle.cx_base.specs.Role.{role, same_role}
-use Rattle.cx_base.specs.Round.{is_before, same_round, no_round}
+use Rattle.cx_base.specs.Round.{is_before, no_round}
 use Rattle.cx_field.specs.declared.parts.Entry.{Entry}
 use Rattle.cx_msg.specs.Letter.{Letter, letter}
 use Rattle.cx_msg.specs.declared.input.Input.{Input}
 use Rattle.cx_msg.specs.declared.input.Input.TheVariants as input
 use Rattle.cx_msg.specs.declared.input.KeptRecord.{KeptRecord}
-use Rattle.cx_msg.specs.declared.kept.Record.{Record}
 use Rattle.cx_msg.specs.declared.kept.Record.TheVariants as kept
 use Rattle.cx_msg.specs.declared.message.Msg.{Msg}
 use Rattle.cx_msg.specs.declared.message.Msg.TheVariants as msg
@@ -136,7 +135,7 @@ module _ (c : Cluster) (history : List KeptRecord) (sent : List Letter) (states 
         matched = (g, inl (inl refl));
         all = λ j k l low x. elim x [
           | inl e ↦ (let q : kept.Match j k ≡ kept.Match i g = ap (λ (y : KeptRecord). y.what) e in let p : j ≡ i = cc in
-            absurd (before-itself i (subst (λ y. is_before y i ≡ true) p l)))
+              absurd (before-itself i (subst (λ y. is_before y i ≡ true) p l)))
           | inr o ↦ before_all i j k l low o
         ];
         only = λ e k. let r = before_only i e k in (grown_config c history (entry_by me (kept.Match i g) ∷ history) grows e.round e.grid r.0, r.1);

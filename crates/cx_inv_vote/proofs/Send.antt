@@ -1,13 +1,10 @@
 -- The facts after a role has sent datagrams and gone on.
-use Rattle.std.proofs.Common.{◌≡◌, ℕ, ◌<◌, false, ◌⊎◌, List, ◌++◌, Option, Some, None, inl, inr, sym, subst, ◌∙◌, refl}
-use Rattle.std.specs.Prelude.{slice_get}
+use Rattle.std.proofs.Common.{◌≡◌, ℕ, false, ◌⊎◌, List, ◌++◌, Option, Some, None, inl, inr, sym, subst, ◌∙◌, refl}
 use Rattle.cx_base.specs.declared.cluster.Cluster.{Cluster}
-use Rattle.cx_base.specs.declared.command.Placed.{Placed}
 use Rattle.cx_base.specs.declared.command.Value.{Value}
 use Rattle.cx_base.specs.declared.role.Kind.TheVariants as kind
 use Rattle.cx_base.specs.declared.role.RoleId.{RoleId}
 use Rattle.cx_base.specs.declared.round.Round.{Round}
-use Rattle.cx_base.specs.Grid.{Shape}
 use Rattle.cx_base.specs.Role.{role, same_role}
 use Rattle.cx_field.specs.declared.parts.Entry.{Entry}
 use Rattle.cx_msg.specs.Letter.{Letter}
@@ -26,7 +23,7 @@ use Rattle.cx_model.specs.Proxy.{ProxyVolatile}
 use Rattle.cx_model.specs.Reader.{ReaderVolatile}
 use Rattle.cx_model.specs.Replica.{ReplicaVolatile}
 use Rattle.cx_inv_run.specs.States.{State, Down, Plain, BatcherIn, LeaderIn, ProxyIn, ReplicaIn, ReaderIn, set_state, durable_of}
-use Rattle.cx_inv_run.proofs.Members.{Member-cases, Member-first, Member-second}
+use Rattle.cx_inv_run.proofs.Members.{Member-cases, Member-first}
 use Rattle.cx_inv_run.proofs.Histories.{state_own, state_other}
 use Rattle.cx_inv_match.specs.Facts.{Says, InState, InMode, IsMatching, IsLeading, IsLast, IsPending, Facts}
 use Rattle.cx_inv_vote.specs.Laws.{IsPlainMsg}
@@ -208,9 +205,10 @@ pub still_state : (c : Cluster) (history : List KeptRecord) (sent ds : List Lett
 still_state c history sent ds quiet me Down h = tt
 still_state c history sent ds quiet me Plain h = tt
 still_state c history sent ds quiet me (BatcherIn v) h = batcher_told sent ds me v h
-still_state c history sent ds quiet me (LeaderIn v) h =
-    (leader_told sent ds me (round_of (durable_of leader_rules me history).own) v h.0,
-      quiet_mode c history sent ds (durable_of leader_rules me history).own v v.mode (λ own e. quiet_round ds quiet own.round) h.1)
+still_state c history sent ds quiet me (LeaderIn v) h = (
+  leader_told sent ds me (round_of (durable_of leader_rules me history).own) v h.0,
+  quiet_mode c history sent ds (durable_of leader_rules me history).own v v.mode (λ own e. quiet_round ds quiet own.round) h.1,
+)
 still_state c history sent ds quiet me (ProxyIn v) h = (proxy_told sent ds me v h.0, λ p m. still_pending history sent ds p (h.1 p m))
 still_state c history sent ds quiet me (ReplicaIn v) h = replica_told sent ds me v h
 still_state c history sent ds quiet me (ReaderIn v) h = (reader_told sent ds me v h.0, h.1)

@@ -1,5 +1,5 @@
 -- The facts of a moment in which nothing has happened, a role that was just opened, and a request that goes out.
-use Rattle.std.proofs.Common.{◌≡◌, ℕ, zero, suc, true, false, ◌⊎◌, List, [], ◌∷◌, ◌++◌, map, Option, Some, None, inl, inr, sym, subst, refl, append-nil}
+use Rattle.std.proofs.Common.{◌≡◌, ℕ, zero, suc, ◌⊎◌, List, [], ◌∷◌, ◌++◌, map, Some, inl, inr, sym, subst, refl}
 use Rattle.std.specs.Prelude.{slice_get}
 use Rattle.std.proofs.lemmas.Option.{same_Some}
 use Rattle.cx_base.specs.declared.cluster.Cluster.{Cluster}
@@ -12,12 +12,12 @@ use Rattle.cx_base.specs.declared.role.RoleId.{RoleId}
 use Rattle.cx_base.specs.declared.round.Round.{Round}
 use Rattle.cx_base.specs.Lists.{below}
 use Rattle.cx_base.specs.Role.{role}
-use Rattle.cx_base.specs.Round.{is_before, no_round}
+use Rattle.cx_base.specs.Round.{no_round}
 use Rattle.cx_msg.specs.Letter.{Letter, letter}
 use Rattle.cx_msg.specs.declared.input.KeptRecord.{KeptRecord}
 use Rattle.cx_msg.specs.declared.message.Msg.TheVariants as msg
 use Rattle.cx_model.specs.Acceptor.{acceptor_rules}
-use Rattle.cx_model.specs.Leader.{leader_rules, idle_leader, round_of}
+use Rattle.cx_model.specs.Leader.{leader_rules, idle_leader}
 use Rattle.cx_model.specs.Matchmaker.{matchmaker_rules}
 use Rattle.cx_model.specs.Member.{Member}
 use Rattle.cx_model.specs.Replica.{replica_rules}

@@ -1,0 +1,10 @@
+pub mod Above
+pub mod Rows
+pub mod Says
+pub mod Unread
+pub mod Keep
+pub mod Steps
+pub mod Fresh
+pub mod Sent
+pub mod Within
+pub mod Results
