@@ -1,5 +1,5 @@
 -- What stays so while records come, and the facts on retirement after a step.
-use Rattle.std.proofs.Common.{◌≡◌, ◌⊎◌, List, [], ◌∷◌, ◌++◌, Option, Some, None, inl, inr, sym, subst, ◌∙◌}
+use Rattle.std.proofs.Common.{◌≡◌, List, [], ◌∷◌, ◌++◌, inl, inr, subst}
 use Rattle.cx_base.specs.declared.cluster.Cluster.{Cluster}
 use Rattle.cx_base.specs.declared.event.Event.{Event}
 use Rattle.cx_base.specs.declared.event.Event.TheVariants as event
@@ -7,38 +7,41 @@ use Rattle.cx_base.specs.declared.role.Kind.{Kind}
 use Rattle.cx_base.specs.declared.role.Kind.TheVariants as kind
 use Rattle.cx_base.specs.declared.role.RoleId.{RoleId}
 use Rattle.cx_base.specs.declared.round.Round.{Round}
+use Rattle.cx_base.specs.declared.why.Why.{Why}
 use Rattle.cx_base.specs.Grid.{Shape}
-use Rattle.cx_field.specs.declared.parts.Entry.{Entry}
+use Rattle.cx_base.specs.Role.{role}
 use Rattle.cx_field.specs.declared.parts.Token.{Token}
 use Rattle.cx_msg.specs.Letter.{Letter, letter}
 use Rattle.cx_msg.specs.declared.input.KeptRecord.{KeptRecord}
-use Rattle.cx_msg.specs.declared.kept.Record.{Record}
 use Rattle.cx_msg.specs.declared.message.Msg.{Msg}
 use Rattle.cx_msg.specs.declared.message.Msg.TheVariants as msg
 use Rattle.cx_model.specs.Member.{Member}
 use Rattle.cx_model.specs.Outcome.{Outcome, answered, replied}
-use Rattle.cx_model.specs.Promises.{IsConfig, IsMemberFrom}
+use Rattle.cx_model.specs.Promises.{IsConfig}
 use Rattle.cx_model.specs.Request.{request}
-use Rattle.cx_base.specs.declared.why.Why.{Why}
 use Rattle.cx_inv_run.specs.Kinds.{IsSender, OfKind}
 use Rattle.cx_inv_run.specs.Laws.{Lands}
 use Rattle.cx_inv_run.specs.States.{State, Down, set_state, entry_by, with_record}
 use Rattle.cx_inv_run.proofs.Histories.{set_running, kept_longer}
 use Rattle.cx_inv_run.proofs.Members.{Member-both, Member-one}
-use Rattle.cx_inv_retire.specs.Retire.{Has, HasForgotten, IsRetired, IsFromRetired, AreConfigs, RetireSays, HasCounted, RetireFacts}
+use Rattle.cx_inv_read.specs.Reads.{Has}
+use Rattle.cx_inv_retire.specs.Retire.{HasForgotten, IsRetired, IsFromRetired, RetireSays, HasCounted, RetireFacts}
 
 -- along a longer history
 
-module _ (c : Cluster) (past : List KeptRecord) (fresh : Token → Type 0) (history longer : List KeptRecord) (has : Has longer history) where
-  still_config : (i : Round) (g : Shape) → IsConfig history i g → IsConfig longer i g
-  still_config i g h = (h.0, has _ h.1)
-
+module _ (history longer : List KeptRecord) (has : Has longer history) where
   still_forgotten : (m : RoleId) (i : Round) → HasForgotten history m i → HasForgotten longer m i
   still_forgotten m i (inl e) = inl e
   still_forgotten m i (inr h) = inr (h.0, h.1, has _ h.2, h.3)
 
-  still_from : (to : RoleId) → IsFromRetired c past history to → IsFromRetired c past longer to
-  still_from to h i r = record {
+  pub still_retired : (c : Cluster) (i : Round) → IsRetired c history i → IsRetired c longer i
+  still_retired c i h = record { who = h.who; most = h.most; each = λ m t. still_forgotten (role kind.Matchmaker m) i (h.each m t) }
+
+  still_config : (i : Round) (g : Shape) → IsConfig history i g → IsConfig longer i g
+  still_config i g h = (h.0, has _ h.1)
+
+  still_from : (c : Cluster) (past : List KeptRecord) (to : RoleId) → IsFromRetired c past history to → IsFromRetired c past longer to
+  still_from c past to h i r = record {
     round = (h i r).round;
     grid = (h i r).grid;
     config = still_config (h i r).round (h i r).grid (h i r).config;
@@ -46,20 +49,14 @@ module _ (c : Cluster) (past : List KeptRecord) (fresh : Token → Type 0) (hist
     member = (h i r).member;
   }
 
-  pub still_says : (from to : RoleId) (m : Msg) → RetireSays c past fresh history from to m → RetireSays c past fresh longer from to m
-  still_says from to (msg.MatchB k w es) h = h
-  still_says from to (msg.GarbageB i) h = still_forgotten from i h
-  still_says from to (msg.Phase1A k) h = ((h.0.0, still_config k h.0.0 h.0.1), λ n. still_from to (h.1 n))
-  still_says from to (msg.MatchReadAck t w es) h = (λ e m. still_config e.round e.grid (h.0 e m), h.1)
-  still_says from to (msg.PreRead t w) h = λ n. still_from to (h n)
-  still_says from to other h = tt
-
-pub still_retired : (c : Cluster) (history longer : List KeptRecord) → Has longer history → (i : Round) → IsRetired c history i → IsRetired c longer i
-still_retired c history longer has i h = record {
-  who = h.who;
-  most = h.most;
-  each = λ m t. elim (h.each m t) [ inl e ↦ inl e | inr x ↦ inr (x.0, x.1, has _ x.2, x.3) ];
-}
+  still_says : (c : Cluster) (past : List KeptRecord) (fresh : Token → Type 0) (from to : RoleId) (m : Msg)
+      → RetireSays c past fresh history from to m → RetireSays c past fresh longer from to m
+  still_says c past fresh from to (msg.MatchB k w es) h = h
+  still_says c past fresh from to (msg.GarbageB i) h = still_forgotten from i h
+  still_says c past fresh from to (msg.Phase1A k) h = ((h.0.0, still_config k h.0.0 h.0.1), λ n. still_from c past to (h.1 n))
+  still_says c past fresh from to (msg.MatchReadAck t w es) h = (λ e m. still_config e.round e.grid (h.0 e m), h.1)
+  still_says c past fresh from to (msg.PreRead t w) h = λ n. still_from c past to (h n)
+  still_says c past fresh from to other h = tt
 
 -- What a row gives: its sends say so, by the records with its own, and whom it has counted.
 pub record IsRetiring {V : Type 0} (c : Cluster) (past : List KeptRecord) (fresh : Token → Type 0) (history : List KeptRecord) (me : RoleId) (make : V → State) (o : Outcome V) : Type 0 where
@@ -70,7 +67,7 @@ module _ (c : Cluster) (past : List KeptRecord) (fresh : Token → Type 0) (hist
     (h : RetireFacts c past fresh history sent states) where
   -- what was sent, after more records
   said : (longer : List KeptRecord) → Has longer history → (d : Letter) → Member d sent → RetireSays c past fresh longer d.from d.to d.msg
-  said longer has d m = still_says c past fresh history longer has d.from d.to d.msg (h.says d m)
+  said longer has d m = still_says history longer has c past fresh d.from d.to d.msg (h.says d m)
 
   pub same_states : (others : RoleId → State) → ((a : RoleId) → states a ≡ others a) → RetireFacts c past fresh history sent others
   same_states others same = record { says = h.says; running = λ a. subst (λ s. HasCounted c s) (same a) (h.running a) }

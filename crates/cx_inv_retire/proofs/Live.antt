@@ -1,6 +1,6 @@
 -- Where more than half of the matchmakers answered, each live grid is of a round that was not retired before; and whom one has counted.
-use Rattle.std.proofs.Common.{◌≡◌, ℕ, ◌+◌, ◌*◌, ◌<◌, Bool, true, false, cond, map, ◌⊎◌, List, [], ◌∷◌, ◌++◌, length, inl, inr, sym, subst, ◌∙◌, refl, ◌==◌, arith}
-use Rattle.std.specs.Prelude.{nat_lt, filter}
+use Rattle.std.proofs.Common.{◌≡◌, ℕ, ◌+◌, ◌*◌, ◌<◌, true, false, cond, map, List, [], ◌∷◌, ◌++◌, length, inl, inr, sym, subst, ◌∙◌, ◌==◌, arith}
+use Rattle.std.specs.Prelude.{nat_lt}
 use Rattle.std.proofs.lemmas.Bool.{true≢false, cond_both}
 use Rattle.cx_base.specs.declared.cluster.Cluster.{Cluster}
 use Rattle.cx_base.specs.declared.role.Kind.TheVariants as kind
@@ -24,7 +24,7 @@ use Rattle.cx_inv_match.specs.Facts.{AreOnce, told_by}
 use Rattle.cx_inv_match.specs.Words.{how_many}
 use Rattle.cx_inv_match.proofs.Parts.{entries-member}
 use Rattle.cx_inv_vote.proofs.Searches.{told_by-counted, told_member, told_more, once_more, told_count, live_from, top_above, mark-cases}
-use Rattle.cx_inv_retire.specs.Retire.{HasForgotten, IsRetired, IsFromRetired, IsRisen, AreConfigs, AreMatchmakers}
+use Rattle.cx_inv_retire.specs.Retire.{HasForgotten, IsFromRetired, IsRisen, AreConfigs, AreMatchmakers}
 
 -- what is sent for each of these, and to each member of these grids
 

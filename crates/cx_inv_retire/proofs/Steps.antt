@@ -1,12 +1,11 @@
 -- The facts on retirement hold of every run; and any moment of a run is a past, from which on they hold.
-use Rattle.std.proofs.Common.{◌≡◌, ◌⊎◌, ℕ, List, [], ◌∷◌, ◌++◌, reverse, Option, Some, None, inl, inr, ap, sym, ◌∙◌, subst, refl}
+use Rattle.std.proofs.Common.{List, [], ◌∷◌, ◌++◌, reverse, inl, inr, sym, subst, refl}
 use Rattle.cx_base.specs.declared.cluster.Cluster.{Cluster}
 use Rattle.cx_base.specs.declared.event.Event.{Event}
 use Rattle.cx_base.specs.declared.role.Kind.{Kind}
 use Rattle.cx_base.specs.declared.role.Kind.TheVariants as kind
 use Rattle.cx_base.specs.declared.role.RoleId.{RoleId}
 use Rattle.cx_base.specs.declared.round.Round.{Round}
-use Rattle.cx_base.specs.Grid.{Shape}
 use Rattle.cx_base.specs.Role.{role}
 use Rattle.cx_field.specs.declared.parts.Entry.{Entry}
 use Rattle.cx_field.specs.declared.parts.Token.{Token}
@@ -16,15 +15,13 @@ use Rattle.cx_msg.specs.declared.message.Msg.{Msg}
 use Rattle.cx_msg.specs.declared.message.Msg.TheVariants as msg
 use Rattle.cx_model.specs.Acceptor.{acceptor_rules, acceptor_row}
 use Rattle.cx_model.specs.Batcher.{batcher_row}
-use Rattle.cx_model.specs.Leader.{leader_rules, round_of}
 use Rattle.cx_model.specs.Member.{Member}
-use Rattle.cx_model.specs.Promises.{IsConfig}
 use Rattle.cx_model.specs.Proxy.{proxy_row}
 use Rattle.cx_model.specs.Replica.{replica_rules, replica_row}
 use Rattle.cx_model.specs.Unbatcher.{unbatcher_row}
 use Rattle.cx_model.specs.World.{World, change, step, run, run_from}
 use Rattle.cx_inv_run.specs.Laws.{Laws, HoldsAlong}
-use Rattle.cx_inv_run.specs.States.{State, Down, BatcherIn, ProxyIn, ReplicaIn, plain, states_of, fresh_state, set_state, durable_of, HoldsIn}
+use Rattle.cx_inv_run.specs.States.{State, Down, BatcherIn, ProxyIn, ReplicaIn, plain, states_of, fresh_state, durable_of, HoldsIn}
 use Rattle.cx_inv_run.proofs.KindLaws.{kinds_hold}
 use Rattle.cx_inv_run.proofs.Members.{Member-first, Member-reverse, Member-turned}
 use Rattle.cx_inv_run.proofs.Senders.{acceptor_kinds, batcher_kinds, unbatcher_kinds, proxy_kinds, replica_kinds}
@@ -32,7 +29,9 @@ use Rattle.cx_inv_run.proofs.Steps.{run_from_keeps, always, run_append, run_clus
 use Rattle.cx_inv_match.specs.Facts.{Facts}
 use Rattle.cx_inv_match.specs.Words.{HasLog}
 use Rattle.cx_inv_vote.proofs.Steps.{facts_hold}
-use Rattle.cx_inv_retire.specs.Retire.{Has, IsNewRound, RetireSays, HasCounted, RetireFacts, Known}
+use Rattle.cx_inv_read.proofs.Fresh.{reads_always}
+use Rattle.cx_inv_read.specs.Reads.{Has}
+use Rattle.cx_inv_retire.specs.Retire.{IsNewRound, RetireSays, HasCounted, RetireFacts, Known}
 use Rattle.cx_inv_retire.proofs.Keep.{same_states, set, asked, quiet_lands}
 use Rattle.cx_inv_retire.proofs.Leaders.{leader_lands}
 use Rattle.cx_inv_retire.proofs.Matchmakers.{matchmaker_lands}
@@ -48,7 +47,7 @@ fresh_counted c kind.Acceptor = tt
 fresh_counted c kind.Matchmaker = tt
 fresh_counted c kind.Replica = tt
 fresh_counted c kind.Unbatcher = tt
-fresh_counted c kind.Reader = λ r m. absurd m
+fresh_counted c kind.Reader = tt
 
 pub retire_laws : (c : Cluster) (past : List KeptRecord) (fresh : Token → Type 0) → Laws c (λ e. Unit {0}) (Known c past) (RetireFacts c past fresh)
 retire_laws c past fresh = record {
@@ -96,7 +95,7 @@ pub has_run : (c : Cluster) (es more : List Event) → Has (reverse (run c (es +
 has_run c es more = subst (λ (w : World). Has (reverse w.kept) (reverse (run c es).kept)) (sym (run_append c es more)) (has_from (run c es) more)
 
 knows : (c : Cluster) (past : List KeptRecord) (es : List Event) → Has (reverse (run c es).kept) past → HoldsIn (Known c past) (run c es)
-knows c past es has = record { kinds = kinds_hold c es; facts = facts_hold c es; has = has }
+knows c past es has = record { kinds = kinds_hold c es; facts = facts_hold c es; readers = (reads_always c es (record { client = 0; seq = 0 })).readers; has = has }
 
 knows_along : (c : Cluster) (past : List KeptRecord) (es more : List Event) → Has (reverse (run c es).kept) past → HoldsAlong (Known c past) (run c es) more
 knows_along c past es [] has = knows c past es has

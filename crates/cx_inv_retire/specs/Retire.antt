@@ -18,15 +18,11 @@ use Rattle.cx_msg.specs.declared.message.Msg.TheVariants as msg
 use Rattle.cx_model.specs.Collection.{is_collecting}
 use Rattle.cx_model.specs.Member.{Member}
 use Rattle.cx_model.specs.Promises.{IsConfig, IsMemberFrom}
-use Rattle.cx_model.specs.Reader.{Reading}
 use Rattle.cx_inv_run.specs.Kinds.{Kinds}
-use Rattle.cx_inv_run.specs.States.{State, LeaderIn, ReaderIn}
-use Rattle.cx_inv_match.specs.Facts.{AreOnce, told_by, Facts}
+use Rattle.cx_inv_run.specs.States.{State, LeaderIn}
+use Rattle.cx_inv_match.specs.Facts.{AreOnce, Facts}
 use Rattle.cx_inv_match.specs.Words.{how_many, HasGarbage}
-
--- the longer history has all of the shorter
-abbrev pub Has : List KeptRecord → List KeptRecord → Type 0
-Has longer shorter = (k : KeptRecord) → Member k shorter → Member k longer
+use Rattle.cx_inv_read.specs.Reads.{Has, InReader}
 
 -- no leader kept this round
 abbrev pub IsNewRound : List KeptRecord → Round → Type 0
@@ -68,10 +64,9 @@ pub record AreMatchmakers (c : Cluster) (ms : List ℕ) : Type 0 where
   pub once : AreOnce ms
   pub known : (m : ℕ) → Member m ms → m < 2 * c.f + 1
 
--- whom a running role has counted: a leader that retires rounds, and a reader
+-- whom a leader that retires rounds has counted
 abbrev pub HasCounted : Cluster → State → Type 0
 HasCounted c (LeaderIn v) = is_collecting v.collection.stage ≡ true → AreMatchmakers c v.collection.counted
-HasCounted c (ReaderIn v) = (r : Reading) → Member r v.reads → AreMatchmakers c (told_by r.told)
 HasCounted c other = Unit {0}
 
 -- what a leader's answer says, where this is its last round
@@ -88,4 +83,5 @@ pub record RetireFacts (c : Cluster) (past : List KeptRecord) (fresh : Token →
 pub record Known (c : Cluster) (past : List KeptRecord) (history : List KeptRecord) (sent : List Letter) (states : RoleId → State) : Type 0 where
   pub kinds : Kinds history sent states
   pub facts : Facts c history sent states
+  pub readers : (me : RoleId) → InReader c (states me)
   pub has : Has history past
