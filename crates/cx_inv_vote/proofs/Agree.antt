@@ -118,10 +118,12 @@ module _ (c : Cluster) (history : List KeptRecord) (sent : List Letter) (states 
       (facts.logs (role kind.Matchmaker m))
 
   -- a matchmaker that recorded a later round will not record this one any more
-  later_closes : (m : ℕ) (j i : Round) (g : Shape) → is_before j i ≡ true → HasMatch (reverse history) (role kind.Matchmaker m) i g → is_closed (matchmaker_of history m) j ≡ true
+  later_closes : (m : ℕ) (j i : Round) (g : Shape) → is_before j i ≡ true → HasMatch (reverse history) (role kind.Matchmaker m) i g
+      → is_closed (matchmaker_of history m) j ≡ true
   later_closes m j i g l x = go (cases_Bool (is_before i (matchmaker_of history m).watermark))
     where
-      go : (is_before i (matchmaker_of history m).watermark ≡ true) ⊎ (is_before i (matchmaker_of history m).watermark ≡ false) → is_closed (matchmaker_of history m) j ≡ true
+      go : (is_before i (matchmaker_of history m).watermark ≡ true) ⊎ (is_before i (matchmaker_of history m).watermark ≡ false)
+          → is_closed (matchmaker_of history m) j ≡ true
       go (inl t) = or_left _ _ (before-trans j i (matchmaker_of history m).watermark l t)
       go (inr f) =
           or_right (is_before j (matchmaker_of history m).watermark) _
@@ -148,7 +150,8 @@ module _ (c : Cluster) (history : List KeptRecord) (sent : List Letter) (states 
       ]
 
   -- a member that promised a later round did so for good
-  bound : (a : ℕ) (j : Round) → is_before j (acceptor_of history a).promise ≡ false → (i : Round) → is_before j i ≡ true → HasPromise (reverse history) (role kind.Acceptor a) i → ⊥
+  bound : (a : ℕ) (j : Round) → is_before j (acceptor_of history a).promise ≡ false → (i : Round) → is_before j i ≡ true
+      → HasPromise (reverse history) (role kind.Acceptor a) i → ⊥
   bound a j low i l h =
       let d : AcceptorDurable = acceptor_of history a in
       let top : is_before d.promise i ≡ false =

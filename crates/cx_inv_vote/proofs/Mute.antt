@@ -18,7 +18,8 @@ use Rattle.cx_inv_match.specs.Facts.{Says, InState, Facts}
 use Rattle.cx_inv_vote.proofs.Rows.{lands, quiet_kind}
 
 -- Kinds of roles that keep nothing, and whose datagrams say nothing of what was kept.
-module _ (k : Kind) (no_leader : k ≡ kind.Leader → ⊥) (no_matchmaker : k ≡ kind.Matchmaker → ⊥) (no_acceptor : k ≡ kind.Acceptor → ⊥) (no_proxy : k ≡ kind.Proxy → ⊥) (no_replica : k ≡ kind.Replica → ⊥) where
+module _ (k : Kind) (no_leader : k ≡ kind.Leader → ⊥) (no_matchmaker : k ≡ kind.Matchmaker → ⊥) (no_acceptor : k ≡ kind.Acceptor → ⊥)
+    (no_proxy : k ≡ kind.Proxy → ⊥) (no_replica : k ≡ kind.Replica → ⊥) where
   mute_says : (c : Cluster) (history : List KeptRecord) (sent : List Letter) (from : RoleId) (m : Msg) → IsSender k m → Says c history sent from m
   mute_says c history sent from (msg.Leads i) e = absurd (no_leader e)
   mute_says c history sent from (msg.MatchA i g) e = absurd (no_leader e)
@@ -42,7 +43,8 @@ module _ (k : Kind) (no_leader : k ≡ kind.Leader → ⊥) (no_matchmaker : k �
   mute_keeps (kept.Round i g) e = no_leader e
   mute_keeps (kept.Log values) e = no_replica e
 
-  module _ (c : Cluster) (history : List KeptRecord) (sent : List Letter) (states : RoleId → State) (facts : Facts c history sent states) (me : RoleId) (is : me.kind ≡ k) where
+  module _ (c : Cluster) (history : List KeptRecord) (sent : List Letter) (states : RoleId → State) (facts : Facts c history sent states)
+      (me : RoleId) (is : me.kind ≡ k) where
     -- of such a role's row only the new state matters
     pub mute_lands : {V : Type 0} (make : V → State) (o : Outcome V) → OfKind me o → InState c (with_record me o.kept history) sent me (make o.volatile)
         → Lands (Facts c) history sent states me make o

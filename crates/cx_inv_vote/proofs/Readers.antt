@@ -63,7 +63,8 @@ with_reading-cases one (x ∷ rs) r m =
       | inr n ↦ (elim (with_reading-cases one rs r n) [ inl e ↦ inl e | inr o ↦ inr (inr o) ])
     ]) m
 
-module _ (c : Cluster) (history : List KeptRecord) (sent : List Letter) (states : RoleId → State) (kinds : Kinds history sent states) (facts : Facts c history sent states) (index : ℕ) where
+module _ (c : Cluster) (history : List KeptRecord) (sent : List Letter) (states : RoleId → State) (kinds : Kinds history sent states)
+    (facts : Facts c history sent states) (index : ℕ) where
   abbrev me : RoleId
   me = role kind.Reader index
 
