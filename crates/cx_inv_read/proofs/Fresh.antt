@@ -1,5 +1,5 @@
 -- In every run that goes on from one in which a read was not asked for, the facts on the read hold.
-use Rattle.std.proofs.Common.{◌≡◌, ℕ, true, false, ◌⊎◌, List, [], ◌∷◌, ◌++◌, reverse, inl, inr, sym, subst, refl}
+use Rattle.std.proofs.Common.{◌≡◌, ℕ, false, ◌⊎◌, List, [], ◌∷◌, ◌++◌, reverse, inl, inr, sym, subst, refl}
 use Rattle.cx_base.specs.declared.cluster.Cluster.{Cluster}
 use Rattle.cx_base.specs.declared.command.Command.{Command}
 use Rattle.cx_base.specs.declared.event.Event.{Event}
@@ -16,11 +16,10 @@ use Rattle.cx_msg.specs.declared.message.Msg.{Msg}
 use Rattle.cx_msg.specs.declared.message.Msg.TheVariants as msg
 use Rattle.cx_model.specs.History.{was_asked}
 use Rattle.cx_model.specs.Leader.{leader_rules}
-use Rattle.cx_model.specs.Member.{Member}
 use Rattle.cx_model.specs.Request.{request}
 use Rattle.cx_model.specs.World.{World, change, step, run, run_from}
 use Rattle.cx_inv_run.specs.Laws.{Laws, HoldsAlong}
-use Rattle.cx_inv_run.specs.States.{State, Down, BatcherIn, LeaderIn, ProxyIn, plain, fresh_state, set_state, states_of, durable_of, HoldsIn}
+use Rattle.cx_inv_run.specs.States.{State, Down, BatcherIn, LeaderIn, ProxyIn, plain, fresh_state, states_of, durable_of, HoldsIn}
 use Rattle.cx_inv_run.proofs.Histories.{set_running}
 use Rattle.cx_inv_run.proofs.KindLaws.{kinds_hold}
 use Rattle.cx_inv_run.proofs.Members.{Member-first, Member-one, Member-reverse, Member-turned}
@@ -29,11 +28,12 @@ use Rattle.cx_inv_run.proofs.Sends.{batcher_sends, leader_sends, proxy_sends, un
 use Rattle.cx_inv_run.proofs.Steps.{run_keeps, run_from_keeps, run_append, run_cluster, along, all_allowed}
 use Rattle.cx_inv_match.specs.Facts.{Facts}
 use Rattle.cx_inv_vote.proofs.Steps.{facts_hold}
-use Rattle.cx_inv_read.specs.Reads.{Has, ReadSays, IsAcked, InReader, Reads, IsElse, Unread}
+use Rattle.cx_inv_read.specs.Reads.{Has, ReadSays, InReader, Reads, IsElse, Unread}
 use Rattle.cx_inv_read.proofs.Keep.{Since, lands, no_acks, sent_more}
 use Rattle.cx_inv_read.proofs.Rows.{Each}
 use Rattle.cx_inv_read.proofs.Says.{Known}
-use Rattle.cx_inv_read.proofs.Steps.{acceptor_lands, matchmaker_lands, replica_lands, reader_lands}
+use Rattle.cx_inv_read.proofs.Readers.{reader_lands}
+use Rattle.cx_inv_read.proofs.Roles.{acceptor_lands, matchmaker_lands, replica_lands}
 use Rattle.cx_inv_read.proofs.Unread.{IsOther, unread_laws, not_asked}
 
 -- what is known from the asking on

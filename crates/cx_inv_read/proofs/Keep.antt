@@ -1,17 +1,16 @@
 -- The facts on a read after a step: what was said stays so, and what a row sends and leaves is added.
-use Rattle.std.proofs.Common.{◌≡◌, ℕ, Bool, true, false, ◌&&◌, ◌⊎◌, List, [], ◌∷◌, ◌++◌, Option, None, Some, inl, inr, ap, sym, subst, ◌∙◌, refl}
+use Rattle.std.proofs.Common.{◌≡◌, ℕ, Bool, true, false, ◌&&◌, ◌⊎◌, List, ◌∷◌, ◌++◌, inl, inr, ap, sym, subst, ◌∙◌}
 use Rattle.std.specs.List.{list_any}
 use Rattle.std.proofs.lemmas.Bool.{true≢false, and_parts, and_from, cases_Bool}
 use Rattle.cx_base.specs.declared.cluster.Cluster.{Cluster}
 use Rattle.cx_base.specs.declared.role.Kind.TheVariants as kind
 use Rattle.cx_base.specs.declared.role.RoleId.{RoleId}
 use Rattle.cx_base.specs.declared.round.Round.{Round}
-use Rattle.cx_base.specs.Round.{no_round, same_round}
+use Rattle.cx_base.specs.Round.{same_round}
 use Rattle.cx_field.specs.declared.parts.Entry.{Entry}
 use Rattle.cx_field.specs.declared.parts.Token.{Token}
 use Rattle.cx_msg.specs.Letter.{Letter, letter}
 use Rattle.cx_msg.specs.declared.input.KeptRecord.{KeptRecord}
-use Rattle.cx_msg.specs.declared.kept.Record.{Record}
 use Rattle.cx_msg.specs.declared.message.Msg.{Msg}
 use Rattle.cx_msg.specs.declared.message.Msg.TheVariants as msg
 use Rattle.cx_model.specs.Lists.{number_itself}
@@ -20,12 +19,11 @@ use Rattle.cx_model.specs.Outcome.{Outcome}
 use Rattle.cx_model.specs.Request.{same_read}
 use Rattle.cx_inv_run.specs.Kinds.{OfKind}
 use Rattle.cx_inv_run.specs.Laws.{Lands}
-use Rattle.cx_inv_run.specs.States.{State, Down, set_state, entry_by, with_record}
+use Rattle.cx_inv_run.specs.States.{State, Down, entry_by, with_record}
 use Rattle.cx_inv_run.proofs.Members.{Member-cases, Member-both, Member-any, any-Member}
 use Rattle.cx_inv_run.proofs.Histories.{kept_longer, set_running}
 use Rattle.cx_inv_run.proofs.Rounds.{same_round-true, same_round-itself}
 use Rattle.cx_inv_match.specs.Facts.{Facts}
-use Rattle.cx_inv_match.specs.Words.{IsCollected}
 use Rattle.cx_inv_read.specs.Reads.{Has, Covers, IsRaised, IsReadAnswer, ReadSays, IsAcked, HasEvidence, InReader, Reads}
 use Rattle.cx_inv_read.proofs.Rows.{Each, same_read-true}
 
@@ -112,11 +110,11 @@ module _ (c : Cluster) (asked : List KeptRecord) (t : Token) (history : List Kep
       ))
   more_evidence ds acks w (inr (inl none)) = elim (cases_Bool (list_any (λ (d : Letter). is_ack t w d.msg) ds)) [
     | inl h ↦ (
-      let r = any-Member (λ (d : Letter). is_ack t w d.msg) ds h in
-      let q = ack_is t w r.0.msg r.2 in
-      let m : Member (letter r.0.from r.0.to (msg.PreReadAck t w q.0)) ds = subst (λ x. Member (letter r.0.from r.0.to x) ds) q.1 r.1 in
-      new_evidence w (acks w r.0.from q.0 (r.0.to, m)).1 none ds acks
-    )
+        let r = any-Member (λ (d : Letter). is_ack t w d.msg) ds h in
+        let q = ack_is t w r.0.msg r.2 in
+        let m : Member (letter r.0.from r.0.to (msg.PreReadAck t w q.0)) ds = subst (λ x. Member (letter r.0.from r.0.to x) ds) q.1 r.1 in
+        new_evidence w (acks w r.0.from q.0 (r.0.to, m)).1 none ds acks
+        )
     | inr f ↦ inr (inl (λ a n y. elim (acked_cases sent ds t w a n y) [
       | inl z ↦ none a n z
       | inr z ↦ true≢false (sym (Member-any (λ (d : Letter). is_ack t w d.msg) (letter a z.0 (msg.PreReadAck t w n)) ds z.1 (is_ack-itself t w n)) ∙ f)

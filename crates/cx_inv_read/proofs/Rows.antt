@@ -1,6 +1,6 @@
 -- What the rows of the roles that take part in reads send: what is true of their other datagrams, and of each step of a read, is true of all.
-use Rattle.std.proofs.Common.{◌≡◌, ℕ, ◌+◌, ◌≤◌, Bool, true, false, not, ◌&&◌, max, map, filter, ◌⊎◌, List, [], ◌∷◌, ◌++◌, length, Option, None, Some, inl, inr, ap, sym, subst, ◌∙◌, refl, arith}
-use Rattle.std.specs.Prelude.{◌==◌, ◌%◌, nat_lt, nat_le, if◌then◌else◌, slice_get}
+use Rattle.std.proofs.Common.{◌≡◌, ℕ, ◌+◌, ◌≤◌, true, false, not, ◌&&◌, max, map, filter, ◌⊎◌, List, [], ◌∷◌, ◌++◌, length, Option, None, Some, inl, inr, ap, sym, subst, ◌∙◌, refl}
+use Rattle.std.specs.Prelude.{◌==◌, ◌%◌, nat_lt, nat_le, slice_get}
 use Rattle.std.specs.List.{list_any}
 use Rattle.std.proofs.lemmas.Bool.{and_parts, not-false, leb-true}
 use Rattle.std.proofs.lemmas.Option.{same_Some}
@@ -17,17 +17,15 @@ use Rattle.cx_field.specs.declared.parts.Token.{Token}
 use Rattle.cx_msg.specs.Letter.{Letter, letter}
 use Rattle.cx_msg.specs.declared.message.Msg.{Msg}
 use Rattle.cx_msg.specs.declared.message.Msg.TheVariants as msg
-use Rattle.cx_model.specs.declared.states.Acked.{Acked}
 use Rattle.cx_model.specs.declared.states.Deferred.{Deferred}
-use Rattle.cx_model.specs.declared.states.MatchAnswer.{MatchAnswer}
 use Rattle.cx_model.specs.Acceptor.{AcceptorDurable, is_of, vote_at, acceptor_takes}
 use Rattle.cx_model.specs.Lists.{same_number}
 use Rattle.cx_model.specs.Matched.{matchmakers, is_counted, greatest_watermark, live_entries, is_member_of, members_of, rows_whole}
 use Rattle.cx_model.specs.Matchmaker.{MatchmakerDurable, has_round, matchmaker_takes}
 use Rattle.cx_model.specs.Member.{Member}
 use Rattle.cx_model.specs.Outcome.{Outcome, either_way, by_test}
-use Rattle.cx_model.specs.Reader.{ReaderVolatile, Reading, reading_of, with_reading, without_reading, is_matched, acked_by, has_acked, greatest_mark, match_read_to, pre_read_to, read_to, ask_matchmakers, read_req_over, read_req_row, send_read, read_matched, match_ack_counted, match_ack_row, pre_read_counted, pre_read_ack_row}
-use Rattle.cx_model.specs.Replica.{ReplicaDurable, ReplicaVolatile, Machine, execute_value, machine_of, results_at, results_from, read_answer_to, read_answers, apply, chosen_row, read_row, fetch_found, replica_takes, held_to, fetch_to, replica_tick}
+use Rattle.cx_model.specs.Reader.{ReaderVolatile, Reading, reading_of, with_reading, without_reading, is_matched, acked_by, has_acked, greatest_mark, match_read_to, pre_read_to, read_to, ask_matchmakers, read_req_over, read_req_row, send_read, read_matched, match_ack_row, pre_read_ack_row}
+use Rattle.cx_model.specs.Replica.{ReplicaDurable, ReplicaVolatile, Machine, execute_value, machine_of, results_at, results_from, read_answer_to, read_answers, fetch_found, replica_takes, held_to, fetch_to, replica_tick}
 use Rattle.cx_model.specs.Request.{same_read}
 use Rattle.cx_inv_run.proofs.Members.{Member-both, Member-one, Member-map, Member-filter}
 

@@ -1,5 +1,5 @@
 -- What one event sends: an acceptor's answer to a read is above each slot that it voted in and at least its watermark.
-use Rattle.std.proofs.Common.{◌≡◌, ℕ, ◌<◌, ◌≤◌, ◌&&◌, max, List, [], ◌∷◌, ◌++◌, reverse, append-nil, sym, subst, ◌∙◌, refl, arith}
+use Rattle.std.proofs.Common.{◌≡◌, ℕ, ◌<◌, ◌≤◌, ◌&&◌, max, List, [], ◌++◌, reverse, append-nil, sym, subst, ◌∙◌, refl, arith}
 use Rattle.std.proofs.lemmas.List.{append_cancel_left}
 use Rattle.cx_base.specs.declared.cluster.Cluster.{Cluster}
 use Rattle.cx_base.specs.declared.command.Value.{Value}
@@ -23,7 +23,7 @@ use Rattle.cx_model.specs.Names.{names}
 use Rattle.cx_model.specs.Outcome.{Outcome, either_way}
 use Rattle.cx_model.specs.Replica.{replica_rules}
 use Rattle.cx_model.specs.Request.{request}
-use Rattle.cx_model.specs.World.{World, change, step, run}
+use Rattle.cx_model.specs.World.{change, step, run}
 use Rattle.cx_inv_run.specs.Kinds.{IsSender, OfKind}
 use Rattle.cx_inv_run.specs.Laws.{Lands, Laws}
 use Rattle.cx_inv_run.specs.States.{State, durable_of, HoldsIn}

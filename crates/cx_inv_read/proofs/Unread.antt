@@ -1,7 +1,5 @@
 -- Of a read that no event asked for no datagram was sent.
-use Rattle.std.proofs.Common.{◌≡◌, ℕ, ◌≤◌, Bool, true, false, ◌&&◌, max, ◌⊎◌, List, [], ◌∷◌, ◌++◌, length, Option, None, Some, inl, inr, ap, sym, subst, ◌∙◌, refl}
-use Rattle.std.specs.Prelude.{◌==◌}
-use Rattle.std.specs.List.{list_any}
+use Rattle.std.proofs.Common.{◌≡◌, true, false, ◌&&◌, List, [], ◌∷◌, ◌++◌, Some, inl, inr, ap, sym, subst, ◌∙◌, refl}
 use Rattle.std.proofs.lemmas.Bool.{true≢false, and_from}
 use Rattle.cx_base.specs.declared.cluster.Cluster.{Cluster}
 use Rattle.cx_base.specs.declared.command.Value.{Value}
@@ -10,39 +8,34 @@ use Rattle.cx_base.specs.declared.event.Event.TheVariants as event
 use Rattle.cx_base.specs.declared.event.Happened.{Happened}
 use Rattle.cx_base.specs.declared.role.Kind.TheVariants as kind
 use Rattle.cx_base.specs.declared.role.RoleId.{RoleId}
-use Rattle.cx_base.specs.declared.round.Round.{Round}
-use Rattle.cx_base.specs.declared.why.Why.{Why}
 use Rattle.cx_base.specs.declared.why.Why.TheVariants as why
 use Rattle.cx_base.specs.Role.{role, same_role}
-use Rattle.cx_field.specs.declared.parts.Entry.{Entry}
 use Rattle.cx_field.specs.declared.parts.Token.{Token}
-use Rattle.cx_msg.specs.Letter.{Letter, letter}
+use Rattle.cx_msg.specs.Letter.{Letter}
 use Rattle.cx_msg.specs.declared.input.Input.{Input}
 use Rattle.cx_msg.specs.declared.input.Input.TheVariants as input
 use Rattle.cx_msg.specs.declared.input.KeptRecord.{KeptRecord}
 use Rattle.cx_msg.specs.declared.message.Msg.{Msg}
 use Rattle.cx_msg.specs.declared.message.Msg.TheVariants as msg
 use Rattle.cx_model.specs.declared.states.Deferred.{Deferred}
-use Rattle.cx_model.specs.Acceptor.{AcceptorDurable, acceptor_rules, acceptor_takes, acceptor_row}
+use Rattle.cx_model.specs.Acceptor.{AcceptorDurable, acceptor_rules, acceptor_row}
 use Rattle.cx_model.specs.Facts.{ReplicaWasTold}
 use Rattle.cx_model.specs.History.{was_asked}
 use Rattle.cx_model.specs.Leader.{leader_rules}
 use Rattle.cx_model.specs.Lists.{number_itself}
-use Rattle.cx_model.specs.Matchmaker.{MatchmakerDurable, matchmaker_rules, matchmaker_takes, matchmaker_row}
-use Rattle.cx_model.specs.Member.{Member}
+use Rattle.cx_model.specs.Matchmaker.{MatchmakerDurable, matchmaker_rules, matchmaker_row}
 use Rattle.cx_model.specs.Names.{names}
 use Rattle.cx_model.specs.Outcome.{Outcome, either_way}
 use Rattle.cx_model.specs.Reader.{Reading, ReaderVolatile, reading, token, reading_of, reader_takes, reader_row}
-use Rattle.cx_model.specs.Replica.{ReplicaDurable, ReplicaVolatile, replica_rules, read_answer_to, replica_takes, replica_row}
+use Rattle.cx_model.specs.Replica.{ReplicaDurable, ReplicaVolatile, replica_rules, read_answer_to, replica_row}
 use Rattle.cx_model.specs.Request.{token_of, same_token, was_sent, is_sent, request}
 use Rattle.cx_model.specs.World.{World, change, step, run_from}
-use Rattle.cx_inv_run.specs.Kinds.{IsSender}
 use Rattle.cx_inv_run.specs.Laws.{Lands, Laws, AllAllowed}
-use Rattle.cx_inv_run.specs.States.{State, ReplicaIn, Given, durable_of}
+use Rattle.cx_inv_run.specs.States.{State, Given, durable_of}
 use Rattle.cx_inv_run.proofs.Members.{Member-cases, Member-first, Member-second, Member-one, Member-any, any-Member}
 use Rattle.cx_inv_run.proofs.Senders.{batcher_kinds, leader_kinds, proxy_kinds, unbatcher_kinds}
 use Rattle.cx_inv_run.proofs.Sends.{batcher_sends, leader_sends, proxy_sends, unbatcher_sends, sends_only}
-use Rattle.cx_inv_match.specs.Facts.{InState, Facts}
+use Rattle.cx_inv_match.specs.Facts.{InState}
 use Rattle.cx_inv_read.specs.Reads.{IsElse, Unread}
 use Rattle.cx_inv_read.proofs.Rows.{IsPlain, Each, acceptor_tells, matchmaker_tells, replica_tells, replica_ticks, reading_there, ReaderTells, request_tells, match_tells, ack_tells}
 use Rattle.cx_inv_read.proofs.Says.{Known, told_lands}

@@ -1,6 +1,6 @@
 -- An answer tells no more values than some replica kept.
-use Rattle.std.proofs.Common.{◌≡◌, ◌⊎◌, ℕ, ◌+◌, ◌≤◌, ◌&&◌, List, [], ◌∷◌, ◌++◌, map, filter, length, inl, inr, ap, sym, subst, ◌∙◌, refl, arith}
-use Rattle.std.specs.Prelude.{◌==◌, ◌%◌, nat_lt, nat_le, if◌then◌else◌, slice_get, Option, None, Some}
+use Rattle.std.proofs.Common.{◌≡◌, ◌⊎◌, ℕ, ◌+◌, ◌≤◌, ◌&&◌, List, [], ◌∷◌, ◌++◌, map, filter, length, inl, inr, ap, sym, subst, refl, arith}
+use Rattle.std.specs.Prelude.{◌==◌, ◌%◌, nat_lt, nat_le, slice_get, Option, None, Some}
 use Rattle.std.specs.List.{list_any}
 use Rattle.std.proofs.lemmas.List.{length-append}
 use Rattle.std.proofs.lemmas.Option.{same_Some}
@@ -30,7 +30,7 @@ use Rattle.cx_model.specs.Leader.{leader_rules}
 use Rattle.cx_model.specs.Matchmaker.{matchmaker_rules}
 use Rattle.cx_model.specs.Member.{Member}
 use Rattle.cx_model.specs.Names.{names}
-use Rattle.cx_model.specs.Outcome.{Outcome, either_way, by_test}
+use Rattle.cx_model.specs.Outcome.{Outcome, either_way}
 use Rattle.cx_model.specs.Replica.{ReplicaDurable, ReplicaVolatile, Machine, Executed, new_machine, acting, execute_behind, execute, execute_all, execute_value, machine_from, machine_of, results_at, results_from, read_answer_to, read_answers, apply, fetch_found, held_to, fetch_to, replica_rules, replica_after, replica_takes, replica_tick, replica_row}
 use Rattle.cx_model.specs.Request.{same_read, request}
 use Rattle.cx_model.specs.Unbatcher.{answer_to, unbatcher_takes, unbatcher_row}
@@ -38,7 +38,7 @@ use Rattle.cx_model.specs.World.{run}
 use Rattle.cx_inv_run.specs.Laws.{Lands, Laws, anything}
 use Rattle.cx_inv_run.specs.States.{State, Given, entry_by, with_record, durable_of, HoldsIn}
 use Rattle.cx_inv_run.proofs.Histories.{by_role, durable_own, durable_other}
-use Rattle.cx_inv_run.proofs.Members.{Member-cases, Member-both, Member-map, Member-one}
+use Rattle.cx_inv_run.proofs.Members.{Member-both, Member-map, Member-one}
 use Rattle.cx_inv_run.proofs.Senders.{batcher_kinds, leader_kinds, proxy_kinds, acceptor_kinds, matchmaker_kinds, reader_kinds}
 use Rattle.cx_inv_run.proofs.Sends.{batcher_sends, leader_sends, proxy_sends, acceptor_sends, matchmaker_sends, reader_sends, sends_only}
 use Rattle.cx_inv_run.proofs.Steps.{run_keeps, along_anything, all_allowed}

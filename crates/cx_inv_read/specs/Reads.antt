@@ -1,6 +1,6 @@
 -- What the datagrams of a read say: of the history as it was when the read was first asked for, of a read that was not asked for yet, and of how
 -- many values some replica kept.
-use Rattle.std.specs.Prelude.{◌≡◌, ◌⊎◌, ℕ, ◌+◌, ◌*◌, ◌<◌, ◌≤◌, false, List, [], ◌∷◌, length}
+use Rattle.std.specs.Prelude.{◌≡◌, ◌⊎◌, ℕ, ◌+◌, ◌*◌, ◌<◌, ◌≤◌, false, List, length}
 use Rattle.cx_base.specs.declared.cluster.Cluster.{Cluster}
 use Rattle.cx_base.specs.declared.command.Answered.{Answered}
 use Rattle.cx_base.specs.declared.command.Value.{Value}
@@ -16,8 +16,6 @@ use Rattle.cx_msg.specs.Letter.{Letter, letter}
 use Rattle.cx_msg.specs.declared.input.KeptRecord.{KeptRecord}
 use Rattle.cx_msg.specs.declared.message.Msg.{Msg}
 use Rattle.cx_msg.specs.declared.message.Msg.TheVariants as msg
-use Rattle.cx_model.specs.declared.states.Acked.{Acked}
-use Rattle.cx_model.specs.declared.states.MatchAnswer.{MatchAnswer}
 use Rattle.cx_model.specs.Facts.{HasVoted}
 use Rattle.cx_model.specs.Matchmaker.{entry}
 use Rattle.cx_model.specs.Member.{Member}
