@@ -4,6 +4,7 @@ ghost use Rattle.std.specs.Prelude.{◌≡◌, ◌≤◌, ◌++◌, ◌∷◌, [
 ghost use Rattle.cx_base.specs.Asked.{takes_event};
 ghost use Rattle.cx_model.specs.Chosen.{chosen_prefix};
 ghost use Rattle.cx_model.specs.World.{step, start, run, event_list};
+ghost use Rattle.cx_promises.specs.Lawful.{IsLawful, IsCommandList};
 ghost use Rattle.cx_world.specs.Counts.{counts_of};
 ghost use Rattle.cx_world.specs.Folded.{folded_of};
 ghost use Rattle.cx_world.specs.World.{IsPrefix, BeginWith, effect_of};
@@ -109,14 +110,15 @@ impl World {
         })
     }
 
-    /// One event: the new world is the model's step of the old one, and the effect tells what the step did. After want of
-    /// memory the world is spent, and its histories begin with those from before.
-    #[tactic(auto, unfolding(cx_model::specs::World::step))]
+    /// One event: the new world is the model's step of the old one, and the effect tells what the step did. What is promised of
+    /// runs holds of the events so far. After want of memory the world is spent, and its histories begin with those from before.
+    #[tactic(auto, using(cx_promises::proofs::Lawful::lawful), unfolding(cx_model::specs::World::step))]
     pub fn step(&mut self, event: &Event) -> Result<Effect, NoMemory>
         requires fresh { self.old.spent ≡ false }
         requires taken { IsTrue (takes_event event.now) }
         ensures ok { OnOk result (self.new ≡ record { world = step self.old.world event.now; spent = false }) }
         ensures effect { IfOk result (λ effect. effect ≡ effect_of self.old.world event.now) }
+        ensures lawful { OnOk result (IsLawful self.new.world.cluster (event_list self.new.world.events)) }
         ensures spent { OnErr result (self.new.spent ≡ true) }
         ensures begun { OnErr result (BeginWith self.old.world self.new.world) }
     {
@@ -181,9 +183,11 @@ impl World {
         }
     }
 
-    /// The values chosen in slot 0, 1 and so on, up to the first slot without one; from the kept votes and rounds alone.
+    /// The values chosen in slot 0, 1 and so on, up to the first slot without one; from the kept votes and rounds alone. In a world
+    /// that isn't spent it is the one command list.
     pub fn chosen_prefix(&self) -> Result<Values, NoMemory>
-        ensures { IfOk result (λ values. values ≡ chosen_prefix self.now.world.kept) }
+        ensures prefix { IfOk result (λ values. values ≡ chosen_prefix self.now.world.kept) }
+        ensures agreed { self.now.spent ≡ false → IfOk result (λ values. IsCommandList self.now.world.cluster self.now.world.kept values) }
     {
         chosen_prefix(self.alloc, &self.kept)
     }
@@ -202,10 +206,13 @@ impl World {
         count(self.events.as_slice(), &self.kept, &self.sent)
     }
 
-    /// What is true of every world that isn't spent: it is the run of its events. It takes no memory.
+    /// What is true of every world that isn't spent: it is the run of its events, and what is promised of runs holds of it. It takes
+    /// no memory.
+    #[tactic(auto, using(cx_promises::proofs::Lawful::lawful))]
     pub fn law(&self)
         requires { self.now.spent ≡ false }
-        ensures { self.now.world ≡ run self.now.world.cluster (event_list self.now.world.events) }
+        ensures run { self.now.world ≡ run self.now.world.cluster (event_list self.now.world.events) }
+        ensures lawful { IsLawful self.now.world.cluster (event_list self.now.world.events) }
     {
         let _ = &self.spent;
     }
