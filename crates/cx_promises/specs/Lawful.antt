@@ -1,6 +1,6 @@
 -- What is promised of one run: that of these events over this cluster. Where a sentence speaks of a moment before, it is that of a list of events
 -- with which these begin.
-use Rattle.std.specs.Prelude.{◌≡◌, ℕ, ◌+◌, ◌<◌, ◌≤◌, true, false, take, List, [], ◌∷◌, ◌++◌, length, Option, Some}
+use Rattle.std.specs.Prelude.{◌≡◌, ℕ, ◌+◌, ◌<◌, ◌≤◌, true, false, take, List, [], ◌∷◌, ◌++◌, length, slice_get, Option, Some}
 use Rattle.cx_base.specs.declared.cluster.Cluster.{Cluster}
 use Rattle.cx_base.specs.declared.command.Command.{Command}
 use Rattle.cx_base.specs.declared.command.Reply.{Reply}
@@ -17,6 +17,7 @@ use Rattle.cx_base.specs.Grid.{Shape}
 use Rattle.cx_base.specs.Role.{role}
 use Rattle.cx_field.specs.declared.parts.Token.{Token}
 use Rattle.cx_msg.specs.Letter.{letter}
+use Rattle.cx_msg.specs.declared.input.KeptRecord.{KeptRecord}
 use Rattle.cx_msg.specs.declared.kept.Record.{Record}
 use Rattle.cx_msg.specs.declared.message.Msg.TheVariants as msg
 use Rattle.cx_model.specs.Chosen.{is_chosen, chosen_prefix}
@@ -79,3 +80,10 @@ pub record IsLawful (c : Cluster) (es : List Event) : Type 0 where
 -- every run is so
 abbrev pub RunsAreLawful : Type 0
 RunsAreLawful = (c : Cluster) (es : List Event) → IsLawful c es
+
+-- A list of values is the one command list of these records: each value is chosen in its slot and no other one is, and what each replica
+-- kept begins it.
+pub record IsCommandList (c : Cluster) (history : List KeptRecord) (values : List Value) : Type 0 where
+  pub chosen : (s : ℕ) (v : Value) → slice_get values s ≡ Some v → is_chosen history s v ≡ true
+  pub only : (s : ℕ) (v w : Value) → slice_get values s ≡ Some v → is_chosen history s w ≡ true → w ≡ v
+  pub replicas : (p : ℕ) → p < c.replicas → Begins (log_of p history) values
