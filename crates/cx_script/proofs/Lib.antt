@@ -6,3 +6,4 @@ pub mod Parts
 pub mod Schedules
 pub mod Splitting
 pub mod Takes
+pub mod WholeLines
