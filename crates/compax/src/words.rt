@@ -1,8 +1,9 @@
 //! What the words of a command line ask for, as clap reads them.
 
-ghost use Rattle.std.specs.Prelude.{◌≡◌, IfOk, false, map, codes, string_bytes};
+ghost use Rattle.std.specs.Prelude.{◌≡◌, ◌∷◌, ℕ, List, [], IfOk, None, Some, false, map, codes, string_bytes};
 ghost use Rattle.clap.specs.Words.{app_of, found_of, rows_of, rule_of};
 ghost use Rattle.clap.specs.declared.builder.command.Command.TheViews.{out-Command};
+ghost use Rattle.compax.specs.declared.words.Invocation.TheVariants.{Generate as Gen, Replay};
 ghost use Rattle.compax.specs.Words.{IsMatch, asked_by, command, count_rule, generate, generated, most_count, most_seed, number_at, said, seed_rule};
 
 use clap::error::ErrorKind;
@@ -114,4 +115,17 @@ pub fn said(alloc: Global, words: &[String]) -> Result<Option<Invocation>, Alloc
         Some((name, given)) => Ok(asked_by(name, given)),
         None => Ok(None),
     }
+}
+
+/// What words say that are written out, whatever the program is called: a law of the definition.
+#[tactic(auto, using(crate::proofs::Spoken::replay_said, crate::proofs::Spoken::least_said, crate::proofs::Spoken::most_said, crate::proofs::Spoken::seed_above, crate::proofs::Spoken::count_above, crate::proofs::Spoken::nothing_said, crate::proofs::Spoken::help_said))]
+pub fn said_of_words_written_out()
+    ensures replay { (program : List ℕ) → said (program ∷ codes "replay" ∷ []) ≡ Some Replay }
+    ensures least { (program : List ℕ) → said (program ∷ codes "gen" ∷ codes "0" ∷ codes "0" ∷ []) ≡ Some (Gen 0 0) }
+    ensures most { (program : List ℕ) → said (program ∷ codes "gen" ∷ codes "18446744073709551615" ∷ codes "65535" ∷ []) ≡ Some (Gen 18446744073709551615 65535) }
+    ensures seed_above { (program : List ℕ) → said (program ∷ codes "gen" ∷ codes "18446744073709551616" ∷ codes "0" ∷ []) ≡ None }
+    ensures count_above { (program : List ℕ) → said (program ∷ codes "gen" ∷ codes "0" ∷ codes "65536" ∷ []) ≡ None }
+    ensures nothing { (program : List ℕ) → said (program ∷ []) ≡ None }
+    ensures help { (program : List ℕ) → said (program ∷ codes "--help" ∷ []) ≡ None }
+{
 }
