@@ -12,6 +12,7 @@ use crate::change::{Changed, Seats, change};
 use crate::chosen::chosen_prefix;
 use crate::counts::{Counts, count};
 use crate::folded::folded;
+use crate::history::History;
 use crate::seat::open_all;
 use cx_base::{Cluster, Duplicate, Event, Happened, Kind, NoMemory, Values, Why};
 use cx_msg::{Datagram, KeptRecord};
@@ -27,7 +28,7 @@ pub struct World {
     alloc: Global,
     cluster: Cluster,
     seats: Seats,
-    events: Vec<Happened>,
+    events: History,
     kept: Vec<KeptRecord>,
     sent: Vec<Datagram>,
     out: Outbox,
@@ -42,17 +43,9 @@ impl Model for World {
 
     ghost use Rattle.cx_world.specs.World.{Holds, roles_of, lists_of};
 
-    ghost view = { λ w. record { world = record { cluster = w.cluster; roles = roles_of (lists_of w.seats); events = w.events.items; kept = w.kept.items; sent = w.sent.items }; spent = w.spent } };
+    ghost view = { λ w. record { world = record { cluster = w.cluster; roles = roles_of (lists_of w.seats); events = w.events; kept = w.kept.items; sent = w.sent.items }; spent = w.spent } };
 
-    ghost invariant = { λ w. w.spent ≡ false → Holds (record { cluster = w.cluster; roles = roles_of (lists_of w.seats); events = w.events.items; kept = w.kept.items; sent = w.sent.items }) (lists_of w.seats) w.out.list };
-}
-
-fn push_copy<T: Copy + Drop>(list: &mut Vec<T>, item: &T) -> Result<(), NoMemory>
-    ensures ok { OnOk result (list.new.items ≡ list.old.items ++ item.now ∷ []) }
-    ensures err { OnErr result (list.new.items ≡ list.old.items) }
-{
-    list.push(*item)?;
-    Ok(())
+    ghost invariant = { λ w. w.spent ≡ false → Holds (record { cluster = w.cluster; roles = roles_of (lists_of w.seats); events = w.events; kept = w.kept.items; sent = w.sent.items }) (lists_of w.seats) w.out.list };
 }
 
 fn push_if<T: Drop>(list: &mut Vec<T>, item: Option<T>) -> Result<(), NoMemory>
@@ -67,7 +60,7 @@ fn push_if<T: Drop>(list: &mut Vec<T>, item: Option<T>) -> Result<(), NoMemory>
 
 // Writes what happened into the histories.
 fn note(
-    events: &mut Vec<Happened>,
+    events: &mut History,
     kept: &mut Vec<KeptRecord>,
     sent: &mut Vec<Datagram>,
     event: &Event,
@@ -75,15 +68,15 @@ fn note(
     what: Option<KeptRecord>,
     out: &mut Outbox,
 ) -> Result<(), NoMemory>
-    ensures events { OnOk result (events.new.items ≡ events.old.items ++ record { event = event.now; why = why } ∷ []) }
+    ensures events { OnOk result (events.new ≡ events.old ++ record { event = event.now; why = why } ∷ []) }
     ensures kept { OnOk result (kept.new.items ≡ kept.old.items ++ option_to_list what) }
     ensures sent { OnOk result (sent.new.items ≡ sent.old.items ++ out.old.list) }
     ensures out { OnOk result (out.new.list ≡ []) }
-    ensures events_begin { OnErr result (IsPrefix events.old.items events.new.items) }
+    ensures events_begin { OnErr result (IsPrefix events.old events.new) }
     ensures kept_begin { OnErr result (IsPrefix kept.old.items kept.new.items) }
     ensures sent_begin { OnErr result (IsPrefix sent.old.items sent.new.items) }
 {
-    push_copy(events, &Happened { event: *event, why })?;
+    events.push(&Happened { event: *event, why })?;
     push_if(kept, what)?;
     out.move_to(sent)
 }
@@ -108,7 +101,7 @@ impl World {
             alloc,
             cluster,
             seats,
-            events: Vec::new(alloc),
+            events: History::new(alloc),
             kept: Vec::new(alloc),
             sent: Vec::new(alloc),
             out: Outbox::new(alloc),
@@ -148,7 +141,7 @@ impl World {
         )?;
         self.spent = false;
         Ok(Effect {
-            event: self.events.len() as u64,
+            event: self.events.as_slice().len() as u64,
             who,
             why,
             first,
@@ -206,7 +199,7 @@ impl World {
     pub fn counts(&self) -> Counts
         ensures { result ≡ counts_of self.now.world }
     {
-        count(&self.events, &self.kept, &self.sent)
+        count(self.events.as_slice(), &self.kept, &self.sent)
     }
 
     /// What is true of every world that isn't spent: it is the run of its events. It takes no memory.
