@@ -24,6 +24,7 @@ mod place;
 mod split;
 #[cfg(test)]
 mod tests;
+mod unended;
 mod words;
 
 pub use event::{MAX_LINE_LENGTH, line};
@@ -32,3 +33,4 @@ pub use generator::{Gen, gen_cluster};
 pub use header::{MAX_HEADER_LENGTH, split_header};
 pub use law::{generated_events_are_taken, spelled_events_are_taken};
 pub use lines::{MAX_LINES, Schedule, read_schedule};
+pub use unended::{counted, is_long_header};
