@@ -2,7 +2,7 @@
 use Rattle.std.specs.Prelude.{◌≡◌, ◌⊎◌, ℕ, List, Option, None, Some}
 use Rattle.cx_base.specs.declared.status.Status.{Status}
 use Rattle.cx_base.specs.declared.status.Status.TheVariants as status
-use Rattle.cx_replay.specs.Generated.{Generated, GenerationCompletes}
+use Rattle.cx_replay.specs.Generated.{Generated, GenCompletes}
 use Rattle.cx_replay.specs.Replay.{Completes, Replayed}
 use Rattle.compax.specs.declared.words.Invocation.{Invocation}
 use Rattle.compax.specs.declared.words.Invocation.TheVariants.{Replay, Generate}
@@ -20,4 +20,4 @@ pub record Answered (said : Option Invocation) (left left_after : Option (List �
   pub replay_completes : said ≡ Some Replay → Completes left reads reads_after writes writes_after s
   -- Generating wrote the short summary of the run of the generator's events, or its status says why it stopped.
   pub generated : (seed count : ℕ) → said ≡ Some (Generate seed count) → Generated seed count out out_after writes writes_after s
-  pub generating_completes : (seed count : ℕ) → said ≡ Some (Generate seed count) → GenerationCompletes writes writes_after s
+  pub generating_completes : (seed count : ℕ) → said ≡ Some (Generate seed count) → GenCompletes writes writes_after s
