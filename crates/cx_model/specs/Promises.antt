@@ -167,11 +167,12 @@ KeepsAsking w (e ∷ es) proxy i s = StillAsks w e proxy i s × KeepsAsking (ste
 abbrev pub DeliversOneOf : World → List Event → Letter → Type 0
 DeliversOneOf w es d = (earlier later : List Event) × (e : Event) × (es ≡ earlier ++ e ∷ later) × Delivers (run_from w earlier) e d
 
--- Announcement: when a proxy leader that asks has taken the votes of a whole column, every replica and the round's leader were told.
+-- Announcement: when a proxy leader that asks has taken the votes of a whole column of its grid's members, every replica and the round's leader
+-- were told. (Each column of a grid without empty places is made of members.)
 pub record Announced : Type 0 where
   pub told : (c : Cluster) (es more : List Event) (e : Event) (proxy : RoleId) (i : Round) (g : Shape) (s : ℕ) (v : Value)
       → Asks (run c es) e proxy i g s v → KeepsAsking (step (run c es) e) more proxy i s
       → (b : ℕ) → 0 < g.rows → b < g.cols
-      → ((a : ℕ) → Member a (column_of g b) → DeliversOneOf (step (run c es) e) more (letter (role kind.Acceptor a) proxy (msg.Phase2B i s)))
+      → ((a : ℕ) → Member a (column_of g b) → (is_in a g.members ≡ true) × DeliversOneOf (step (run c es) e) more (letter (role kind.Acceptor a) proxy (msg.Phase2B i s)))
       → ((p : ℕ) → p < c.replicas → Member (letter proxy (role kind.Replica p) (msg.Chosen s v)) (run c (es ++ e ∷ more)).sent)
       × Member (letter proxy (role kind.Leader i.id) (msg.ChosenIn i s)) (run c (es ++ e ∷ more)).sent
