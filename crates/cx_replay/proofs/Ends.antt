@@ -1,8 +1,7 @@
 -- What was answered to the bytes that were read is what the replay came to.
-use Rattle.std.proofs.Common.{◌≡◌, ◌≤◌, ◌<◌, ◌++◌, ℕ, Bool, true, false, List, [], length, take, take_all, Option, None, Some, refl, sym, ap, ◌∙◌, subst, inl, inr, arith, append-nil}
+use Rattle.std.proofs.Common.{◌≡◌, ◌<◌, ◌++◌, ℕ, Bool, false, List, [], length, take_all, Option, None, Some, refl, sym, ap, ◌∙◌, subst, inl, inr, arith, append-nil}
 use Rattle.std.specs.Prelude.{IfSome}
-use Rattle.std.specs.Io.KnownBytes.{Appends, Consumes, IsAtEnd}
-use Rattle.std.proofs.KnownBytes.{Appends-nil}
+use Rattle.std.specs.Io.KnownBytes.{Appends, Consumes}
 use Rattle.std.proofs.lemmas.Bool.{cases_lt}
 use Rattle.std.proofs.lemmas.List.{take-append-le}
 use Rattle.std.proofs.Math.Seq.{take-append_seam}
@@ -10,7 +9,7 @@ use Rattle.cx_base.specs.declared.status.Status.{Status}
 use Rattle.cx_base.specs.declared.status.Status.TheVariants as status
 use Rattle.cx_base.specs.Faults.{Rises}
 use Rattle.cx_edge.specs.Sink.{AppendsPart}
-use Rattle.cx_replay.specs.Input.{bad_line, input_of, lines, heard_of}
+use Rattle.cx_replay.specs.Input.{bad_line, input_of, lines}
 use Rattle.cx_replay.specs.Replay.{answer_of, trace_of, summary_of, text_of, Answers, ComesOfReplay, Completes, Replayed}
 use Rattle.cx_replay.specs.declared.input.Heard.{Heard}
 use Rattle.cx_replay.proofs.Stays.{lines_stay, good_length}
@@ -74,9 +73,9 @@ lines_replayed bytes left left_after reads reads_after out out_after writes writ
       at_end = λ e. absurd (not_done e);
       all_read = λ e. absurd (not_done e);
       bad_input = λ line e. let a = at (status.BadInput line) e in of_all left left_after bytes (λ all. bad_line (input_of all) ≡ Some line) consumed
-    (λ more. ap bad_line ((lines_stay bytes more).bad line a.0) ∙ a.0);
+          (λ more. ap bad_line ((lines_stay bytes more).bad line a.0) ∙ a.0);
       bad_input_out = λ line e. let a = at (status.BadInput line) e in of_all left left_after bytes (λ all. Appends out out_after (trace_of (input_of all))) consumed
-    (λ more. subst (λ h. Appends out out_after (trace_of h)) (sym ((lines_stay bytes more).bad line a.0)) (whole a.1));
+          (λ more. subst (λ h. Appends out out_after (trace_of h)) (sym ((lines_stay bytes more).bad line a.0)) (whole a.1));
       bad_input_read = λ line e. inr (bytes, consumed, (at (status.BadInput line) e).0);
       read_fault = fault;
       read_fault_out = λ e. let a = at status.ReadFault e in (bytes, consumed, a.1, whole a.2);

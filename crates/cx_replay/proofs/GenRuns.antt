@@ -2,8 +2,8 @@
 use Rattle.std.proofs.Common.{◌≡◌, ℕ, zero, suc, ◌+◌, List, [], ◌∷◌, ◌++◌, length, refl, ap, ◌∙◌, add-one}
 use Rattle.cx_base.specs.declared.event.Event.{Event}
 use Rattle.cx_model.specs.World.{World, start, step, run, run_from}
-use Rattle.cx_replay.specs.Generated.{gen_state, gen_events, with_next}
-use Rattle.cx_script.specs.Generator.{State, gen_cluster, next_event, next_state}
+use Rattle.cx_replay.specs.Generated.{gen_state, gen_events}
+use Rattle.cx_script.specs.Generator.{gen_cluster, next_event, next_state}
 
 run_push : (w : World) (es : List Event) (e : Event) → run_from w (es ++ e ∷ []) ≡ step (run_from w es) e
 run_push w [] e = refl

@@ -1,5 +1,5 @@
 -- What was heard of an input stays as other bytes come behind it, and how long an input can be of which no line is bad.
-use Rattle.std.proofs.Common.{◌≡◌, ◌≤◌, ◌<◌, ◌+◌, ◌*◌, ◌++◌, ℕ, Bool, true, false, List, [], ◌∷◌, length, refl, sym, ap, ◌∙◌, subst, append_assoc, append-nil, arith, nat_lt, nat_le, if◌then◌else◌, Option, Some, None, IfSome, Result, Ok, Err, length-append}
+use Rattle.std.proofs.Common.{◌≡◌, ◌≤◌, ◌<◌, ◌+◌, ◌++◌, ℕ, Bool, true, false, List, [], ◌∷◌, length, refl, sym, ap, ◌∙◌, subst, append_assoc, append-nil, arith, nat_lt, nat_le, if◌then◌else◌, Option, Some, None, IfSome, Result, Ok, Err, length-append}
 use Rattle.std.specs.Str.Lines.{strip_carriage_return}
 use Rattle.std.proofs.lemmas.Bool.Decides.{nat_tests}
 use Rattle.cx_base.specs.declared.cluster.Cluster.{Cluster}
@@ -16,7 +16,7 @@ use Rattle.cx_script.specs.Lines.{schedule_of}
 use Rattle.cx_script.specs.Unended.{but_last, last_part, lines_text, unended, whole_lines, counted, is_long_header}
 use Rattle.cx_script.proofs.Feeds.{IsFree, AreFree, bytes_cut, whole_free, unended_free}
 use Rattle.cx_script.proofs.GoesOn.{overlong, schedule_on}
-use Rattle.cx_script.proofs.Headers.{sized, header_found, header_not_ended, long_header_stays}
+use Rattle.cx_script.proofs.Headers.{header_found, header_not_ended, long_header_stays}
 use Rattle.cx_script.proofs.Lengths.{HeaderLength, free_behind, header_length, schedule_length, open_header_length, long_by_header}
 use Rattle.cx_script.proofs.WholeLines.{parts}
 

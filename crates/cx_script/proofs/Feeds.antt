@@ -1,17 +1,15 @@
 -- Whole lines, a line that isn't ended, and the bytes behind them, as parts round the line feeds.
-use Rattle.std.proofs.Common.{◌≡◌, ◌≤◌, ◌<◌, ◌+◌, ◌-◌, ◌==◌, ◌++◌, ◌||◌, ℕ, Bool, true, false, cond, List, [], ◌∷◌, length, map, take, refl, sym, ap, ◌∙◌, append_assoc, append-nil, arith, nat_lt, nat_le, if◌then◌else◌, length-append, length-take}
+use Rattle.std.proofs.Common.{◌≡◌, ◌≤◌, ◌<◌, ◌+◌, ◌-◌, ◌==◌, ◌++◌, ℕ, Bool, true, false, cond, List, [], ◌∷◌, length, map, take, refl, sym, ap, ◌∙◌, append_assoc, append-nil, arith, length-append}
 use Rattle.std.specs.Cmp.Lexicographic.{bytes_decides}
-use Rattle.std.specs.List.{slice_split, join_with_byte, list_any, onto_first, slice_index}
+use Rattle.std.specs.List.{join_with_byte, list_any, onto_first, slice_index}
 use Rattle.std.specs.Prelude.{codes}
 use Rattle.std.specs.Str.Lines.{strip_carriage_return}
 use Rattle.std.proofs.lemmas.Bool.{or_parts, or_from, cond_both}
-use Rattle.std.proofs.lemmas.Bool.Decides.{nat_tests}
 use Rattle.std.proofs.lemmas.Grind.{common_steps}
 use Rattle.std.proofs.lemmas.List.Splits.{join_with_byte-slice_split, slice_split-cons_no}
 use Rattle.cx_script.specs.Header.{is_rule}
 use Rattle.cx_script.specs.Lines.{lines_in, lines_of}
 use Rattle.cx_script.specs.Unended.{last_part, but_last, lines_text}
-use Rattle.cx_script.specs.Words.{is_empty}
 use Rattle.cx_script.proofs.Schedules.{before_others}
 use Rattle.cx_script.proofs.WholeLines.{parts, some_part}
 

@@ -1,16 +1,14 @@
 -- What whole lines spell stays as other bytes come behind them.
-use Rattle.std.proofs.Common.{◌≡◌, ◌≤◌, ◌<◌, ◌+◌, ◌==◌, ◌++◌, ℕ, Bool, true, false, cond, List, [], ◌∷◌, length, map, refl, sym, ap, ◌∙◌, append_assoc, append-nil, arith, nat_lt, nat_le, if◌then◌else◌, Option, Some, None, IfSome, option_map, option_and_then, option_to_list, Result, Ok, Err, length-append}
-use Rattle.std.specs.List.{join_with_byte}
+use Rattle.std.proofs.Common.{◌≡◌, ◌<◌, ◌+◌, ◌++◌, ℕ, Bool, true, false, List, [], ◌∷◌, length, map, refl, sym, ap, ◌∙◌, append_assoc, append-nil, arith, nat_lt, if◌then◌else◌, Option, Some, None, option_map, option_to_list, Result, Ok, Err}
 use Rattle.std.specs.Str.Lines.{strip_carriage_return}
 use Rattle.std.proofs.lemmas.Bool.{cond_both}
 use Rattle.std.proofs.lemmas.Bool.Decides.{nat_tests}
-use Rattle.std.proofs.lemmas.List.Splits.{join_with_byte-slice_split}
 use Rattle.cx_base.specs.declared.cluster.Cluster.{Cluster}
 use Rattle.cx_base.specs.declared.event.Event.{Event}
 use Rattle.cx_script.specs.declared.fault.LineFault.{LineFault}
 use Rattle.cx_script.specs.declared.fault.LineFault.TheVariants.{Long}
 use Rattle.cx_script.specs.Grammar.{line_event}
-use Rattle.cx_script.specs.Header.{is_rule, header_in, header_of, of_length}
+use Rattle.cx_script.specs.Header.{is_rule, header_in}
 use Rattle.cx_script.specs.Lines.{Spelled, with_line, spelled_from, lines_of, schedule_of}
 use Rattle.cx_script.specs.Unended.{lines_text}
 use Rattle.cx_script.proofs.Feeds.{IsFree, AreFree, split_feed, lines_of_text, lines_of_unended, first_line_of}
@@ -68,12 +66,12 @@ last_on : (c : Cluster) (last more : List ℕ) → IsFree last → (m : ℕ) →
 last_on c last more free m =
     cond_both (nat_lt 1024 (length (strip_carriage_return last))) last [] (λ l. SpelledOn (spelled_from c m (lines_of l)) (spelled_from c m (lines_of (last ++ more))))
     (λ e.
-        let long : 1024 < length (strip_carriage_return last) = grind (arith, nat_tests) in
-        let some = some_byte last (omega (arith, long)) in
-        let first = first_line_of last more free some in
-        let begun = ap (spelled_from c m) (lines_of_unended last free some) ∙ spelled_long c m (strip_carriage_return last) [] long in
-        let all = ap (spelled_from c m) first.is ∙ spelled_long c m first.line first.lines (omega (arith, long, first.longer)) in
-        rw (begun, all) (stays (record { events = []; bad = Some m })))
+    let long : 1024 < length (strip_carriage_return last) = grind (arith, nat_tests) in
+    let some = some_byte last (omega (arith, long)) in
+    let first = first_line_of last more free some in
+    let begun = ap (spelled_from c m) (lines_of_unended last free some) ∙ spelled_long c m (strip_carriage_return last) [] long in
+    let all = ap (spelled_from c m) first.is ∙ spelled_long c m first.line first.lines (omega (arith, long, first.longer)) in
+    rw (begun, all) (stays (record { events = []; bad = Some m })))
     (λ e. record { bad = λ line h. cc; more = (spelled_from c m (lines_of (last ++ more))).events; events = refl })
 
 -- what the lines behind a header spell goes on

@@ -1,11 +1,11 @@
 -- Bytes as whole lines and a line that isn't ended.
-use Rattle.std.proofs.Common.{◌≡◌, ◌≤◌, ◌<◌, ◌+◌, ◌==◌, ◌++◌, ℕ, List, [], ◌∷◌, Some, None, length, take, drop, get_or, refl, sym, ap, ◌∙◌, append_assoc, append-nil, arith, ◌-◌, take-add, eqb-true, drop-drop, length-drop}
+use Rattle.std.proofs.Common.{◌≡◌, ◌≤◌, ◌<◌, ◌+◌, ◌==◌, ◌++◌, ℕ, List, [], ◌∷◌, Some, length, take, drop, get_or, refl, sym, ap, ◌∙◌, append_assoc, arith, ◌-◌, take-add, eqb-true, drop-drop, length-drop}
 use Rattle.std.specs.List.{position, slice_split}
 use Rattle.std.proofs.lemmas.List.{take_more}
 use Rattle.std.proofs.lemmas.List.Quantifiers.{position-Some}
 use Rattle.std.proofs.lemmas.List.Splits.{length-slice_split}
 use Rattle.cx_script.specs.Unended.{last_part, but_last, lines_text}
-use Rattle.cx_script.proofs.Cuts.{split_none, split_some}
+use Rattle.cx_script.proofs.Cuts.{split_some}
 
 -- the parts round the line feeds
 abbrev pub parts : List ℕ → List (List ℕ)

@@ -1,9 +1,9 @@
-use Rattle.std.proofs.Common.{◌≡◌, Bool, true, false, ◌≤◌, ◌∙◌, ◌++◌, refl, List, [], ℕ, Option, length, drop, ap, arith, rules, append-nil}
+use Rattle.std.proofs.Common.{◌≡◌, Bool, ◌≤◌, ◌∙◌, ◌++◌, refl, List, [], ℕ, Option, length, drop, ap, arith, rules, append-nil}
 use Rattle.std.proofs.lemmas.Grind.{common_steps}
 use Rattle.cx_base.specs.declared.event.Event.{Event}
 use Rattle.cx_model.specs.World.{World, start, step}
 use Rattle.cx_world.specs.World.{WorldState}
-use Rattle.cx_replay.specs.Replay.{run_text, ending, summary, step_text}
+use Rattle.cx_replay.specs.Replay.{run_text, ending, step_text}
 use Rattle.cx_replay.proofs.OnTrack.{OnTrack, rest_of, begins_on_track, goes_on_track, stops_on_track, fails_on_track, rest_of_next, ends_on_track}
 use Rattle.cx_replay.proofs.replaying.run.Goals as goal
 

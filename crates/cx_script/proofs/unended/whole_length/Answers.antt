@@ -1,7 +1,6 @@
-use Rattle.std.proofs.Common.{◌≡◌, ◌==◌, ◌∙◌, take, drop, sym, append-nil}
+use Rattle.std.proofs.Common.{◌==◌, ◌∙◌, take, drop, sym, append-nil}
 use Rattle.cx_script.proofs.Cuts.{split_none}
-use Rattle.cx_script.proofs.WholeLines.{next_feed, parts}
-use Rattle.cx_script.specs.Unended.{last_part}
+use Rattle.cx_script.proofs.WholeLines.{next_feed}
 use Rattle.cx_script.proofs.unended.whole_length.Goals as goal
 
 pub loop-place-preserved : goal.loop-place-preserved
