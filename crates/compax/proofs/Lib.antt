@@ -1,0 +1,4 @@
+pub mod Matching
+pub mod Numbers
+pub mod Saying
+pub mod Spoken
