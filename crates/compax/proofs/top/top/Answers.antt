@@ -5,4 +5,4 @@ use Rattle.compax.proofs.top.top.Goals as goal
 
 pub returns-clause-lawful : goal.returns-clause-lawful
 returns-clause-lawful g c =
-    lawful_answer (said (map string_bytes c.args.words.now)) (g.S.Source.left c.args.input.now) (g.S.Source.left c.answer.new.input)
+    lawful_answer (said (map string_bytes c.args.words.now)) (g.S.Source.left c.args.input.now) (g.S.Source.left c.answer-status.new.input)
