@@ -4,7 +4,8 @@
 #
 # Use: bench/program.sh [PEER]
 # PEER is another program with the commands `gen SEED COUNT` and `replay`; it is measured beside this one, and must print the
-# same. The program is proved and built first. Each time is the shortest of five, in milliseconds; memory is in megabytes.
+# same. The program is proved and built first. A time is processor time in milliseconds, the least of nine runs; memory is in
+# megabytes.
 set -euo pipefail
 
 crate=$(cd "$(dirname "$0")/../crates/compax" && pwd)
@@ -34,14 +35,14 @@ schedule() {
         }'
 }
 
-# The shortest time of a run, in microseconds, and its memory, in kilobytes: `measure INPUT PROGRAM WORDS..`.
+# The least processor time of a run, in milliseconds, and its memory, in kilobytes: `measure INPUT PROGRAM WORDS..`.
 measure() {
-    local input=$1 best=0 start took
+    local input=$1 best=0 took
     shift
-    for _ in 1 2 3 4 5; do
-        start=${EPOCHREALTIME/./}
-        /usr/bin/time -f %M -o "$work/memory" "$@" < "$input" > "$work/printed"
-        took=$((${EPOCHREALTIME/./} - start))
+    for _ in 1 2 3 4 5 6 7 8 9; do
+        TIMEFORMAT='%3U %3S'
+        { time /usr/bin/time -f %M -o "$work/memory" "$@" < "$input" > "$work/printed"; } 2> "$work/time"
+        took=$(awk '{ print ($1 + $2) * 1000 }' "$work/time")
         if ((best == 0 || took < best)); then best=$took; fi
     done
     echo "$best $(cat "$work/memory")"
@@ -54,14 +55,14 @@ tell() {
     ours=$(measure "$input" "$program" "$@")
     mv "$work/printed" "$work/ours"
     if [[ -z $peer ]]; then
-        echo "$events $ours" | awk -v name="$name" '{ printf "%s: %.1f ms, %.1f us an event, %.1f MB\n", name, $2 / 1e3, $2 / $1, $3 / 1024 }'
+        echo "$events $ours" | awk -v name="$name" '{ printf "%s: %d ms, %.1f us an event, %.1f MB\n", name, $2, $2 * 1e3 / $1, $3 / 1024 }'
         return
     fi
     theirs=$(measure "$input" "$peer" "$@")
     cmp "$work/ours" "$work/printed"
     echo "$events $ours $theirs" | awk -v name="$name" '{
-        printf "%s: %.1f ms, %.1f us an event, %.1f MB; the peer %.1f ms, %.1f MB; %.1f times its time, %.1f times its memory\n",
-            name, $2 / 1e3, $2 / $1, $3 / 1024, $4 / 1e3, $5 / 1024, $2 / $4, $3 / $5 }'
+        printf "%s: %d ms, %.1f us an event, %.1f MB; the peer %d ms, %.1f MB; %.1f times its time, %.1f times its memory\n",
+            name, $2, $2 * 1e3 / $1, $3 / 1024, $4, $5 / 1024, $2 / $4, $3 / $5 }'
 }
 
 (cd "$crate" && rt run -- replay < data/one-put.schedule > /dev/null 2> "$work/log") || { tail -40 "$work/log" >&2; exit 1; }

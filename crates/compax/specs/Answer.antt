@@ -3,6 +3,7 @@ use Rattle.std.specs.Prelude.{◌≡◌, ◌⊎◌, ℕ, List, Option, None, Som
 use Rattle.cx_base.specs.declared.status.Status.{Status}
 use Rattle.cx_base.specs.declared.status.Status.TheVariants as status
 use Rattle.cx_replay.specs.Generated.{Generated, GenCompletes}
+use Rattle.cx_replay.specs.Lawful.{IsLawfulInput, IsLawfulGenerated}
 use Rattle.cx_replay.specs.Replay.{Completes, Replayed}
 use Rattle.compax.specs.declared.words.Invocation.{Invocation}
 use Rattle.compax.specs.declared.words.Invocation.TheVariants.{Replay, Generate}
@@ -21,3 +22,9 @@ pub record Answered (said : Option Invocation) (left left_after : Option (List �
   -- Generating wrote the short summary of the run of the generator's events, or its status says why it stopped.
   pub generated : (seed count : ℕ) → said ≡ Some (Generate seed count) → Generated seed count out out_after writes writes_after s
   pub generating_completes : (seed count : ℕ) → said ≡ Some (Generate seed count) → GenCompletes writes writes_after s
+
+-- What is promised of the run that the words ask for, however far it was run: of the input's, or of the generated one.
+abbrev pub IsLawfulAnswer : Option Invocation → Option (List ℕ) → Option (List ℕ) → Type 0
+IsLawfulAnswer None left left_after = Unit {0}
+IsLawfulAnswer (Some Replay) left left_after = IsLawfulInput left left_after
+IsLawfulAnswer (Some (Generate seed count)) left left_after = IsLawfulGenerated seed count

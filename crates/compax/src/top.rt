@@ -2,7 +2,7 @@
 
 ghost use Rattle.std.specs.Prelude.{map, string_bytes};
 ghost use Rattle.cx_edge.specs.Sink.{Says};
-ghost use Rattle.compax.specs.Answer.{Answered};
+ghost use Rattle.compax.specs.Answer.{Answered, IsLawfulAnswer};
 ghost use Rattle.compax.specs.Line.{Comes, line_of};
 ghost use Rattle.compax.specs.Words.{said};
 
@@ -37,7 +37,8 @@ fn answer<S: Source, W: Sink>(alloc: Global, words: &[String], input: &mut S, ou
 /// short summary. The line of the status goes to `err`, whose failing never changes the status.
 ///
 /// `BadWords` comes exactly where the words say neither, and then nothing is read or written. Every other status is the
-/// command's own, and want of memory.
+/// command's own, and want of memory. The run is lawful: no slot has two chosen values, each replica's values begin one
+/// command list, every answer is that list's, and reads are fresh.
 pub fn top<S: Source, W: Sink, E: Sink>(
     alloc: Global,
     words: &[String],
@@ -47,6 +48,7 @@ pub fn top<S: Source, W: Sink, E: Sink>(
 ) -> Status
     ensures answered { Answered (said (map string_bytes words.now)) (S.left input.old) (S.left input.new) (S.faults input.old) (S.faults input.new)
         (W.taken out.old) (W.taken out.new) (W.faults out.old) (W.faults out.new) result }
+    ensures lawful { IsLawfulAnswer (said (map string_bytes words.now)) (S.left input.old) (S.left input.new) }
     ensures comes { Comes result }
     ensures line { Says (E.taken err.old) (E.taken err.new) (E.faults err.old) (E.faults err.new) (line_of result) }
 {

@@ -127,5 +127,4 @@ pub fn said_of_words_written_out()
     ensures count_above { (program : List ℕ) → said (program ∷ codes "gen" ∷ codes "0" ∷ codes "65536" ∷ []) ≡ None }
     ensures nothing { (program : List ℕ) → said (program ∷ []) ≡ None }
     ensures help { (program : List ℕ) → said (program ∷ codes "--help" ∷ []) ≡ None }
-{
-}
+{}

@@ -3,6 +3,7 @@
 ghost use Rattle.std.specs.Prelude.{◌≡◌, ◌++◌, IfOk, OnOk, false};
 ghost use Rattle.cx_model.specs.World.{run};
 ghost use Rattle.cx_replay.specs.Generated.{ComesOfGen, GenCompletes, Generated, gen_events, gen_text};
+ghost use Rattle.cx_replay.specs.Lawful.{IsLawfulGenerated};
 ghost use Rattle.cx_script.specs.Generator.{gen_cluster};
 
 use crate::short::short_into;
@@ -38,11 +39,12 @@ fn gen_into(alloc: Global, seed: u64, count: u64, text: &mut Vec<u8>) -> Result<
 /// Runs so many generated events of a seed over the generator's cluster, and writes the short summary of the run.
 ///
 /// After a failed write a part of the text was written, and for want of memory nothing. Without a fault of the sink the
-/// answer is `Done`, or want of memory.
+/// answer is `Done`, or want of memory. The run is lawful.
 pub fn run_gen<W: Sink>(alloc: Global, seed: u64, count: u64, out: &mut W) -> Status
     ensures comes { ComesOfGen result }
     ensures generated { Generated seed count (W.taken out.old) (W.taken out.new) (W.faults out.old) (W.faults out.new) result }
     ensures complete { GenCompletes (W.faults out.old) (W.faults out.new) result }
+    ensures lawful { IsLawfulGenerated seed count }
 {
     let mut text = Vec::new(alloc);
     match gen_into(alloc, seed, count, &mut text) {
