@@ -3,9 +3,10 @@ use Rattle.std.specs.Prelude.{List}
 use Rattle.cx_base.specs.declared.cluster.Cluster.{Cluster}
 use Rattle.cx_base.specs.declared.event.Event.{Event}
 use Rattle.cx_model.specs.Chosen.{chosen_prefix}
-use Rattle.cx_model.specs.World.{run}
+use Rattle.cx_model.specs.World.{run, log_of}
 use Rattle.cx_inv_vote.proofs.Agree.{agreement}
 use Rattle.cx_inv_list.proofs.Answers.{one_list}
+use Rattle.cx_inv_list.proofs.Right.{machine_is_the_fold}
 use Rattle.cx_promises.specs.Lawful.{IsLawful, IsCommandList}
 use Rattle.cx_promises.proofs.Promised.{fresh_reads, safe_retirement}
 
@@ -13,6 +14,7 @@ pub lawful : (c : Cluster) (es : List Event) → IsLawful c es
 lawful c es = record {
   one_value = agreement.one_value c es;
   replicas_hold_it = one_list.replicas_hold_it c es;
+  maps_are_folds = λ p. machine_is_the_fold.map (log_of p (run c es).kept);
   none_acts_twice = one_list.none_acts_twice _;
   answers_are_right = one_list.answers_are_right c es;
   commands_were_asked = one_list.commands_were_asked c es;

@@ -25,6 +25,7 @@ use Rattle.cx_model.specs.CommandList.{Stands, IsRight}
 use Rattle.cx_model.specs.History.{was_asked}
 use Rattle.cx_model.specs.Member.{Member, Begins}
 use Rattle.cx_model.specs.Promises.{HasKept, IsConfig, IsMemberFrom, Retires, holders, watermark_in}
+use Rattle.cx_model.specs.Replica.{machine_of}
 use Rattle.cx_model.specs.World.{run, log_of}
 
 -- the events that were sent as this command's request
@@ -34,8 +35,9 @@ WasSent events command = (b : ℕ) × Member {X = Happened} (record { event = ev
 pub record IsLawful (c : Cluster) (es : List Event) : Type 0 where
   -- Agreement: no slot has two chosen values.
   pub one_value : (s : ℕ) (v w : Value) → is_chosen (run c es).kept s v ≡ true → is_chosen (run c es).kept s w ≡ true → v ≡ w
-  -- One command list: what each replica holds begins it, and of the places of one client and number at most one acts.
+  -- One command list: what each replica holds begins it, its map is the fold of that, and of the places of one client and number at most one acts.
   pub replicas_hold_it : (p : ℕ) → p < c.replicas → Begins (log_of p (run c es).kept) (chosen_prefix (run c es).kept)
+  pub maps_are_folds : (p : ℕ) → (machine_of (log_of p (run c es).kept)).map ≡ fold (log_of p (run c es).kept)
   pub none_acts_twice : (s t : ℕ) (before earlier : List Command) (one other : Command)
       → Stands (chosen_prefix (run c es).kept) s before one → Stands (chosen_prefix (run c es).kept) t earlier other
       → acts before one ≡ true → acts earlier other ≡ true → one.client ≡ other.client → one.seq ≡ other.seq → (before ≡ earlier) × (s ≡ t)
