@@ -1,5 +1,5 @@
 -- The line that tells on standard error how a run ended.
-use Rattle.std.specs.Prelude.{◌≡◌, ℕ, List, [], ◌++◌, codes, decimal}
+use Rattle.std.specs.Prelude.{ℕ, List, [], ◌++◌, codes, decimal}
 use Rattle.cx_base.specs.declared.status.Status.{Status}
 use Rattle.cx_base.specs.declared.status.Status.TheVariants.{Done, BadWords, BadInput, ReadFault, WriteFault, LinkFault, StoreFault, Turns, NoMemory, BadStore}
 use Rattle.cx_base.specs.Role.{role_text}
@@ -16,11 +16,11 @@ line_of Turns = codes "turns ended\n"
 line_of NoMemory = codes "no memory\n"
 line_of (BadStore role at) = codes "bad store: " ++ role_text role ++ codes " at " ++ decimal at ++ codes "\n"
 
--- the statuses that the program can end with so far: those of a replay, and bad words
+-- the statuses that the program can end with so far
 abbrev pub Comes : Status → Type 0
 Comes Done = Unit {0}
 Comes BadWords = Unit {0}
-Comes (BadInput line) = line ≡ 0
+Comes (BadInput line) = Unit {0}
 Comes ReadFault = Unit {0}
 Comes WriteFault = Unit {0}
 Comes LinkFault = ⊥

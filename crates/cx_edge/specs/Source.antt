@@ -1,6 +1,7 @@
 -- What a read gives, and what a whole reading comes to.
 use Rattle.std.specs.Prelude.{◌≡◌, ◌≤◌, ◌<◌, ℕ, List, length, take, Option, IfSome, ⊤}
 use Rattle.std.specs.Io.KnownBytes.{Keeps, Consumes, IsAtEnd}
+use Rattle.cx_base.specs.Faults.{Rises}
 use Rattle.cx_edge.specs.declared.source.ReadEnd.{ReadEnd}
 use Rattle.cx_edge.specs.declared.source.ReadEnd.TheVariants as end
 use Rattle.cx_edge.specs.declared.source.ReadAll.{ReadAll}
@@ -36,13 +37,20 @@ ConsumesSome old new = (bytes : List ℕ) × Consumes old new bytes
 -- what a whole reading came to; too long are more bytes than the limit
 abbrev pub ReadsAll : ℕ → Option (List ℕ) → Option (List ℕ) → ReadAll → Type 0
 ReadsAll limit old new (Whole bytes) = GetsAll limit old new bytes.items
-ReadsAll limit old new TooLong = IfSome old (λ left. limit < length left) × ConsumesSome old new
-ReadsAll limit old new Failed = ConsumesSome old new
+ReadsAll limit old new (TooLong bytes) = (limit < length bytes.items) × Consumes old new bytes.items
+ReadsAll limit old new (Failed bytes) = Consumes old new bytes.items
 ReadsAll limit old new NoMemory = ConsumesSome old new
 
--- the count of faults stays where no read failed
+-- the count of faults has risen where a read failed
+abbrev pub ReadAllTellsFault : ReadAll → ℕ → ℕ → Type 0
+ReadAllTellsFault (Whole bytes) old new = ⊤
+ReadAllTellsFault (TooLong bytes) old new = ⊤
+ReadAllTellsFault (Failed bytes) old new = Rises old new
+ReadAllTellsFault NoMemory old new = ⊤
+
+-- it stays where none did
 abbrev pub ReadAllKeepsCount : ReadAll → ℕ → ℕ → Type 0
 ReadAllKeepsCount (Whole bytes) old new = new ≡ old
-ReadAllKeepsCount TooLong old new = new ≡ old
-ReadAllKeepsCount Failed old new = ⊤
+ReadAllKeepsCount (TooLong bytes) old new = new ≡ old
+ReadAllKeepsCount (Failed bytes) old new = ⊤
 ReadAllKeepsCount NoMemory old new = new ≡ old

@@ -2,9 +2,8 @@
 
 ghost use Rattle.std.specs.Prelude.{◌≡◌, ◌≤◌, ℕ, Option, List};
 ghost use Rattle.cx_base.specs.Faults.{Rises};
-ghost use Rattle.cx_edge.specs.declared.source.ReadAll.TheVariants as all;
 ghost use Rattle.cx_edge.specs.declared.source.ReadEnd.TheVariants.{Failed};
-ghost use Rattle.cx_edge.specs.Source.{Reads, ReadKeepsCount, ReadsAll, ReadAllKeepsCount};
+ghost use Rattle.cx_edge.specs.Source.{Reads, ReadKeepsCount, ReadsAll, ReadAllTellsFault, ReadAllKeepsCount};
 
 use std::alloc::{AllocError, Global};
 
@@ -39,21 +38,21 @@ pub trait Source {
 pub enum ReadAll {
     /// These are all bytes that were left.
     Whole(Vec<u8>),
-    /// There were more bytes than the limit.
-    TooLong,
-    /// A read failed.
-    Failed,
+    /// These are more bytes than the limit, and there may be others behind them.
+    TooLong(Vec<u8>),
+    /// Behind these bytes a read failed.
+    Failed(Vec<u8>),
     /// Memory is wanting.
     NoMemory,
 }
 
 const PIECE: usize = 4096;
 
-/// Reads all bytes that are left, if they are at most so many. `Failed` comes exactly where a read failed, and only then
-/// the count of faults changes. Where it answers no bytes, those that it has read are lost.
+/// Reads all bytes that are left, or more than so many, and hands out what it has read. `Failed` comes exactly where a read
+/// failed, and only then the count of faults changes. For want of memory the bytes that it has read are lost.
 pub fn read_all<S: Source>(alloc: Global, source: &mut S, limit: usize) -> ReadAll
     ensures bytes { ReadsAll limit (S.left source.old) (S.left source.new) result }
-    ensures cause { result ≡ all.Failed → Rises (S.faults source.old) (S.faults source.new) }
+    ensures cause { ReadAllTellsFault result (S.faults source.old) (S.faults source.new) }
     ensures still { ReadAllKeepsCount result (S.faults source.old) (S.faults source.new) }
     ensures later { S.faults source.old ≤ S.faults source.new }
 {
@@ -61,7 +60,7 @@ pub fn read_all<S: Source>(alloc: Global, source: &mut S, limit: usize) -> ReadA
     let mut piece = [0; PIECE];
     while bytes.len() <= limit {
         match source.read(&mut piece) {
-            ReadEnd::Failed => return ReadAll::Failed,
+            ReadEnd::Failed => return ReadAll::Failed(bytes),
             ReadEnd::Got(0) => return ReadAll::Whole(bytes),
             ReadEnd::Got(count) => {
                 if let Err(AllocError) = bytes.extend_from_slice(&piece[..count]) {
@@ -70,5 +69,5 @@ pub fn read_all<S: Source>(alloc: Global, source: &mut S, limit: usize) -> ReadA
             }
         }
     }
-    ReadAll::TooLong
+    ReadAll::TooLong(bytes)
 }

@@ -32,8 +32,8 @@ use Rattle.cx_inv_run.proofs.Quorums.{most_meet}
 use Rattle.cx_inv_run.proofs.Rounds.{before_cases, before-both, before-trans, before-not, before-to_at_least, same_round-true}
 use Rattle.cx_inv_match.specs.Facts.{IsLog, Facts}
 use Rattle.cx_inv_match.specs.Words.{HasMatch, HasPromise, IsChosenIn, IsChosen, IsMatched, IsShut, IsSettled}
-use Rattle.cx_inv_vote.specs.Laws.{KeptIsChosen, OpenAgrees}
-use Rattle.cx_inv_vote.proofs.Chosen.{chosen_turned, turned_chosen}
+use Rattle.cx_inv_vote.specs.Laws.{OneInARound, KeptIsChosen, OpenAgrees}
+use Rattle.cx_inv_vote.proofs.Chosen.{chosen_in-column, chosen_turned, turned_chosen}
 use Rattle.cx_inv_vote.proofs.Lead.{proposed_says}
 use Rattle.cx_inv_vote.proofs.Steps.{facts_hold}
 
@@ -81,6 +81,18 @@ agreement = record {
       (chosen_turned c (run c es).kept s v x) (chosen_turned c (run c es).kept s w y);
 }
 
+-- two votes of one round and slot are for one value
+pub one_in_a_round : OneInARound
+one_in_a_round c es j g h s v u x y =
+    let facts = facts_hold c es in
+    let a = chosen_in-column (run c es).kept j g s v x in
+    let b = chosen_in-column (run c es).kept j h s u y in
+    let one = a.3 0 a.2 in
+    let other = b.3 0 b.2 in
+    facts.one_value j s v u
+    (facts.voted (role kind.Acceptor (member_at g 0 a.0)) j s v (one.0, Member-reverse _ (run c es).kept one.1))
+    (facts.voted (role kind.Acceptor (member_at h 0 b.0)) j s u (other.0, Member-reverse _ (run c es).kept other.1))
+
 pub kept_is_chosen : KeptIsChosen
 kept_is_chosen c es p s v e =
     turned_chosen c (run c es).kept s v
@@ -106,10 +118,12 @@ module _ (c : Cluster) (history : List KeptRecord) (sent : List Letter) (states 
       (facts.logs (role kind.Matchmaker m))
 
   -- a matchmaker that recorded a later round will not record this one any more
-  later_closes : (m : ℕ) (j i : Round) (g : Shape) → is_before j i ≡ true → HasMatch (reverse history) (role kind.Matchmaker m) i g → is_closed (matchmaker_of history m) j ≡ true
+  later_closes : (m : ℕ) (j i : Round) (g : Shape) → is_before j i ≡ true → HasMatch (reverse history) (role kind.Matchmaker m) i g
+      → is_closed (matchmaker_of history m) j ≡ true
   later_closes m j i g l x = go (cases_Bool (is_before i (matchmaker_of history m).watermark))
     where
-      go : (is_before i (matchmaker_of history m).watermark ≡ true) ⊎ (is_before i (matchmaker_of history m).watermark ≡ false) → is_closed (matchmaker_of history m) j ≡ true
+      go : (is_before i (matchmaker_of history m).watermark ≡ true) ⊎ (is_before i (matchmaker_of history m).watermark ≡ false)
+          → is_closed (matchmaker_of history m) j ≡ true
       go (inl t) = or_left _ _ (before-trans j i (matchmaker_of history m).watermark l t)
       go (inr f) =
           or_right (is_before j (matchmaker_of history m).watermark) _
@@ -136,7 +150,8 @@ module _ (c : Cluster) (history : List KeptRecord) (sent : List Letter) (states 
       ]
 
   -- a member that promised a later round did so for good
-  bound : (a : ℕ) (j : Round) → is_before j (acceptor_of history a).promise ≡ false → (i : Round) → is_before j i ≡ true → HasPromise (reverse history) (role kind.Acceptor a) i → ⊥
+  bound : (a : ℕ) (j : Round) → is_before j (acceptor_of history a).promise ≡ false → (i : Round) → is_before j i ≡ true
+      → HasPromise (reverse history) (role kind.Acceptor a) i → ⊥
   bound a j low i l h =
       let d : AcceptorDurable = acceptor_of history a in
       let top : is_before d.promise i ≡ false =

@@ -53,7 +53,8 @@ module _ (c : Cluster) (history : List KeptRecord) (sent : List Letter) (states 
 
   -- what the entries before a round tell
 
-  before_all : (i j : Round) (g : Shape) → is_before j i ≡ true → is_before j log.watermark ≡ false → HasMatch history me j g → Member (entry j g) (entries_before i log.entries)
+  before_all : (i j : Round) (g : Shape) → is_before j i ≡ true → is_before j log.watermark ≡ false → HasMatch history me j g
+      → Member (entry j g) (entries_before i log.entries)
   before_all i j g l from x = filter-Member (λ (e : Entry). is_before e.round i) (entry j g) log.entries (is_log.all j g from x) l
 
   entry_config : (e : Entry) → Member e log.entries → IsConfig history e.round e.grid
@@ -91,7 +92,8 @@ module _ (c : Cluster) (history : List KeptRecord) (sent : List Letter) (states 
   no_later : (i : Round) (e : Entry) → list_any (λ (x : Entry). is_before i x.round) log.entries ≡ false → Member e log.entries → is_before i e.round ≡ true → ⊥
   no_later i e f k l = before-both i e.round l (none-Member (λ (x : Entry). is_before i x.round) log.entries f e k)
 
-  above_match : (i j : Round) (g : Shape) → is_before i log.watermark ≡ false → list_any (λ (x : Entry). is_before i x.round) log.entries ≡ false → has_round i log.entries ≡ false
+  above_match : (i j : Round) (g : Shape) → is_before i log.watermark ≡ false → list_any (λ (x : Entry). is_before i x.round) log.entries ≡ false
+      → has_round i log.entries ≡ false
       → HasMatch history me j g → is_before j i ≡ true
   above_match i j g from f n x = go (cases_Bool (is_before j log.watermark)) (before_cases j i)
     where
@@ -127,7 +129,8 @@ module _ (c : Cluster) (history : List KeptRecord) (sent : List Letter) (states 
 
   -- it is recorded, and answered from the entries before it
 
-  new_answer : (i : Round) (g : Shape) → (config : IsConfig history i g) → (from : is_before i log.watermark ≡ false) → (above : (j : Round) → HasLog history me j → is_before j i ≡ true)
+  new_answer : (i : Round) (g : Shape) → (config : IsConfig history i g) → (from : is_before i log.watermark ≡ false)
+      → (above : (j : Round) → HasLog history me j → is_before j i ≡ true)
       → IsAnswer c (entry_by me (kept.Match i g) ∷ history) me i log.watermark (entries_before i log.entries)
   new_answer i g config from above =
       let grows = grows_match c history sent states facts me i g config above from in

@@ -1,30 +1,25 @@
--- Each row of a batcher, an unbatcher and a reader keeps the facts: what they send says nothing of what was kept.
+-- Each row of a reader keeps the facts.
 use Rattle.std.proofs.Common.{◌≡◌, ℕ, ◌==◌, true, false, not, ◌&&◌, ◌⊎◌, List, [], ◌∷◌, ◌++◌, length, Option, Some, None, inl, inr, sym, ◌∙◌, subst, refl}
-use Rattle.std.specs.Prelude.{nat_lt, nat_le}
+use Rattle.std.specs.Prelude.{nat_le}
 use Rattle.std.proofs.lemmas.Bool.{and_parts, not-false, true≢false}
 use Rattle.std.proofs.lemmas.Option.{same_Some}
 use Rattle.cx_base.specs.declared.cluster.Cluster.{Cluster}
-use Rattle.cx_base.specs.declared.command.Command.{Command}
-use Rattle.cx_base.specs.declared.role.Kind.{Kind}
 use Rattle.cx_base.specs.declared.role.Kind.TheVariants as kind
 use Rattle.cx_base.specs.declared.role.RoleId.{RoleId}
 use Rattle.cx_base.specs.declared.round.Round.{Round}
 use Rattle.cx_base.specs.Role.{role, same_role}
-use Rattle.cx_base.specs.Round.{is_before, same_round}
+use Rattle.cx_base.specs.Round.{same_round}
 use Rattle.cx_field.specs.declared.parts.Entry.{Entry}
 use Rattle.cx_field.specs.declared.parts.Token.{Token}
 use Rattle.cx_msg.specs.Letter.{Letter, letter}
 use Rattle.cx_msg.specs.declared.input.Input.{Input}
 use Rattle.cx_msg.specs.declared.input.Input.TheVariants as input
 use Rattle.cx_msg.specs.declared.input.KeptRecord.{KeptRecord}
-use Rattle.cx_msg.specs.declared.kept.Record.{Record}
-use Rattle.cx_msg.specs.declared.kept.Record.TheVariants as kept
 use Rattle.cx_msg.specs.declared.message.Msg.{Msg}
 use Rattle.cx_msg.specs.declared.message.Msg.TheVariants as msg
 use Rattle.cx_model.specs.declared.states.Acked.{Acked}
 use Rattle.cx_model.specs.declared.states.MatchAnswer.{MatchAnswer}
-use Rattle.cx_model.specs.Batcher.{BatcherVolatile, batcher_row, batcher_takes}
-use Rattle.cx_model.specs.Facts.{BatcherWasTold, ReaderWasTold}
+use Rattle.cx_model.specs.Facts.{ReaderWasTold}
 use Rattle.cx_model.specs.Lists.{same_number}
 use Rattle.cx_model.specs.Matched.{is_counted, is_member_of, greatest_watermark, live_entries, rows_whole}
 use Rattle.cx_model.specs.Member.{Member}
@@ -32,102 +27,15 @@ use Rattle.cx_model.specs.Names.{names}
 use Rattle.cx_model.specs.Outcome.{Outcome, by_test, either_way}
 use Rattle.cx_model.specs.Reader.{Reading, ReaderVolatile, reading, reading_of, with_reading, without_reading, is_matched, acked_by, has_acked, token, read_req_over, read_matched, match_ack_counted, match_ack_row, pre_read_counted, pre_read_ack_row, reader_takes, reader_row}
 use Rattle.cx_model.specs.Request.{same_read}
-use Rattle.cx_model.specs.Unbatcher.{unbatcher_row}
-use Rattle.cx_inv_run.specs.Kinds.{Kinds, IsSender, IsKeeper, IsKept, OfKind}
+use Rattle.cx_inv_run.specs.Kinds.{Kinds}
 use Rattle.cx_inv_run.specs.Laws.{Lands}
-use Rattle.cx_inv_run.specs.States.{State, Plain, BatcherIn, ReaderIn, plain, with_record, Given}
+use Rattle.cx_inv_run.specs.States.{State, ReaderIn, Given}
 use Rattle.cx_inv_run.proofs.Members.{Member-both, Member-one, Member-filter}
 use Rattle.cx_inv_run.proofs.Rounds.{same_round-true}
-use Rattle.cx_inv_run.proofs.Senders.{batcher_kinds, unbatcher_kinds, reader_kinds}
-use Rattle.cx_inv_match.specs.Facts.{Says, InState, AreAsking, Facts}
-use Rattle.cx_inv_vote.proofs.Rows.{lands, quiet_kind, is_role}
-
--- Kinds of roles that keep nothing, and whose datagrams say nothing of what was kept.
-module _ (k : Kind) (no_leader : k ≡ kind.Leader → ⊥) (no_matchmaker : k ≡ kind.Matchmaker → ⊥) (no_acceptor : k ≡ kind.Acceptor → ⊥) (no_proxy : k ≡ kind.Proxy → ⊥) (no_replica : k ≡ kind.Replica → ⊥) where
-  mute_says : (c : Cluster) (history : List KeptRecord) (sent : List Letter) (from : RoleId) (m : Msg) → IsSender k m → Says c history sent from m
-  mute_says c history sent from (msg.Leads i) e = absurd (no_leader e)
-  mute_says c history sent from (msg.MatchA i g) e = absurd (no_leader e)
-  mute_says c history sent from (msg.MatchB i w entries) e = absurd (no_matchmaker e)
-  mute_says c history sent from (msg.Phase1B i cw votes) e = absurd (no_acceptor e)
-  mute_says c history sent from (msg.Propose i g s cw v) e = absurd (no_leader e)
-  mute_says c history sent from (msg.Phase2A i s cw v) e = absurd (no_proxy e)
-  mute_says c history sent from (msg.Phase2B i s) e = absurd (no_acceptor e)
-  mute_says c history sent from (msg.Chosen s v) e = absurd (elim e [ inl p ↦ no_proxy p | inr p ↦ no_replica p ])
-  mute_says c history sent from (msg.ChosenIn i s) e = absurd (no_proxy e)
-  mute_says c history sent from (msg.Informed i n) e = absurd (no_acceptor e)
-  mute_says c history sent from (msg.GarbageA i g) e = absurd (no_leader e)
-  mute_says c history sent from other e = tt
-
-  mute_keeps : (r : Record) → IsKeeper k r → ⊥
-  mute_keeps (kept.Promise i) e = no_acceptor e
-  mute_keeps (kept.Vote i s cw v) e = no_acceptor e
-  mute_keeps (kept.Water i cw) e = no_acceptor e
-  mute_keeps (kept.Match i g) e = no_matchmaker e
-  mute_keeps (kept.Garbage i g) e = no_matchmaker e
-  mute_keeps (kept.Round i g) e = no_leader e
-  mute_keeps (kept.Log values) e = no_replica e
-
-  module _ (c : Cluster) (history : List KeptRecord) (sent : List Letter) (states : RoleId → State) (facts : Facts c history sent states) (me : RoleId) (is : me.kind ≡ k) where
-    -- of such a role's row only the new state matters
-    mute_lands : {V : Type 0} (make : V → State) (o : Outcome V) → OfKind me o → InState c (with_record me o.kept history) sent me (make o.volatile)
-        → Lands (Facts c) history sent states me make o
-    mute_lands make o of_kind state =
-        lands c history sent states facts me make o (quiet_kind me o (λ e. no_leader (sym is ∙ e)) of_kind)
-        record {
-          lawful = λ r e. absurd (mute_keeps r (subst (λ x. IsKeeper x r) is (subst (λ x. IsKept me.kind x) e of_kind.keeps)));
-          says = λ longer more d m. mute_says c (with_record me o.kept history) longer d.from d.msg (subst (λ x. IsSender x d.msg) is (of_kind.sends d m).1);
-          state = state;
-        }
-
--- a batcher
-
-module _ (c : Cluster) (history : List KeptRecord) (sent : List Letter) (states : RoleId → State) (facts : Facts c history sent states) (index : ℕ) where
-  abbrev Told : Outcome BatcherVolatile → Type 0
-  Told o = BatcherWasTold sent (role kind.Batcher index) o.volatile
-
-  none_waits : (v : BatcherVolatile) → BatcherWasTold sent (role kind.Batcher index) v → BatcherWasTold sent (role kind.Batcher index) (record v { waiting = [] })
-  none_waits v h = record { commands = λ k m. absurd m; round = h.round }
-
-  one_more_waits : (v : BatcherVolatile) → BatcherWasTold sent (role kind.Batcher index) v → (from : RoleId) (command : Command)
-      → Member (letter from (role kind.Batcher index) (msg.Submit command)) sent → BatcherWasTold sent (role kind.Batcher index) (record v { waiting = v.waiting ++ command ∷ [] })
-  one_more_waits v h from command is_sent = record {
-    commands = Member-both (λ (k : Command). (who : RoleId) × Member (letter who (role kind.Batcher index) (msg.Submit k)) sent) v.waiting (command ∷ []) h.commands
-        (Member-one (λ (k : Command). (who : RoleId) × Member (letter who (role kind.Batcher index) (msg.Submit k)) sent) command (from, is_sent));
-    round = h.round;
-  }
-
-  batcher_told_after : (v : BatcherVolatile) → BatcherWasTold sent (role kind.Batcher index) v → (from : RoleId) (m : Msg)
-      → Member (letter from (role kind.Batcher index) m) sent → Told (batcher_takes c (role kind.Batcher index) v m)
-  batcher_told_after v h from (msg.Submit command) is_sent =
-      either_way Told (nat_le c.batch (length (v.waiting ++ command ∷ []))) _ _ (none_waits v h) (one_more_waits v h from command is_sent)
-  batcher_told_after v h from (msg.Leads i) is_sent =
-      either_way Told (is_before v.round i) _ _ record { commands = h.commands; round = inr (from, is_sent) } h
-  batcher_told_after v h from other is_sent = h
-
-  batcher_row_told : (v : BatcherVolatile) → BatcherWasTold sent (role kind.Batcher index) v → (i : Input) → Given sent (role kind.Batcher index) i
-      → Told (batcher_row c (role kind.Batcher index) tt v i)
-  batcher_row_told v h (input.Take d) given =
-      either_way Told (same_role d.to (role kind.Batcher index) && names c d) _ _
-      (batcher_told_after v h d.from d.msg (subst (λ r. Member (letter d.from r d.msg) sent) given.0 given.1)) h
-  batcher_row_told v h input.Tick given = either_way Told (nat_lt 0 (length v.waiting)) _ _ (none_waits v h) h
-  batcher_row_told v h (input.Order order) given = h
-
-  pub batcher_lands : (v : BatcherVolatile) (i : Input) → states (role kind.Batcher index) ≡ BatcherIn v → Given sent (role kind.Batcher index) i
-      → Lands (Facts c) history sent states (role kind.Batcher index) BatcherIn (batcher_row c (role kind.Batcher index) tt v i)
-  batcher_lands v i up given =
-      mute_lands kind.Batcher (λ e. cc) (λ e. cc) (λ e. cc) (λ e. cc) (λ e. cc) c history sent states facts (role kind.Batcher index) refl BatcherIn
-      (batcher_row c (role kind.Batcher index) tt v i) (batcher_kinds c (role kind.Batcher index) refl v i)
-      (batcher_row_told v (subst (λ s. InState c history sent (role kind.Batcher index) s) up (facts.running (role kind.Batcher index))) i given)
-
-  -- an unbatcher
-
-  pub unbatcher_lands : (i : Input) → states (role kind.Unbatcher index) ≡ Plain → Given sent (role kind.Unbatcher index) i
-      → Lands (Facts c) history sent states (role kind.Unbatcher index) plain (unbatcher_row c (role kind.Unbatcher index) tt tt i)
-  unbatcher_lands i up given =
-      mute_lands kind.Unbatcher (λ e. cc) (λ e. cc) (λ e. cc) (λ e. cc) (λ e. cc) c history sent states facts (role kind.Unbatcher index) refl plain
-      (unbatcher_row c (role kind.Unbatcher index) tt tt i) (unbatcher_kinds c (role kind.Unbatcher index) refl i) tt
-
--- a reader
+use Rattle.cx_inv_run.proofs.Senders.{reader_kinds}
+use Rattle.cx_inv_match.specs.Facts.{InState, AreAsking, Facts}
+use Rattle.cx_inv_vote.proofs.Rows.{is_role}
+use Rattle.cx_inv_vote.proofs.Mute.{mute_lands}
 
 token_from_parts : (x y u v : ℕ) → x ≡ u → y ≡ v → ◌≡◌ {A = Token} (record { client = x; seq = y }) (record { client = u; seq = v })
 token_from_parts x y u v p q = cc
@@ -155,7 +63,8 @@ with_reading-cases one (x ∷ rs) r m =
       | inr n ↦ (elim (with_reading-cases one rs r n) [ inl e ↦ inl e | inr o ↦ inr (inr o) ])
     ]) m
 
-module _ (c : Cluster) (history : List KeptRecord) (sent : List Letter) (states : RoleId → State) (kinds : Kinds history sent states) (facts : Facts c history sent states) (index : ℕ) where
+module _ (c : Cluster) (history : List KeptRecord) (sent : List Letter) (states : RoleId → State) (kinds : Kinds history sent states)
+    (facts : Facts c history sent states) (index : ℕ) where
   abbrev me : RoleId
   me = role kind.Reader index
 

@@ -48,7 +48,8 @@ still_proposed sent ds i s v h = (h.0, h.1, h.2, h.3, Member-first _ sent ds h.4
 pub still_retiring : (sent ds : List Letter) (i : Round) → IsRetiring sent i → IsRetiring (sent ++ ds) i
 still_retiring sent ds i h = (h.0, h.1, h.2, Member-first _ sent ds h.3)
 
-pub still_says : (c : Cluster) (history : List KeptRecord) (sent ds : List Letter) (from : RoleId) (m : Msg) → Says c history sent from m → Says c history (sent ++ ds) from m
+pub still_says : (c : Cluster) (history : List KeptRecord) (sent ds : List Letter) (from : RoleId) (m : Msg) → Says c history sent from m
+    → Says c history (sent ++ ds) from m
 still_says c history sent ds from (msg.Leads i) h = h
 still_says c history sent ds from (msg.MatchA i g) h = h
 still_says c history sent ds from (msg.MatchB i w es) h = h
@@ -141,6 +142,21 @@ quiet_mode c history sent ds (Some own) v Matching q h = quiet_matching c sent d
 quiet_mode c history sent ds (Some own) v Phase1 q h = (quiet_matching c sent ds own v (q own refl) h.0, h.1)
 quiet_mode c history sent ds (Some own) v Leading q h = quiet_leading c history sent ds own v (q own refl).0 h
 
+-- what a role knows stays so where these datagrams neither propose in its own round nor end it
+pub carry_state : (c : Cluster) (history : List KeptRecord) (sent ds : List Letter) (me : RoleId) (s : State)
+    → ((own : Entry) → (durable_of leader_rules me history).own ≡ Some own → IsQuiet ds own.round)
+    → InState c history sent me s → InState c history (sent ++ ds) me s
+carry_state c history sent ds me Down quiet h = tt
+carry_state c history sent ds me Plain quiet h = tt
+carry_state c history sent ds me (BatcherIn v) quiet h = batcher_told sent ds me v h
+carry_state c history sent ds me (LeaderIn v) quiet h = (
+  leader_told sent ds me (round_of (durable_of leader_rules me history).own) v h.0,
+  quiet_mode c history sent ds (durable_of leader_rules me history).own v v.mode quiet h.1,
+)
+carry_state c history sent ds me (ProxyIn v) quiet h = (proxy_told sent ds me v h.0, λ p m. still_pending history sent ds p (h.1 p m))
+carry_state c history sent ds me (ReplicaIn v) quiet h = replica_told sent ds me v h
+carry_state c history sent ds me (ReaderIn v) quiet h = (reader_told sent ds me v h.0, h.1)
+
 -- What a role sends says what is so, proposes and ends only rounds that name it, and one value for each round and slot; and its new state is
 -- what it should be: then the facts hold.
 module _ (c : Cluster) (history : List KeptRecord) (sent : List Letter) (states : RoleId → State) (me : RoleId)
@@ -159,14 +175,8 @@ module _ (c : Cluster) (history : List KeptRecord) (sent : List Letter) (states 
       (λ t v x. other_role a me d (q ∙ mine own.round t v x), λ x. other_role a me d (q ∙ ends own.round x))
 
   other_running : (a : RoleId) → same_role a me ≡ false → (st : State) → InState c history sent a st → InState c history (sent ++ ds) a st
-  other_running a d Down h = tt
-  other_running a d Plain h = tt
-  other_running a d (BatcherIn v) h = batcher_told sent ds a v h
-  other_running a d (LeaderIn v) h =
-      (leader_told sent ds a (round_of (durable_of leader_rules a history).own) v h.0, quiet_mode c history sent ds (durable_of leader_rules a history).own v v.mode (other_quiet a d (durable_of leader_rules a history).own (facts.last a)) h.1)
-  other_running a d (ProxyIn v) h = (proxy_told sent ds a v h.0, λ p m. still_pending history sent ds p (h.1 p m))
-  other_running a d (ReplicaIn v) h = replica_told sent ds a v h
-  other_running a d (ReaderIn v) h = (reader_told sent ds a v h.0, h.1)
+  other_running a d st h =
+      carry_state c history sent ds a st (other_quiet a d (durable_of leader_rules a history).own (facts.last a)) h
 
   pub send : Facts c history (sent ++ ds) (set_state me s states)
   send = record {
@@ -202,16 +212,7 @@ quiet_round ds quiet i = (λ s v x. (quiet _ x.4).0 i x.2 s x.3 v refl, λ x. (q
 -- what a role knows stays so while they are sent
 pub still_state : (c : Cluster) (history : List KeptRecord) (sent ds : List Letter) → QuietSends ds → (me : RoleId) (s : State)
     → InState c history sent me s → InState c history (sent ++ ds) me s
-still_state c history sent ds quiet me Down h = tt
-still_state c history sent ds quiet me Plain h = tt
-still_state c history sent ds quiet me (BatcherIn v) h = batcher_told sent ds me v h
-still_state c history sent ds quiet me (LeaderIn v) h = (
-  leader_told sent ds me (round_of (durable_of leader_rules me history).own) v h.0,
-  quiet_mode c history sent ds (durable_of leader_rules me history).own v v.mode (λ own e. quiet_round ds quiet own.round) h.1,
-)
-still_state c history sent ds quiet me (ProxyIn v) h = (proxy_told sent ds me v h.0, λ p m. still_pending history sent ds p (h.1 p m))
-still_state c history sent ds quiet me (ReplicaIn v) h = replica_told sent ds me v h
-still_state c history sent ds quiet me (ReaderIn v) h = (reader_told sent ds me v h.0, h.1)
+still_state c history sent ds quiet me s h = carry_state c history sent ds me s (λ own e. quiet_round ds quiet own.round) h
 
 -- the frame: the facts hold after they are sent
 pub send_plain : (c : Cluster) (history : List KeptRecord) (sent : List Letter) (states : RoleId → State) (me : RoleId)

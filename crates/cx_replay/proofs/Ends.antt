@@ -1,57 +1,109 @@
--- What the ends of a replay come to.
-use Rattle.std.proofs.Common.{◌≡◌, ◌<◌, ℕ, false, List, Option, None, Some, length, refl, sym, ◌∙◌, subst, inl, inr, arith}
-use Rattle.std.specs.Prelude.{IfSome, nat_le}
-use Rattle.std.proofs.KnownBytes.{Appends-nil, Keeps-refl}
-use Rattle.std.proofs.lemmas.Bool.Decides.{nat_tests}
+-- What was answered to the bytes that were read is what the replay came to.
+use Rattle.std.proofs.Common.{◌≡◌, ◌<◌, ◌++◌, ℕ, Bool, false, List, [], length, take_all, Option, None, Some, refl, sym, ap, ◌∙◌, subst, inl, inr, arith, append-nil}
+use Rattle.std.specs.Prelude.{IfSome}
+use Rattle.std.specs.Io.KnownBytes.{Appends, Consumes}
+use Rattle.std.proofs.lemmas.Bool.{cases_lt}
+use Rattle.std.proofs.lemmas.List.{take-append-le}
+use Rattle.std.proofs.Math.Seq.{take-append_seam}
 use Rattle.cx_base.specs.declared.status.Status.{Status}
 use Rattle.cx_base.specs.declared.status.Status.TheVariants as status
-use Rattle.cx_replay.specs.Input.{Input, input_of}
-use Rattle.cx_replay.specs.Replay.{PrintsPartOrNothing, ComesOfReplay, Completes, Replayed}
+use Rattle.cx_base.specs.Faults.{Rises}
+use Rattle.cx_edge.specs.Sink.{AppendsPart}
+use Rattle.cx_replay.specs.Input.{bad_line, input_of, lines}
+use Rattle.cx_replay.specs.Replay.{answer_of, trace_of, summary_of, text_of, Answers, ComesOfReplay, Completes, Replayed}
+use Rattle.cx_replay.specs.declared.input.Heard.{Heard}
+use Rattle.cx_replay.proofs.Stays.{lines_stay, good_length}
 
--- what holds of the bytes that were read holds of those that were left
-pub carry : (left : Option (List ℕ)) (P : List ℕ → Type 0) (bytes : List ℕ) → IfSome left (λ all. all ≡ bytes) → P bytes → IfSome left P
-carry None P bytes h p = tt
-carry (Some all) P bytes h p = subst P (sym h) p
+pub answer_comes : (ended : Bool) (heard : Heard) (out out_after : Option (List ℕ)) (writes writes_after : ℕ) (s : Status) → Answers ended heard out out_after writes writes_after s → ComesOfReplay s
+answer_comes ended heard out out_after writes writes_after status.Done a = tt
+answer_comes ended heard out out_after writes writes_after status.BadWords a = a
+answer_comes ended heard out out_after writes writes_after (status.BadInput line) a = tt
+answer_comes ended heard out out_after writes writes_after status.ReadFault a = tt
+answer_comes ended heard out out_after writes writes_after status.WriteFault a = tt
+answer_comes ended heard out out_after writes writes_after status.LinkFault a = a
+answer_comes ended heard out out_after writes writes_after (status.StoreFault role) a = a
+answer_comes ended heard out out_after writes writes_after status.Turns a = a
+answer_comes ended heard out out_after writes writes_after status.NoMemory a = tt
+answer_comes ended heard out out_after writes writes_after (status.BadStore role at) a = a
 
-too_long : (bytes : List ℕ) → 68000000 < length bytes → input_of bytes ≡ None
-too_long bytes long =
-    let short : nat_le (length bytes) 68000000 ≡ false = grind (arith, nat_tests) in
-    rw short refl
+-- the count of failed writes stays where no write fault is told
+answer_keeps : (ended : Bool) (heard : Heard) (out out_after : Option (List ℕ)) (writes writes_after : ℕ) (s : Status) → Answers ended heard out out_after writes writes_after s
+    → (s ≡ status.WriteFault → ⊥) → writes_after ≡ writes
+answer_keeps ended heard out out_after writes writes_after status.Done a other = a.3
+answer_keeps ended heard out out_after writes writes_after status.BadWords a other = absurd a
+answer_keeps ended heard out out_after writes writes_after (status.BadInput line) a other = a.2
+answer_keeps ended heard out out_after writes writes_after status.ReadFault a other = a.3
+answer_keeps ended heard out out_after writes writes_after status.WriteFault a other = absurd (other refl)
+answer_keeps ended heard out out_after writes writes_after status.LinkFault a other = absurd a
+answer_keeps ended heard out out_after writes writes_after (status.StoreFault role) a other = absurd a
+answer_keeps ended heard out out_after writes writes_after status.Turns a other = absurd a
+answer_keeps ended heard out out_after writes writes_after status.NoMemory a other = a.1
+answer_keeps ended heard out out_after writes writes_after (status.BadStore role at) a other = absurd a
 
--- an input that is too long has no events
-pub long_has_none : (left : Option (List ℕ)) → IfSome left (λ bytes. 68000000 < length bytes) → IfSome left (λ bytes. input_of bytes ≡ None)
-long_has_none None h = tt
-long_has_none (Some bytes) h = too_long bytes h
+-- what holds of the bytes that were read, whatever comes behind them, holds of all
+of_all : (left left_after : Option (List ℕ)) (bytes : List ℕ) (P : List ℕ → Type 0) → Consumes left left_after bytes → ((more : List ℕ) → P (bytes ++ more)) → IfSome left P
+of_all None left_after bytes P consumed each = tt
+of_all (Some all) None bytes P consumed each = absurd consumed
+of_all (Some all) (Some more) bytes P consumed each = subst P (sym consumed) (each more)
 
-pub nothing_printed : (input : Option Input) (out : Option (List ℕ)) → PrintsPartOrNothing input out out
-nothing_printed None out = Keeps-refl out
-nothing_printed (Some i) out = (0, Appends-nil out)
+-- a part of a text is a part of a longer one
+part_of_more : (old new : Option (List ℕ)) (text more : List ℕ) → AppendsPart old new text → AppendsPart old new (text ++ more)
+part_of_more old new text more part =
+    elim (cases_lt part.0 (length text)) [
+      | inl less ↦ (part.0, subst (Appends old new) (sym (take-append-le part.0 text more (omega (arith, less)))) part.1)
+      | inr past ↦ (length text, subst (Appends old new) (take_all part.0 text past ∙ sym (take-append_seam text more)) part.1)
+    ]
 
--- nothing written is a part of whatever text there is
-pub nothing_of : (left out : Option (List ℕ)) → IfSome left (λ bytes. PrintsPartOrNothing (input_of bytes) out out)
-nothing_of None out = tt
-nothing_of (Some bytes) out = nothing_printed (input_of bytes) out
+-- what was answered to the lines before a fault, or to more bytes than an input without a bad line has
+pub lines_replayed : (bytes : List ℕ) (left left_after : Option (List ℕ)) (reads reads_after : ℕ) (out out_after : Option (List ℕ)) (writes writes_after : ℕ) (s : Status)
+    → Consumes left left_after bytes → (s ≡ status.ReadFault → Rises reads reads_after) → Answers false (lines bytes) out out_after writes writes_after s
+    → Replayed left left_after reads reads_after out out_after writes writes_after s
+lines_replayed bytes left left_after reads reads_after out out_after writes writes_after s consumed fault answer =
+    let heard = lines bytes in
+    let at : (t : Status) → s ≡ t → Answers false heard out out_after writes writes_after t = λ t e. subst (Answers false heard out out_after writes writes_after) e answer in
+    let not_done : s ≡ status.Done → ⊥ = λ e. let a = at status.Done e in cc in
+    let whole : Appends out out_after (trace_of heard ++ []) → Appends out out_after (trace_of heard) = λ h. rw (append-nil (trace_of heard)) at h in
+    let part : AppendsPart out out_after (trace_of heard ++ []) → IfSome left (λ all. AppendsPart out out_after (text_of (input_of all))) =
+    λ h. of_all left left_after bytes (λ all. AppendsPart out out_after (text_of (input_of all))) consumed (λ more.
+    let stays = lines_stay bytes more in
+    part_of_more out out_after (trace_of (input_of (bytes ++ more))) (summary_of (input_of (bytes ++ more)))
+    (subst (AppendsPart out out_after) (sym stays.trace) (part_of_more out out_after (trace_of heard) stays.more (rw (append-nil (trace_of heard)) at h)))) in
+    record {
+      done = λ e. absurd (not_done e);
+      at_end = λ e. absurd (not_done e);
+      all_read = λ e. absurd (not_done e);
+      bad_input = λ line e. let a = at (status.BadInput line) e in of_all left left_after bytes (λ all. bad_line (input_of all) ≡ Some line) consumed
+          (λ more. ap bad_line ((lines_stay bytes more).bad line a.0) ∙ a.0);
+      bad_input_out = λ line e. let a = at (status.BadInput line) e in of_all left left_after bytes (λ all. Appends out out_after (trace_of (input_of all))) consumed
+          (λ more. subst (λ h. Appends out out_after (trace_of h)) (sym ((lines_stay bytes more).bad line a.0)) (whole a.1));
+      bad_input_read = λ line e. inr (bytes, consumed, (at (status.BadInput line) e).0);
+      read_fault = fault;
+      read_fault_out = λ e. let a = at status.ReadFault e in (bytes, consumed, a.1, whole a.2);
+      write_fault = λ e. (at status.WriteFault e).1;
+      write_fault_out = λ e. part (at status.WriteFault e).0;
+      no_memory_out = λ e. part (at status.NoMemory e).0;
+      writes_stay = answer_keeps false heard out out_after writes writes_after s answer;
+    }
 
--- without events there is nothing to complete
-pub none_completes : (left : Option (List ℕ)) (reads reads_after writes writes_after : ℕ) (s : Status) → IfSome left (λ bytes. input_of bytes ≡ None) → Completes left reads reads_after writes writes_after s
-none_completes None reads reads_after writes writes_after s none = tt
-none_completes (Some bytes) reads reads_after writes writes_after s none =
-    λ i e _ _. let clash : None ≡ Some i = sym none ∙ e in cc
+-- more bytes than that have a bad line
+pub too_long_replayed : (bytes : List ℕ) (left left_after : Option (List ℕ)) (reads reads_after : ℕ) (out out_after : Option (List ℕ)) (writes writes_after : ℕ) (s : Status)
+    → Consumes left left_after bytes → 68000000 < length bytes → Answers false (lines bytes) out out_after writes writes_after s
+    → Replayed left left_after reads reads_after out out_after writes writes_after s
+too_long_replayed bytes left left_after reads reads_after out out_after writes writes_after s consumed long answer =
+    lines_replayed bytes left left_after reads reads_after out out_after writes writes_after s consumed
+    (λ e. let a = subst (Answers false (lines bytes) out out_after writes writes_after) e answer in absurd (omega (arith, long, good_length bytes a.1))) answer
 
--- each other status than Done and want of memory has its cause
+-- each other status than Done, bad input and want of memory has its cause
 pub completes : (left left_after : Option (List ℕ)) (reads reads_after : ℕ) (out out_after : Option (List ℕ)) (writes writes_after : ℕ) (s : Status)
     → Replayed left left_after reads reads_after out out_after writes writes_after s → ComesOfReplay s → Completes left reads reads_after writes writes_after s
 completes None left_after reads reads_after out out_after writes writes_after s r comes = tt
-completes (Some bytes) left_after reads reads_after out out_after writes writes_after status.Done r comes = λ i e _ _. inl refl
-completes (Some bytes) left_after reads reads_after out out_after writes writes_after status.BadWords r comes = absurd comes
-completes (Some bytes) left_after reads reads_after out out_after writes writes_after (status.BadInput line) r comes =
-    λ i e _ _. let clash : None ≡ Some i = sym (r.bad_input line refl) ∙ e in cc
-completes (Some bytes) left_after reads reads_after out out_after writes writes_after status.ReadFault r comes =
-    λ i e no_read _. absurd (no_read (r.read_fault refl))
-completes (Some bytes) left_after reads reads_after out out_after writes writes_after status.WriteFault r comes =
-    λ i e _ no_write. absurd (no_write (r.write_fault refl))
-completes (Some bytes) left_after reads reads_after out out_after writes writes_after status.LinkFault r comes = absurd comes
-completes (Some bytes) left_after reads reads_after out out_after writes writes_after (status.StoreFault role) r comes = absurd comes
-completes (Some bytes) left_after reads reads_after out out_after writes writes_after status.Turns r comes = absurd comes
-completes (Some bytes) left_after reads reads_after out out_after writes writes_after status.NoMemory r comes = λ i e _ _. inr refl
-completes (Some bytes) left_after reads reads_after out out_after writes writes_after (status.BadStore role at) r comes = absurd comes
+completes (Some all) left_after reads reads_after out out_after writes writes_after status.Done r comes = λ no_read no_write. inl (sym (ap answer_of (r.done refl).0))
+completes (Some all) left_after reads reads_after out out_after writes writes_after status.BadWords r comes = absurd comes
+completes (Some all) left_after reads reads_after out out_after writes writes_after (status.BadInput line) r comes = λ no_read no_write. inl (sym (ap answer_of (r.bad_input line refl)))
+completes (Some all) left_after reads reads_after out out_after writes writes_after status.ReadFault r comes = λ no_read no_write. absurd (no_read (r.read_fault refl))
+completes (Some all) left_after reads reads_after out out_after writes writes_after status.WriteFault r comes = λ no_read no_write. absurd (no_write (r.write_fault refl))
+completes (Some all) left_after reads reads_after out out_after writes writes_after status.LinkFault r comes = absurd comes
+completes (Some all) left_after reads reads_after out out_after writes writes_after (status.StoreFault role) r comes = absurd comes
+completes (Some all) left_after reads reads_after out out_after writes writes_after status.Turns r comes = absurd comes
+completes (Some all) left_after reads reads_after out out_after writes writes_after status.NoMemory r comes = λ no_read no_write. inr refl
+completes (Some all) left_after reads reads_after out out_after writes writes_after (status.BadStore role at) r comes = absurd comes

@@ -1,38 +1,48 @@
--- What an input says: its cluster and its events.
-use Rattle.std.specs.Prelude.{◌≡◌, ℕ, nat_le, List, length, Option, None, Some, Result, Ok, Err, if◌then◌else◌}
+-- What the bytes of an input say: a cluster, the events of its lines up to the first bad one, and the number of that line.
+use Rattle.std.specs.Prelude.{ℕ, List, Option, None, Some, Result, Ok, Err, Bool, true, false, IsTrue, if◌then◌else◌}
+use Rattle.std.specs.List.{list_all}
+use Rattle.cx_base.specs.Asked.{takes_event}
 use Rattle.cx_base.specs.declared.cluster.Cluster.{Cluster}
-use Rattle.cx_base.specs.declared.event.Event.{Event}
 use Rattle.cx_cluster.specs.declared.fault.ClusterFault.{ClusterFault}
 use Rattle.cx_cluster.specs.Reading.{header_cluster}
+use Rattle.cx_replay.specs.declared.input.Heard.{Heard}
+use Rattle.cx_replay.specs.declared.input.Heard.TheVariants.{Nothing, BadHeader, Lines}
 use Rattle.cx_script.specs.Header.{header_of}
-use Rattle.cx_script.specs.Lines.{Spelled, schedule_of}
+use Rattle.cx_script.specs.Lines.{schedule_of}
+use Rattle.cx_script.specs.Unended.{counted, is_long_header}
 
-pub record Input : Type 0 where
-  pub cluster : Cluster
-  pub events : List Event
+-- the first bad line: those behind the header count from 1, the header is line 0
+abbrev pub bad_line : Heard → Option ℕ
+bad_line Nothing = None
+bad_line BadHeader = Some 0
+bad_line (Lines c spelled) = spelled.bad
 
--- the events of lines that are all good
-abbrev pub without_bad : Cluster → List Event → Option ℕ → Option Input
-without_bad c es None = Some (record { cluster = c; events = es })
-without_bad c es (Some line) = None
+-- the cluster that a header's text says, and what the bytes behind it spell
+abbrev pub behind : Result Cluster ClusterFault → List ℕ → Heard
+behind (Ok c) rest = Lines c (schedule_of c rest)
+behind (Err fault) rest = BadHeader
 
-abbrev pub of_schedule : Cluster → Spelled → Option Input
-of_schedule c s = without_bad c s.events s.bad
+-- the same of a header's text and the bytes behind it, where there is a header
+abbrev pub of_header : Option (List ℕ × List ℕ) → Heard → Heard
+of_header None without = without
+of_header (Some parts) without = behind (header_cluster parts.0) parts.1
 
-abbrev pub behind : Result Cluster ClusterFault → List ℕ → Option Input
-behind (Ok c) bytes = of_schedule c (schedule_of c bytes)
-behind (Err fault) bytes = None
+-- what a whole input says
+unfoldable pub input_of : List ℕ → Heard
+input_of bytes = of_header (header_of bytes) BadHeader
 
--- the cluster of a header's text, and the events of the bytes behind it
-abbrev pub of_parts : Option (List ℕ × List ℕ) → Option Input
-of_parts None = None
-of_parts (Some parts) = behind (header_cluster parts.0) parts.1
+-- What bytes say behind which others may come: their whole lines, and a line that is too long already. A header that hasn't ended
+-- is bad only where it is too long.
+unfoldable pub lines : List ℕ → Heard
+lines bytes = of_header (header_of (counted 1024 bytes)) (if is_long_header (counted 16384 bytes) then BadHeader else Nothing)
 
--- what the bytes say, None where they have another form; no input of the form has more bytes
-abbrev pub input_of : List ℕ → Option Input
-input_of bytes = if nat_le (length bytes) 68000000 then of_parts (header_of bytes) else None
+-- what bytes say: the whole input where it has ended
+abbrev pub heard_of : Bool → List ℕ → Heard
+heard_of true bytes = input_of bytes
+heard_of false bytes = lines bytes
 
--- a cluster is what a header's text says, or the text says none
-abbrev pub ClusterIs : Option Cluster → Result Cluster ClusterFault → Type 0
-ClusterIs (Some c) said = said ≡ Ok c
-ClusterIs None said = (fault : ClusterFault) × (said ≡ Err fault)
+-- the world takes each event
+abbrev pub IsTaken : Heard → Type 0
+IsTaken Nothing = Unit {0}
+IsTaken BadHeader = Unit {0}
+IsTaken (Lines c spelled) = IsTrue (list_all takes_event spelled.events)

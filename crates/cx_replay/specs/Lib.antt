@@ -1,2 +1,4 @@
+pub mod Generated
 pub mod Input
 pub mod Replay
+pub mod Lawful

@@ -1,6 +1,7 @@
 -- The text of a run, and what a replay may come to.
-use Rattle.std.specs.Prelude.{◌≡◌, ◌⊎◌, ℕ, List, [], ◌∷◌, ◌++◌, map, length, Option, None, Some, IfSome}
-use Rattle.std.specs.Io.KnownBytes.{Keeps, Appends, IsAtEnd}
+use Rattle.std.specs.Prelude.{◌≡◌, ◌⊎◌, ℕ, Bool, true, false, List, [], ◌∷◌, ◌++◌, map, length, Option, None, Some, is_none, IfSome, if◌then◌else◌}
+use Rattle.std.specs.Io.KnownBytes.{Appends, Consumes, IsAtEnd}
+use Rattle.cx_base.specs.declared.cluster.Cluster.{Cluster}
 use Rattle.cx_base.specs.declared.event.Event.{Event}
 use Rattle.cx_base.specs.declared.status.Status.{Status}
 use Rattle.cx_base.specs.declared.status.Status.TheVariants as status
@@ -9,7 +10,9 @@ use Rattle.cx_base.specs.Lists.{below}
 use Rattle.cx_edge.specs.Sink.{AppendsPart}
 use Rattle.cx_model.specs.Chosen.{chosen_prefix}
 use Rattle.cx_model.specs.World.{World, change, step, run, start}
-use Rattle.cx_replay.specs.Input.{Input, input_of}
+use Rattle.cx_replay.specs.Input.{bad_line, input_of, lines}
+use Rattle.cx_replay.specs.declared.input.Heard.{Heard}
+use Rattle.cx_replay.specs.declared.input.Heard.TheVariants.{Nothing, BadHeader, Lines}
 use Rattle.cx_trace.specs.Trace.{event_text, datagrams_text}
 use Rattle.cx_trace.specs.Summary.{summary_text}
 use Rattle.cx_world.specs.Folded.{folded_of}
@@ -28,30 +31,70 @@ trace w (e ∷ es) = step_text w e ++ trace (step w e) es
 abbrev pub summary : World → List ℕ
 summary w = summary_text (chosen_prefix w.kept) (map (λ p. folded_of p w.kept) (below w.cluster.replicas))
 
--- the whole text of a run
-unfoldable pub output : Input → List ℕ
-output i = trace (start i.cluster) i.events ++ summary (run i.cluster i.events)
+-- the summary where it is wanted
+abbrev pub ending : Bool → World → List ℕ
+ending true w = summary w
+ending false w = []
 
--- the whole text of the input's run was written, and there is an input
-abbrev pub Prints : Option Input → Option (List ℕ) → Option (List ℕ) → Type 0
-Prints None old new = ⊥
-Prints (Some i) old new = Appends old new (output i)
+-- the text of a run, with its summary where that is wanted
+unfoldable pub run_text : Bool → Cluster → List Event → List ℕ
+run_text summed c es = trace (start c) es ++ ending summed (run c es)
 
--- a part of that text was written, and there is an input
-abbrev pub PrintsPart : Option Input → Option (List ℕ) → Option (List ℕ) → Type 0
-PrintsPart None old new = ⊥
-PrintsPart (Some i) old new = AppendsPart old new (output i)
+-- the text of the events before the first bad line
+abbrev pub trace_of : Heard → List ℕ
+trace_of Nothing = []
+trace_of BadHeader = []
+trace_of (Lines c spelled) = trace (start c) spelled.events
 
--- a part of that text was written, nothing where there is no input
-abbrev pub PrintsPartOrNothing : Option Input → Option (List ℕ) → Option (List ℕ) → Type 0
-PrintsPartOrNothing None old new = Keeps old new
-PrintsPartOrNothing (Some i) old new = AppendsPart old new (output i)
+-- behind it the summary, where no line is bad
+abbrev pub summary_of : Heard → List ℕ
+summary_of Nothing = []
+summary_of BadHeader = []
+summary_of (Lines c spelled) = ending (is_none spelled.bad) (run c spelled.events)
+
+-- the whole text of an input
+abbrev pub text_of : Heard → List ℕ
+text_of heard = trace_of heard ++ summary_of heard
+
+-- no line is bad, and the whole text was written
+abbrev pub Prints : Heard → Option (List ℕ) → Option (List ℕ) → Type 0
+Prints heard old new = (bad_line heard ≡ None) × Appends old new (text_of heard)
+
+-- a source has given bytes with this as their first bad line, whatever comes behind them
+abbrev pub GivesBadLine : Option (List ℕ) → Option (List ℕ) → ℕ → Type 0
+GivesBadLine left left_after line = (bytes : List ℕ) × Consumes left left_after bytes × (bad_line (lines bytes) ≡ Some line)
+
+-- a source has given bytes without a bad line, and the trace of their whole lines was written
+abbrev pub PrintsLines : Option (List ℕ) → Option (List ℕ) → Option (List ℕ) → Option (List ℕ) → Type 0
+PrintsLines left left_after out out_after =
+    (bytes : List ℕ) × Consumes left left_after bytes × (bad_line (lines bytes) ≡ None) × Appends out out_after (trace_of (lines bytes))
+
+-- What a replay came to: its source and sink before and after, what each tells and how often each has failed.
+pub record Replayed (left left_after : Option (List ℕ)) (reads reads_after : ℕ) (out out_after : Option (List ℕ)) (writes writes_after : ℕ) (s : Status) : Type 0 where
+  -- Done: the input was read to its end, no line is bad, and its trace and summary were written.
+  pub done : s ≡ status.Done → IfSome left (λ all. Prints (input_of all) out out_after)
+  pub at_end : s ≡ status.Done → IsAtEnd left_after
+  pub all_read : s ≡ status.Done → reads_after ≡ reads
+  -- Bad input: this is the first bad line, and the trace of the lines before it was written. A read has failed only behind it.
+  pub bad_input : (line : ℕ) → s ≡ status.BadInput line → IfSome left (λ all. bad_line (input_of all) ≡ Some line)
+  pub bad_input_out : (line : ℕ) → s ≡ status.BadInput line → IfSome left (λ all. Appends out out_after (trace_of (input_of all)))
+  pub bad_input_read : (line : ℕ) → s ≡ status.BadInput line → (reads_after ≡ reads) ⊎ GivesBadLine left left_after line
+  -- A read failed: the count rose, no line before it is bad, and the trace of the whole lines was written.
+  pub read_fault : s ≡ status.ReadFault → Rises reads reads_after
+  pub read_fault_out : s ≡ status.ReadFault → PrintsLines left left_after out out_after
+  -- A write failed: the count rose, and a part of the text was written.
+  pub write_fault : s ≡ status.WriteFault → Rises writes writes_after
+  pub write_fault_out : s ≡ status.WriteFault → IfSome left (λ all. AppendsPart out out_after (text_of (input_of all)))
+  -- Memory was wanting: a part of the text was written.
+  pub no_memory_out : s ≡ status.NoMemory → IfSome left (λ all. AppendsPart out out_after (text_of (input_of all)))
+  -- A failed write is always told.
+  pub writes_stay : (s ≡ status.WriteFault → ⊥) → writes_after ≡ writes
 
 -- no other status comes of a replay
 abbrev pub ComesOfReplay : Status → Type 0
 ComesOfReplay status.Done = Unit {0}
 ComesOfReplay status.BadWords = ⊥
-ComesOfReplay (status.BadInput line) = line ≡ 0
+ComesOfReplay (status.BadInput line) = Unit {0}
 ComesOfReplay status.ReadFault = Unit {0}
 ComesOfReplay status.WriteFault = Unit {0}
 ComesOfReplay status.LinkFault = ⊥
@@ -60,27 +103,34 @@ ComesOfReplay status.Turns = ⊥
 ComesOfReplay status.NoMemory = Unit {0}
 ComesOfReplay (status.BadStore role at) = ⊥
 
--- What a replay came to: its source and sink before and after, what each tells and how often each has failed.
-pub record Replayed (left left_after : Option (List ℕ)) (reads reads_after : ℕ) (out out_after : Option (List ℕ)) (writes writes_after : ℕ) (s : Status) : Type 0 where
-  -- Done: the input was read to its end, it has the form, and the text of its run was written.
-  pub done : s ≡ status.Done → IfSome left (λ bytes. Prints (input_of bytes) out out_after)
-  pub at_end : s ≡ status.Done → IsAtEnd left_after
-  -- Bad input: it hasn't the form, and nothing was written.
-  pub bad_input : (line : ℕ) → s ≡ status.BadInput line → IfSome left (λ bytes. input_of bytes ≡ None)
-  pub bad_input_out : (line : ℕ) → s ≡ status.BadInput line → Keeps out out_after
-  -- A read failed: the count rose, and nothing was written.
-  pub read_fault : s ≡ status.ReadFault → Rises reads reads_after
-  pub read_fault_out : s ≡ status.ReadFault → Keeps out out_after
-  -- A write failed: the count rose, and a part of the text was written.
-  pub write_fault : s ≡ status.WriteFault → Rises writes writes_after
-  pub write_fault_out : s ≡ status.WriteFault → IfSome left (λ bytes. PrintsPart (input_of bytes) out out_after)
-  -- Memory was wanting: a part of the text was written.
-  pub no_memory_out : s ≡ status.NoMemory → IfSome left (λ bytes. PrintsPartOrNothing (input_of bytes) out out_after)
-  -- A fault is always told: the counts stay where it isn't.
-  pub reads_stay : (s ≡ status.ReadFault → ⊥) → reads_after ≡ reads
-  pub writes_stay : (s ≡ status.WriteFault → ⊥) → writes_after ≡ writes
+-- how a replay ends where nothing fails: in the first bad line, if there is one
+abbrev pub answer_of : Option ℕ → Status
+answer_of None = status.Done
+answer_of (Some line) = status.BadInput line
 
--- With an input of the form, and no fault of source or sink, the answer is Done or want of memory.
+-- Without a fault of source or sink a replay ends as its input says, or memory was wanting.
 abbrev pub Completes : Option (List ℕ) → ℕ → ℕ → ℕ → ℕ → Status → Type 0
 Completes left reads reads_after writes writes_after s =
-    IfSome left (λ bytes. (i : Input) → input_of bytes ≡ Some i → (Rises reads reads_after → ⊥) → (Rises writes writes_after → ⊥) → (s ≡ status.Done) ⊎ (s ≡ status.NoMemory))
+    IfSome left (λ all. (Rises reads reads_after → ⊥) → (Rises writes writes_after → ⊥) → (s ≡ answer_of (bad_line (input_of all))) ⊎ (s ≡ status.NoMemory))
+
+-- what is written of these bytes: the summary only behind a whole input
+abbrev pub written_of : Bool → Heard → List ℕ
+written_of ended heard = trace_of heard ++ (if ended then summary_of heard else [])
+
+-- what is answered to bytes that say this, of a whole input or not: with the sink before and after
+abbrev pub Answers : Bool → Heard → Option (List ℕ) → Option (List ℕ) → ℕ → ℕ → Status → Type 0
+Answers ended heard out out_after writes writes_after status.Done =
+    (ended ≡ true) × (bad_line heard ≡ None) × Appends out out_after (written_of ended heard) × (writes_after ≡ writes)
+Answers ended heard out out_after writes writes_after (status.BadInput line) =
+    (bad_line heard ≡ Some line) × Appends out out_after (written_of ended heard) × (writes_after ≡ writes)
+Answers ended heard out out_after writes writes_after status.ReadFault =
+    (ended ≡ false) × (bad_line heard ≡ None) × Appends out out_after (written_of ended heard) × (writes_after ≡ writes)
+Answers ended heard out out_after writes writes_after status.WriteFault =
+    AppendsPart out out_after (written_of ended heard) × Rises writes writes_after
+Answers ended heard out out_after writes writes_after status.NoMemory =
+    AppendsPart out out_after (written_of ended heard) × (writes_after ≡ writes)
+Answers ended heard out out_after writes writes_after status.BadWords = ⊥
+Answers ended heard out out_after writes writes_after status.LinkFault = ⊥
+Answers ended heard out out_after writes writes_after (status.StoreFault role) = ⊥
+Answers ended heard out out_after writes writes_after status.Turns = ⊥
+Answers ended heard out out_after writes writes_after (status.BadStore role at) = ⊥

@@ -1,93 +1,98 @@
-//! What a whole input says: its header's cluster, and the events of the lines behind it.
+//! What an input says: its header's cluster, and the events of the lines behind it up to the first bad one.
 
-ghost use Rattle.std.specs.Prelude.{◌≡◌, IfOk, IsTrue};
-ghost use Rattle.std.specs.List.{list_all};
-ghost use Rattle.cx_base.specs.Asked.{takes_event};
+ghost use Rattle.std.specs.Prelude.{◌≡◌, IfOk, OnOk};
 ghost use Rattle.cx_cluster.specs.Reading.{header_cluster};
-ghost use Rattle.cx_script.specs.Lines.{schedule_of};
-ghost use Rattle.cx_replay.specs.Input.{ClusterIs, of_schedule, input_of};
+ghost use Rattle.cx_replay.specs.Input.{IsTaken, bad_line, behind, heard_of, input_of, lines};
 
-use cx_base::{Cluster, Event, NoMemory};
+use cx_base::{Cluster, NoMemory};
 use cx_cluster::{ClusterFault, read};
-use cx_script::{Schedule, read_schedule, spelled_events_are_taken, split_header};
+use cx_script::{
+    MAX_HEADER_LENGTH, MAX_LINE_LENGTH, Schedule, counted, is_long_header, read_schedule,
+    spelled_events_are_taken, split_header,
+};
 use std::alloc::Global;
-use std::marker::Model;
 
-/// The most bytes that an input of the form can have, with room to spare.
+/// More bytes than an input has none of whose lines is bad.
 pub const LIMIT: usize = 68_000_000;
 
-/// A cluster, and events that the world takes.
+/// What was read of an input.
 #[derive(Drop)]
-pub struct Input {
-    cluster: Cluster,
-    schedule: Schedule,
+pub enum Heard {
+    /// The header hasn't ended yet.
+    Nothing,
+    /// The header says no cluster.
+    BadHeader,
+    /// The header's cluster, and what the lines behind it spell.
+    Lines {
+        cluster: Cluster,
+        schedule: Schedule,
+    },
 }
 
-impl Model for Input {
-    ghost use Rattle.std.specs.Prelude.{IsTrue};
-    ghost use Rattle.std.specs.List.{list_all};
-    ghost use Rattle.cx_base.specs.Asked.{takes_event};
-    ghost use Rattle.cx_replay.specs.Input.{Input as InputOf};
-
-    ghost Value = { InputOf };
-
-    ghost view = { λ i. record { cluster = i.cluster; events = i.schedule.events } };
-
-    ghost invariant = { λ i. IsTrue (list_all takes_event i.schedule.events) };
-}
-
-impl Input {
-    /// Its cluster.
-    pub fn cluster(&self) -> Cluster
-        ensures { result ≡ self.now.cluster }
+impl Heard {
+    /// The first bad line, counted from 1 behind the header, which is line 0.
+    pub fn bad_line(&self) -> Option<u64>
+        ensures { result ≡ bad_line self.now }
     {
-        self.cluster
-    }
-
-    /// Its events, in order.
-    pub fn events(&self) -> &[Event]
-        ensures events { result.now ≡ self.now.events }
-        ensures taken { IsTrue (list_all takes_event self.now.events) }
-    {
-        self.schedule.events()
+        match self {
+            Heard::Nothing => None,
+            Heard::BadHeader => Some(0),
+            Heard::Lines { schedule, .. } => schedule.bad(),
+        }
     }
 }
 
-// The cluster of a header's text, None where there is none.
-fn cluster_of(alloc: Global, header: &[u8]) -> Result<Option<Cluster>, NoMemory>
-    ensures { IfOk result (λ cluster. ClusterIs cluster (header_cluster header.now)) }
-{
-    match read(alloc, header) {
-        Ok(cluster) => Ok(Some(cluster)),
-        Err(ClusterFault::NoMemory) => Err(NoMemory),
-        Err(_) => Ok(None),
-    }
-}
-
-// The events of the lines behind a header with this cluster.
-fn input_behind(alloc: Global, cluster: Cluster, rest: &[u8]) -> Result<Option<Input>, NoMemory>
-    ensures { IfOk result (λ input. input ≡ of_schedule cluster (schedule_of cluster rest.now)) }
+// What a header's text and the bytes behind it say.
+fn behind(alloc: Global, header: &[u8], rest: &[u8]) -> Result<Heard, NoMemory>
+    ensures heard { IfOk result (λ heard. heard ≡ behind (header_cluster header.now) rest.now) }
+    ensures taken { IfOk result IsTaken }
 {
     spelled_events_are_taken();
-    let schedule = read_schedule(alloc, &cluster, rest)?;
-    if schedule.bad().is_some() {
-        return Ok(None);
+    match read(alloc, header) {
+        Ok(cluster) => {
+            let schedule = read_schedule(alloc, &cluster, rest)?;
+            Ok(Heard::Lines { cluster, schedule })
+        }
+        Err(ClusterFault::NoMemory) => Err(NoMemory),
+        Err(_) => Ok(Heard::BadHeader),
     }
-    Ok(Some(Input { cluster, schedule }))
 }
 
-/// What an input says, None exactly where it has another form.
-pub fn read_input(alloc: Global, bytes: &[u8]) -> Result<Option<Input>, NoMemory>
-    ensures { IfOk result (λ input. input ≡ input_of bytes.now) }
+// What a whole input says.
+#[tactic(auto, unfolding(crate::specs::Input::input_of))]
+fn read_input(alloc: Global, bytes: &[u8]) -> Result<Heard, NoMemory>
+    ensures heard { IfOk result (λ heard. heard ≡ input_of bytes.now) }
+    ensures taken { IfOk result IsTaken }
 {
-    if bytes.len() > LIMIT {
-        return Ok(None);
+    match split_header(alloc, bytes)? {
+        Some((header, rest)) => behind(alloc, &header, rest),
+        None => Ok(Heard::BadHeader),
     }
-    let Some((header, rest)) = split_header(alloc, bytes)? else {
-        return Ok(None);
-    };
-    let Some(cluster) = cluster_of(alloc, &header)? else {
-        return Ok(None);
-    };
-    input_behind(alloc, cluster, rest)
+}
+
+// What bytes say behind which others may come.
+#[tactic(auto, unfolding(crate::specs::Input::lines))]
+fn read_lines(alloc: Global, bytes: &[u8]) -> Result<Heard, NoMemory>
+    ensures heard { IfOk result (λ heard. heard ≡ lines bytes.now) }
+    ensures taken { IfOk result IsTaken }
+{
+    if let Some((header, rest)) = split_header(alloc, counted(bytes, MAX_LINE_LENGTH))? {
+        return behind(alloc, &header, rest);
+    }
+    if is_long_header(counted(bytes, MAX_HEADER_LENGTH)) {
+        return Ok(Heard::BadHeader);
+    }
+    Ok(Heard::Nothing)
+}
+
+/// What bytes say: the whole input where it has ended, else bytes behind which others may come.
+pub fn hear(alloc: Global, bytes: &[u8], ended: bool) -> Result<Heard, NoMemory>
+    ensures heard { IfOk result (λ heard. heard ≡ heard_of ended bytes.now) }
+    ensures taken { IfOk result IsTaken }
+{
+    if ended {
+        read_input(alloc, bytes)
+    } else {
+        read_lines(alloc, bytes)
+    }
 }

@@ -1,11 +1,15 @@
-//! A schedule is replayed: from the bytes of its events to the bytes of its run's trace and summary.
+//! A schedule is replayed: from the bytes of its events to the bytes of its run's trace and summary. Generated events are run.
 //!
-//! Stands on the world, the grammar of schedules and the text of runs; the program stands on it. Its theorem is the contract
-//! of `replay`: what was written is the trace and the summary of the input's own run, or it says why it stopped.
+//! Stands on the world, the grammar of schedules and the text of runs; the program stands on it. Its theorems are the contracts
+//! of `replay` and `run_gen`: what was written is the trace and the summary of the input's own run, or the short summary of the
+//! run of a seed's events, or it says why it stopped. `replay` names the first bad line, behind the trace of those before it.
 #![tactic(auto)]
 
+mod generating;
 mod input;
 mod replaying;
+mod short;
 mod step;
 
+pub use generating::run_gen;
 pub use replaying::replay;

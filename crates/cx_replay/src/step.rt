@@ -30,9 +30,9 @@ pub fn step_into(
     datagrams_into(alloc, effect.first, world.sent_since(effect.first), text)
 }
 
-// What each replica's kept values leave, the replicas in order.
+/// What each replica's kept values leave, the replicas in order.
 #[tactic(auto, using(crate::proofs::Numbers::numbers_more))]
-fn folds(alloc: Global, world: &World) -> Result<Vec<Folded>, NoMemory>
+pub fn folds(alloc: Global, world: &World) -> Result<Vec<Folded>, NoMemory>
     ensures { IfOk result (λ folds. folds.items ≡ map (λ p. folded_of p world.now.world.kept) (below world.now.world.cluster.replicas)) }
 {
     let mut folds = Vec::new(alloc);

@@ -1,8 +1,13 @@
 pub mod Cuts
 pub mod Digits
+pub mod Feeds
 pub mod Generated
+pub mod GoesOn
+pub mod Headers
+pub mod Lengths
 pub mod Members
 pub mod Parts
 pub mod Schedules
 pub mod Splitting
 pub mod Takes
+pub mod WholeLines

@@ -18,7 +18,7 @@ pub joined : (behind : Option (List ℕ)) → join_with_byte 10 (parts_of 10 beh
 joined None = refl
 joined (Some rest) = join_with_byte-slice_split 10 rest
 
-before_others : (part : List ℕ) (parts : List (List ℕ)) → 0 < length parts → lines_in (part ∷ parts) ≡ part ∷ lines_in parts
+pub before_others : (part : List ℕ) (parts : List (List ℕ)) → 0 < length parts → lines_in (part ∷ parts) ≡ part ∷ lines_in parts
 before_others part [] some = absurd (omega arith)
 before_others part (next ∷ parts) some = refl
 

@@ -5,10 +5,10 @@
 //! the line `---`; `Gen` makes exactly the events of its sequence. Each event that bytes spell and each generated one is one
 //! that the world takes, with its names in the cluster (`spelled_events_are_taken`, `generated_events_are_taken`).
 //!
-//! The bytes are given whole here. Where a source fails in the middle, its reader has only whole lines to go by: a line that
-//! isn't ended by a line feed is then no line, except that more than 1,024 bytes of it, or 16,384 in the header, are a fault
-//! by themselves. So that reader calls `line` for each whole line in turn, which is what `read_schedule` says of the bytes up
-//! to the last line feed.
+//! Where a source fails in the middle, its reader has only whole lines to go by: a line that isn't ended by a line feed is then no
+//! line, except that more than 1,024 bytes of it, or 16,384 in the header, are a fault by themselves. `counted` cuts the bytes
+//! so, for `split_header` and `read_schedule` to read, and `is_long_header` tells of a header that hasn't ended whether it is
+//! bad already.
 #![tactic(auto)]
 
 mod count;
@@ -24,6 +24,7 @@ mod place;
 mod split;
 #[cfg(test)]
 mod tests;
+mod unended;
 mod words;
 
 pub use event::{MAX_LINE_LENGTH, line};
@@ -32,3 +33,4 @@ pub use generator::{Gen, gen_cluster};
 pub use header::{MAX_HEADER_LENGTH, split_header};
 pub use law::{generated_events_are_taken, spelled_events_are_taken};
 pub use lines::{MAX_LINES, Schedule, read_schedule};
+pub use unended::{counted, is_long_header};

@@ -46,7 +46,8 @@ pub fn first_word(line: &[u8]) -> Option<(&[u8], &[u8])>
     }
 }
 
-fn place_of(word: &[u8], at: u8) -> Option<usize>
+/// Where the first such byte is.
+pub fn place_of(word: &[u8], at: u8) -> Option<usize>
     ensures { result ≡ position (λ b. b == at) word.now }
 {
     word.iter().position(|byte| *byte == at)

@@ -11,10 +11,10 @@ ghost use Rattle.cx_msg.specs.declared.message.Msg.{Msg};
 ghost use Rattle.cx_msg.specs.declared.input.Act.TheVariants.{Give};
 ghost use Rattle.cx_world.specs.World.{AsksAfter, Changes, ChangesAfter};
 
+use crate::history::History;
 use crate::seat::{Seat, Turned, act_at};
-use crate::stale::is_stale;
 use cx_acceptor::Acceptor;
-use cx_base::{Command, Cut, Duplicate, Event, Happened, Kind, NoMemory, Op, RoleId, Why};
+use cx_base::{Command, Cut, Duplicate, Event, Kind, NoMemory, Op, RoleId, Why};
 use cx_batch::{Batcher, Unbatcher};
 use cx_field::Token;
 use cx_leader::Leader;
@@ -156,18 +156,13 @@ fn send(event: &Event, out: &mut Outbox) -> Result<(), NoMemory>
 }
 
 // A client asks.
-fn ask(
-    token: Token,
-    event: &Event,
-    events: &[Happened],
-    out: &mut Outbox,
-) -> Result<Changed, NoMemory>
+fn ask(token: Token, event: &Event, events: &History, out: &mut Outbox) -> Result<Changed, NoMemory>
     requires empty { out.old.list ≡ [] }
     requires taken { IsTrue (takes_event event.now) }
     ensures { IfOk result (λ changed. AsksAfter (λ w. ask w event.now (Some token)) events.now changed out.new.list) }
 {
     let who = RoleId::new(Kind::Client, token.client);
-    if is_stale(token, event, events) {
+    if events.is_stale(token, event) {
         return Ok(nothing(Some(who), Why::Stale));
     }
     send(event, out)?;
@@ -204,7 +199,7 @@ pub fn change(
     alloc: Global,
     seats: &mut Seats,
     sent: &[Datagram],
-    events: &[Happened],
+    events: &History,
     event: &Event,
     out: &mut Outbox,
 ) -> Result<Changed, NoMemory>

@@ -9,6 +9,7 @@ mod change;
 mod chosen;
 mod counts;
 mod folded;
+mod history;
 mod seat;
 mod stale;
 mod world;

@@ -4,6 +4,7 @@ ghost use Rattle.std.specs.Prelude.{◌≡◌, ◌≤◌, ◌++◌, ◌∷◌, [
 ghost use Rattle.cx_base.specs.Asked.{takes_event};
 ghost use Rattle.cx_model.specs.Chosen.{chosen_prefix};
 ghost use Rattle.cx_model.specs.World.{step, start, run, event_list};
+ghost use Rattle.cx_promises.specs.Lawful.{IsLawful, IsCommandList};
 ghost use Rattle.cx_world.specs.Counts.{counts_of};
 ghost use Rattle.cx_world.specs.Folded.{folded_of};
 ghost use Rattle.cx_world.specs.World.{IsPrefix, BeginWith, effect_of};
@@ -12,6 +13,7 @@ use crate::change::{Changed, Seats, change};
 use crate::chosen::chosen_prefix;
 use crate::counts::{Counts, count};
 use crate::folded::folded;
+use crate::history::History;
 use crate::seat::open_all;
 use cx_base::{Cluster, Duplicate, Event, Happened, Kind, NoMemory, Values, Why};
 use cx_msg::{Datagram, KeptRecord};
@@ -27,7 +29,7 @@ pub struct World {
     alloc: Global,
     cluster: Cluster,
     seats: Seats,
-    events: Vec<Happened>,
+    events: History,
     kept: Vec<KeptRecord>,
     sent: Vec<Datagram>,
     out: Outbox,
@@ -42,17 +44,9 @@ impl Model for World {
 
     ghost use Rattle.cx_world.specs.World.{Holds, roles_of, lists_of};
 
-    ghost view = { λ w. record { world = record { cluster = w.cluster; roles = roles_of (lists_of w.seats); events = w.events.items; kept = w.kept.items; sent = w.sent.items }; spent = w.spent } };
+    ghost view = { λ w. record { world = record { cluster = w.cluster; roles = roles_of (lists_of w.seats); events = w.events; kept = w.kept.items; sent = w.sent.items }; spent = w.spent } };
 
-    ghost invariant = { λ w. w.spent ≡ false → Holds (record { cluster = w.cluster; roles = roles_of (lists_of w.seats); events = w.events.items; kept = w.kept.items; sent = w.sent.items }) (lists_of w.seats) w.out.list };
-}
-
-fn push_copy<T: Copy + Drop>(list: &mut Vec<T>, item: &T) -> Result<(), NoMemory>
-    ensures ok { OnOk result (list.new.items ≡ list.old.items ++ item.now ∷ []) }
-    ensures err { OnErr result (list.new.items ≡ list.old.items) }
-{
-    list.push(*item)?;
-    Ok(())
+    ghost invariant = { λ w. w.spent ≡ false → Holds (record { cluster = w.cluster; roles = roles_of (lists_of w.seats); events = w.events; kept = w.kept.items; sent = w.sent.items }) (lists_of w.seats) w.out.list };
 }
 
 fn push_if<T: Drop>(list: &mut Vec<T>, item: Option<T>) -> Result<(), NoMemory>
@@ -67,7 +61,7 @@ fn push_if<T: Drop>(list: &mut Vec<T>, item: Option<T>) -> Result<(), NoMemory>
 
 // Writes what happened into the histories.
 fn note(
-    events: &mut Vec<Happened>,
+    events: &mut History,
     kept: &mut Vec<KeptRecord>,
     sent: &mut Vec<Datagram>,
     event: &Event,
@@ -75,15 +69,15 @@ fn note(
     what: Option<KeptRecord>,
     out: &mut Outbox,
 ) -> Result<(), NoMemory>
-    ensures events { OnOk result (events.new.items ≡ events.old.items ++ record { event = event.now; why = why } ∷ []) }
+    ensures events { OnOk result (events.new ≡ events.old ++ record { event = event.now; why = why } ∷ []) }
     ensures kept { OnOk result (kept.new.items ≡ kept.old.items ++ option_to_list what) }
     ensures sent { OnOk result (sent.new.items ≡ sent.old.items ++ out.old.list) }
     ensures out { OnOk result (out.new.list ≡ []) }
-    ensures events_begin { OnErr result (IsPrefix events.old.items events.new.items) }
+    ensures events_begin { OnErr result (IsPrefix events.old events.new) }
     ensures kept_begin { OnErr result (IsPrefix kept.old.items kept.new.items) }
     ensures sent_begin { OnErr result (IsPrefix sent.old.items sent.new.items) }
 {
-    push_copy(events, &Happened { event: *event, why })?;
+    events.push(&Happened { event: *event, why })?;
     push_if(kept, what)?;
     out.move_to(sent)
 }
@@ -108,7 +102,7 @@ impl World {
             alloc,
             cluster,
             seats,
-            events: Vec::new(alloc),
+            events: History::new(alloc),
             kept: Vec::new(alloc),
             sent: Vec::new(alloc),
             out: Outbox::new(alloc),
@@ -116,14 +110,15 @@ impl World {
         })
     }
 
-    /// One event: the new world is the model's step of the old one, and the effect tells what the step did. After want of
-    /// memory the world is spent, and its histories begin with those from before.
-    #[tactic(auto, unfolding(cx_model::specs::World::step))]
+    /// One event: the new world is the model's step of the old one, and the effect tells what the step did. What is promised of
+    /// runs holds of the events so far. After want of memory the world is spent, and its histories begin with those from before.
+    #[tactic(auto, using(cx_promises::proofs::Lawful::lawful), unfolding(cx_model::specs::World::step))]
     pub fn step(&mut self, event: &Event) -> Result<Effect, NoMemory>
         requires fresh { self.old.spent ≡ false }
         requires taken { IsTrue (takes_event event.now) }
         ensures ok { OnOk result (self.new ≡ record { world = step self.old.world event.now; spent = false }) }
         ensures effect { IfOk result (λ effect. effect ≡ effect_of self.old.world event.now) }
+        ensures lawful { OnOk result (IsLawful self.new.world.cluster (event_list self.new.world.events)) }
         ensures spent { OnErr result (self.new.spent ≡ true) }
         ensures begun { OnErr result (BeginWith self.old.world self.new.world) }
     {
@@ -148,7 +143,7 @@ impl World {
         )?;
         self.spent = false;
         Ok(Effect {
-            event: self.events.len() as u64,
+            event: self.events.as_slice().len() as u64,
             who,
             why,
             first,
@@ -188,9 +183,11 @@ impl World {
         }
     }
 
-    /// The values chosen in slot 0, 1 and so on, up to the first slot without one; from the kept votes and rounds alone.
+    /// The values chosen in slot 0, 1 and so on, up to the first slot without one; from the kept votes and rounds alone. In a world
+    /// that isn't spent it is the one command list.
     pub fn chosen_prefix(&self) -> Result<Values, NoMemory>
-        ensures { IfOk result (λ values. values ≡ chosen_prefix self.now.world.kept) }
+        ensures prefix { IfOk result (λ values. values ≡ chosen_prefix self.now.world.kept) }
+        ensures agreed { self.now.spent ≡ false → IfOk result (λ values. IsCommandList self.now.world.cluster self.now.world.kept values) }
     {
         chosen_prefix(self.alloc, &self.kept)
     }
@@ -206,13 +203,16 @@ impl World {
     pub fn counts(&self) -> Counts
         ensures { result ≡ counts_of self.now.world }
     {
-        count(&self.events, &self.kept, &self.sent)
+        count(self.events.as_slice(), &self.kept, &self.sent)
     }
 
-    /// What is true of every world that isn't spent: it is the run of its events. It takes no memory.
+    /// What is true of every world that isn't spent: it is the run of its events, and what is promised of runs holds of it. It takes
+    /// no memory.
+    #[tactic(auto, using(cx_promises::proofs::Lawful::lawful))]
     pub fn law(&self)
         requires { self.now.spent ≡ false }
-        ensures { self.now.world ≡ run self.now.world.cluster (event_list self.now.world.events) }
+        ensures run { self.now.world ≡ run self.now.world.cluster (event_list self.now.world.events) }
+        ensures lawful { IsLawful self.now.world.cluster (event_list self.now.world.events) }
     {
         let _ = &self.spent;
     }

@@ -1,0 +1,5 @@
+pub mod Matching
+pub mod Numbers
+pub mod Saying
+pub mod Spoken
+pub mod Promised

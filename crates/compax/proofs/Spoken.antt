@@ -1,0 +1,33 @@
+-- What words say that are written out, whatever the program is called.
+use Rattle.std.proofs.Common.{◌≡◌, refl, ℕ, List, [], ◌∷◌, codes, Some, None}
+use Rattle.clap.proofs.OnLiterals.{clap_on_literals}
+use Rattle.compax.specs.declared.words.Invocation.TheVariants.{Replay, Generate}
+use Rattle.compax.specs.Words.{said}
+
+pub replay_said : (program : List ℕ) → said (program ∷ codes "replay" ∷ []) ≡ Some Replay
+unfolding said clap_on_literals
+replay_said program = refl
+
+pub least_said : (program : List ℕ) → said (program ∷ codes "gen" ∷ codes "0" ∷ codes "0" ∷ []) ≡ Some (Generate 0 0)
+unfolding said clap_on_literals
+least_said program = refl
+
+pub most_said : (program : List ℕ) → said (program ∷ codes "gen" ∷ codes "18446744073709551615" ∷ codes "65535" ∷ []) ≡ Some (Generate 18446744073709551615 65535)
+unfolding said clap_on_literals
+most_said program = refl
+
+pub seed_above : (program : List ℕ) → said (program ∷ codes "gen" ∷ codes "18446744073709551616" ∷ codes "0" ∷ []) ≡ None
+unfolding said clap_on_literals
+seed_above program = refl
+
+pub count_above : (program : List ℕ) → said (program ∷ codes "gen" ∷ codes "0" ∷ codes "65536" ∷ []) ≡ None
+unfolding said clap_on_literals
+count_above program = refl
+
+pub nothing_said : (program : List ℕ) → said (program ∷ []) ≡ None
+unfolding said clap_on_literals
+nothing_said program = refl
+
+pub help_said : (program : List ℕ) → said (program ∷ codes "--help" ∷ []) ≡ None
+unfolding said clap_on_literals
+help_said program = refl

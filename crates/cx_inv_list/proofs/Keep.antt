@@ -1,0 +1,112 @@
+-- What is said of the list stays so when a record is kept; and what a row gives lands.
+use Rattle.std.proofs.Common.{◌≡◌, ℕ, List, [], ◌∷◌, ◌++◌, take, length, inl, inr, ap, sym, subst, ◌∙◌, ⊎_elim, refl, arith, append-nil}
+use Rattle.std.specs.Prelude.{Option, None, Some}
+use Rattle.std.proofs.lemmas.List.{length-append, take-append-le}
+use Rattle.cx_base.specs.declared.command.Reply.{Reply}
+use Rattle.cx_base.specs.declared.command.Value.{Value}
+use Rattle.cx_base.specs.declared.role.Kind.TheVariants as kind
+use Rattle.cx_base.specs.declared.role.RoleId.{RoleId}
+use Rattle.cx_base.specs.Fold.{fold, text_at}
+use Rattle.cx_base.specs.Role.{role}
+use Rattle.cx_field.specs.declared.parts.Token.{Token}
+use Rattle.cx_msg.specs.Letter.{Letter}
+use Rattle.cx_msg.specs.declared.input.KeptRecord.{KeptRecord}
+use Rattle.cx_msg.specs.declared.kept.Record.{Record}
+use Rattle.cx_msg.specs.declared.kept.Record.TheVariants as kept
+use Rattle.cx_msg.specs.declared.message.Msg.{Msg}
+use Rattle.cx_msg.specs.declared.message.Msg.TheVariants as msg
+use Rattle.cx_model.specs.CommandList.{IsRight}
+use Rattle.cx_model.specs.Member.{Member, Begins}
+use Rattle.cx_model.specs.Outcome.{Outcome}
+use Rattle.cx_model.specs.Reader.{token}
+use Rattle.cx_model.specs.Replica.{ReplicaDurable, replica_rules, replica_after}
+use Rattle.cx_inv_run.specs.Laws.{Lands}
+use Rattle.cx_inv_run.specs.States.{State, Down, set_state, entry_by, with_record, durable_of}
+use Rattle.cx_inv_run.proofs.Histories.{by_role, durable_own, durable_other, set_running}
+use Rattle.cx_inv_run.proofs.Members.{Member-cases}
+use Rattle.cx_inv_list.specs.Told.{Requests, log_in, IsNoted, IsTold, ListSays, ListKeeps, InList, ListFacts, MayKeep, IsListed}
+use Rattle.cx_inv_list.proofs.Right.{grown_right}
+
+-- a replica's values only grow
+
+after_begins : (d : ReplicaDurable) (r : Record) → Begins d.log (replica_after d r).log
+after_begins d (kept.Log vs) = (vs, refl)
+after_begins d (kept.Promise i) = ([], sym (append-nil d.log))
+after_begins d (kept.Vote i s cw v) = ([], sym (append-nil d.log))
+after_begins d (kept.Water i cw) = ([], sym (append-nil d.log))
+after_begins d (kept.Match i g) = ([], sym (append-nil d.log))
+after_begins d (kept.Garbage i g) = ([], sym (append-nil d.log))
+after_begins d (kept.Round i g) = ([], sym (append-nil d.log))
+
+abbrev log_by : List KeptRecord → RoleId → List Value
+log_by history a = (durable_of replica_rules a history).log
+
+pub log_grows : (me : RoleId) (r : Record) (history : List KeptRecord) (p : ℕ) → Begins (log_in history p) (log_in (entry_by me r ∷ history) p)
+log_grows me r history p =
+    by_role (λ a. Begins (log_by history a) (log_by (entry_by me r ∷ history) a)) me
+    (subst (λ (d : ReplicaDurable). Begins (log_by history me) d.log) (sym (durable_own replica_rules me r history)) (after_begins (durable_of replica_rules me history) r))
+    (λ a e. subst (λ (d : ReplicaDurable). Begins (log_by history a) d.log) (sym (durable_other replica_rules me a r history e)) ([], sym (append-nil (log_by history a))))
+    (role kind.Replica p)
+
+module _ (q : Requests) (history : List KeptRecord) (me : RoleId) (r : Record) where
+  still_noted : (client seq at : ℕ) (reply : Reply) → IsNoted history client seq at reply → IsNoted (entry_by me r ∷ history) client seq at reply
+  still_noted client seq at reply (p, h) =
+      let more = log_grows me r history p in
+      (p, subst (λ vs. IsRight vs client seq at reply) (sym more.1) (grown_right (log_in history p) more.0 client seq at reply h))
+
+  still_told : (t : Token) (n : ℕ) (found : Option (List ℕ)) → IsTold q history t n found → IsTold q (entry_by me r ∷ history) t n found
+  still_told t n found h =
+      let more = log_grows me r history h.replica in
+      let l = h.within in
+      let longer : length (log_in (entry_by me r ∷ history) h.replica) ≡ length (log_in history h.replica ++ more.0) = ap length more.1 in
+      record {
+        replica = h.replica;
+        key = h.key;
+        wanted = h.wanted;
+        within = omega (arith, longer, length-append (log_in history h.replica) more.0, l);
+        found_is = h.found_is ∙ ap (λ vs. text_at h.key (fold vs)) (sym (ap (λ vs. take n vs) more.1 ∙ take-append-le n (log_in history h.replica) more.0 l));
+      }
+
+  still_says : (from to : RoleId) (m : Msg) → ListSays q history from to m → ListSays q (entry_by me r ∷ history) from to m
+  still_says from to (msg.Submit k) h = h
+  still_says from to (msg.Batch ks) h = h
+  still_says from to (msg.Phase1B i cw votes) h = h
+  still_says from to (msg.Propose i g s cw v) h = h
+  still_says from to (msg.Phase2A i s cw v) h = h
+  still_says from to (msg.Results s answers) h = λ a m. still_noted a.client a.seq a.at a.reply (h a m)
+  still_says from to (msg.Answer seq at reply) h = still_noted to.index seq at reply h
+  still_says from to (msg.ReadReq seq replica key) h = h
+  still_says from to (msg.Read t n key) h = h
+  still_says from to (msg.ReadAnswer seq n found) h = still_told (token to.index seq) n found h
+  still_says from to other h = tt
+
+with_says : (q : Requests) (history : List KeptRecord) (me : RoleId) (o : Option Record) (from to : RoleId) (m : Msg)
+    → ListSays q history from to m → ListSays q (with_record me o history) from to m
+with_says q history me None from to m h = h
+with_says q history me (Some r) from to m h = still_says q history me r from to m h
+
+with_keeps : (q : Requests) (history : List KeptRecord) (me : RoleId) (o : Option Record) → MayKeep q o → ((k : KeptRecord) → Member k history → ListKeeps q k.what)
+    → (k : KeptRecord) → Member k (with_record me o history) → ListKeeps q k.what
+with_keeps q history me None h old k m = old k m
+with_keeps q history me (Some r) h old k (inl e) = subst (λ (x : KeptRecord). ListKeeps q x.what) (sym e) h
+with_keeps q history me (Some r) h old k (inr m) = old k m
+
+-- the facts after a record or none, more datagrams, and a new state of one role
+pub list_after : (q : Requests) (history : List KeptRecord) (sent : List Letter) (states : RoleId → State) → ListFacts q history sent states
+    → (me : RoleId) (o : Option Record) (ds : List Letter) (s : State) → MayKeep q o
+    → ((d : Letter) → Member d ds → ListSays q (with_record me o history) d.from d.to d.msg) → InList q s
+    → ListFacts q (with_record me o history) (sent ++ ds) (set_state me s states)
+list_after q history sent states facts me o ds s keeps says running = record {
+  keeps = with_keeps q history me o keeps facts.keeps;
+  says = λ d m. ⊎_elim (λ k. with_says q history me o d.from d.to d.msg (facts.says d k)) (says d) (Member-cases d sent ds m);
+  running = set_running (λ a x. InList q x) me s states running (λ a e. facts.running a);
+}
+
+pub listed_lands : {V : Type 0} (q : Requests) (history : List KeptRecord) (sent : List Letter) (states : RoleId → State) → ListFacts q history sent states
+    → (me : RoleId) (make : V → State) (o : Outcome V) → IsListed q history me make o → Lands (ListFacts q) history sent states me make o
+listed_lands q history sent states facts me make o h = record {
+  whole = list_after q history sent states facts me o.kept o.sends (make o.volatile) h.keeps h.sends h.state;
+  cut = λ r e.
+      subst (λ ds. ListFacts q (entry_by me r ∷ history) ds (set_state me Down states)) (append-nil sent)
+      (list_after q history sent states facts me (Some r) [] Down (subst (λ k. MayKeep q k) e h.keeps) (λ d m. absurd m) tt);
+}

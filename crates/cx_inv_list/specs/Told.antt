@@ -1,0 +1,101 @@
+-- What datagrams, records and roles say of the command list: each command in them was asked for, each answer in them is right by the values
+-- that some replica kept, and each key in them is that of its read.
+use Rattle.std.specs.Prelude.{◌≡◌, ℕ, ◌≤◌, take, List, length, Option, None, Some}
+use Rattle.cx_base.specs.declared.command.Answered.{Answered}
+use Rattle.cx_base.specs.declared.command.Command.{Command}
+use Rattle.cx_base.specs.declared.command.Placed.{Placed}
+use Rattle.cx_base.specs.declared.command.Reply.{Reply}
+use Rattle.cx_base.specs.declared.command.Value.{Value}
+use Rattle.cx_base.specs.declared.role.Kind.TheVariants as kind
+use Rattle.cx_base.specs.declared.role.RoleId.{RoleId}
+use Rattle.cx_base.specs.Fold.{commands_of, fold, text_at}
+use Rattle.cx_base.specs.Role.{role}
+use Rattle.cx_field.specs.declared.parts.Token.{Token}
+use Rattle.cx_field.specs.declared.parts.Vote.{Vote}
+use Rattle.cx_msg.specs.Letter.{Letter}
+use Rattle.cx_msg.specs.declared.input.KeptRecord.{KeptRecord}
+use Rattle.cx_msg.specs.declared.kept.Record.{Record}
+use Rattle.cx_msg.specs.declared.kept.Record.TheVariants as kept
+use Rattle.cx_msg.specs.declared.message.Msg.{Msg}
+use Rattle.cx_msg.specs.declared.message.Msg.TheVariants as msg
+use Rattle.cx_model.specs.declared.states.Deferred.{Deferred}
+use Rattle.cx_model.specs.declared.states.Pending.{Pending}
+use Rattle.cx_model.specs.declared.states.Promised.{Promised}
+use Rattle.cx_model.specs.CommandList.{IsRight}
+use Rattle.cx_model.specs.Member.{Member}
+use Rattle.cx_model.specs.Outcome.{Outcome}
+use Rattle.cx_model.specs.Reader.{Reading, token}
+use Rattle.cx_model.specs.Replica.{replica_rules}
+use Rattle.cx_inv_run.specs.States.{State, Down, Plain, BatcherIn, LeaderIn, ProxyIn, ReplicaIn, ReaderIn, with_record, durable_of}
+
+-- What may be said of the commands that were asked for, and of the keys of the reads that were.
+pub record Requests : Type 1 where
+  pub asked : Command → Type 0
+  pub wanted : Token → List ℕ → Type 0
+
+-- each command passes
+abbrev pub AreAsked : Requests → List Command → Type 0
+AreAsked q commands = (k : Command) → Member k commands → q.asked k
+
+abbrev pub AreVotesAsked : Requests → List Vote → Type 0
+AreVotesAsked q votes = (u : Vote) → Member u votes → AreAsked q (commands_of u.value)
+
+-- the values that a replica kept
+abbrev pub log_in : List KeptRecord → ℕ → List Value
+log_in history p = (durable_of replica_rules (role kind.Replica p) history).log
+
+-- an answer is right by the values that some replica kept
+abbrev pub IsNoted : List KeptRecord → ℕ → ℕ → ℕ → Reply → Type 0
+IsNoted history client seq at reply = (p : ℕ) × IsRight (log_in history p) client seq at reply
+
+-- a read's answer tells the text of its key in the map that so many values of some replica leave
+pub record IsTold (q : Requests) (history : List KeptRecord) (t : Token) (n : ℕ) (found : Option (List ℕ)) : Type 0 where
+  pub replica : ℕ
+  pub key : List ℕ
+  pub wanted : q.wanted t key
+  pub within : n ≤ length (log_in history replica)
+  pub found_is : found ≡ text_at key (fold (take n (log_in history replica)))
+
+abbrev pub ListSays : Requests → List KeptRecord → RoleId → RoleId → Msg → Type 0
+ListSays q history from to (msg.Submit k) = q.asked k
+ListSays q history from to (msg.Batch ks) = AreAsked q ks
+ListSays q history from to (msg.Phase1B i cw votes) = AreVotesAsked q votes
+ListSays q history from to (msg.Propose i g s cw v) = AreAsked q (commands_of v)
+ListSays q history from to (msg.Phase2A i s cw v) = AreAsked q (commands_of v)
+ListSays q history from to (msg.Results s answers) = (a : Answered) → Member a answers → IsNoted history a.client a.seq a.at a.reply
+ListSays q history from to (msg.Answer seq at reply) = IsNoted history to.index seq at reply
+ListSays q history from to (msg.ReadReq seq replica key) = q.wanted (token from.index seq) key
+ListSays q history from to (msg.Read t n key) = q.wanted t key
+ListSays q history from to (msg.ReadAnswer seq n found) = IsTold q history (token to.index seq) n found
+ListSays q history from to other = Unit {0}
+
+-- a vote's commands were asked for
+abbrev pub ListKeeps : Requests → Record → Type 0
+ListKeeps q (kept.Vote i s cw v) = AreAsked q (commands_of v)
+ListKeeps q other = Unit {0}
+
+abbrev pub InList : Requests → State → Type 0
+InList q Down = Unit {0}
+InList q Plain = Unit {0}
+InList q (BatcherIn v) = AreAsked q v.waiting
+InList q (LeaderIn v) =
+    ((p : Promised) → Member p v.promises → AreVotesAsked q p.votes) × ((p : Placed) → Member p v.proposed → AreAsked q (commands_of p.value))
+InList q (ProxyIn v) = (p : Pending) → Member p v.pending → AreAsked q (commands_of p.value)
+InList q (ReplicaIn v) = (r : Deferred) → Member r v.deferred → q.wanted r.token r.key
+InList q (ReaderIn v) = (r : Reading) → Member r v.reads → q.wanted r.token r.key
+
+-- all of a moment
+pub record ListFacts (q : Requests) (history : List KeptRecord) (sent : List Letter) (states : RoleId → State) : Type 0 where
+  pub keeps : (k : KeptRecord) → Member k history → ListKeeps q k.what
+  pub says : (d : Letter) → Member d sent → ListSays q history d.from d.to d.msg
+  pub running : (me : RoleId) → InList q (states me)
+
+abbrev pub MayKeep : Requests → Option Record → Type 0
+MayKeep q None = Unit {0}
+MayKeep q (Some r) = ListKeeps q r
+
+-- what a row gives
+pub record IsListed {V : Type 0} (q : Requests) (history : List KeptRecord) (me : RoleId) (make : V → State) (o : Outcome V) : Type 0 where
+  pub state : InList q (make o.volatile)
+  pub keeps : MayKeep q o.kept
+  pub sends : (d : Letter) → Member d o.sends → ListSays q (with_record me o.kept history) d.from d.to d.msg

@@ -1,0 +1,184 @@
+-- In every run that goes on from one in which a read was not asked for, the facts on the read hold.
+use Rattle.std.proofs.Common.{◌≡◌, ℕ, false, ◌⊎◌, List, [], ◌∷◌, ◌++◌, reverse, inl, inr, sym, subst, refl}
+use Rattle.cx_base.specs.declared.cluster.Cluster.{Cluster}
+use Rattle.cx_base.specs.declared.command.Command.{Command}
+use Rattle.cx_base.specs.declared.event.Event.{Event}
+use Rattle.cx_base.specs.declared.event.Event.TheVariants as event
+use Rattle.cx_base.specs.declared.role.Kind.{Kind}
+use Rattle.cx_base.specs.declared.role.Kind.TheVariants as kind
+use Rattle.cx_base.specs.declared.role.RoleId.{RoleId}
+use Rattle.cx_base.specs.declared.round.Round.{Round}
+use Rattle.cx_base.specs.Role.{role}
+use Rattle.cx_field.specs.declared.parts.Token.{Token}
+use Rattle.cx_msg.specs.Letter.{Letter, letter}
+use Rattle.cx_msg.specs.declared.input.KeptRecord.{KeptRecord}
+use Rattle.cx_msg.specs.declared.message.Msg.{Msg}
+use Rattle.cx_msg.specs.declared.message.Msg.TheVariants as msg
+use Rattle.cx_model.specs.History.{was_asked}
+use Rattle.cx_model.specs.Leader.{leader_rules}
+use Rattle.cx_model.specs.Request.{request}
+use Rattle.cx_model.specs.World.{World, change, step, run, run_from}
+use Rattle.cx_inv_run.specs.Laws.{Laws, HoldsAlong}
+use Rattle.cx_inv_run.specs.States.{State, Down, BatcherIn, LeaderIn, ProxyIn, plain, fresh_state, states_of, durable_of, HoldsIn}
+use Rattle.cx_inv_run.proofs.Histories.{set_running}
+use Rattle.cx_inv_run.proofs.KindLaws.{kinds_hold}
+use Rattle.cx_inv_run.proofs.Members.{Member-first, Member-one, Member-reverse, Member-turned}
+use Rattle.cx_inv_run.proofs.Senders.{batcher_kinds, leader_kinds, proxy_kinds, unbatcher_kinds}
+use Rattle.cx_inv_run.proofs.Sends.{batcher_sends, leader_sends, proxy_sends, unbatcher_sends, sends_only}
+use Rattle.cx_inv_run.proofs.Steps.{run_keeps, run_from_keeps, run_append, run_cluster, along, all_allowed}
+use Rattle.cx_inv_match.specs.Facts.{Facts}
+use Rattle.cx_inv_vote.proofs.Steps.{facts_hold}
+use Rattle.cx_inv_read.specs.Reads.{Has, ReadSays, InReader, Reads, IsElse, Unread}
+use Rattle.cx_inv_read.proofs.Keep.{Since, lands, no_acks, sent_more}
+use Rattle.cx_inv_read.proofs.Rows.{Each}
+use Rattle.cx_inv_read.proofs.Says.{Known}
+use Rattle.cx_inv_read.proofs.Readers.{reader_lands}
+use Rattle.cx_inv_read.proofs.Roles.{acceptor_lands, matchmaker_lands, replica_lands}
+use Rattle.cx_inv_read.proofs.Unread.{IsOther, unread_laws, not_asked}
+
+-- what is known from the asking on
+abbrev KnownSince : Cluster → List KeptRecord → List KeptRecord → List Letter → (RoleId → State) → Type 0
+KnownSince c asked history sent states = Known c history sent states × Has history asked
+
+fresh_reader : (c : Cluster) (k : Kind) → InReader c (fresh_state c k)
+fresh_reader c kind.Client = tt
+fresh_reader c kind.Batcher = tt
+fresh_reader c kind.Leader = tt
+fresh_reader c kind.Proxy = tt
+fresh_reader c kind.Acceptor = tt
+fresh_reader c kind.Matchmaker = tt
+fresh_reader c kind.Replica = tt
+fresh_reader c kind.Unbatcher = tt
+fresh_reader c kind.Reader = λ r m. absurd m
+
+-- a request hands in a command or asks for a read
+pub requested : (P : Letter → Type 0) → ((from to : RoleId) (command : Command) → P (letter from to (msg.Submit command)))
+    → ((from to : RoleId) (seq replica : ℕ) (key : List ℕ) → P (letter from to (msg.ReadReq seq replica key))) → (e : Event) → Each P (request e)
+requested P submit read (event.Write command batcher) = Member-one P _ (submit _ _ command)
+requested P submit read (event.Read client seq reader replica key) = Member-one P _ (read _ _ seq replica key)
+requested P submit read (event.Deliver n cut) = λ d m. absurd m
+requested P submit read (event.Tick r) = λ d m. absurd m
+requested P submit read (event.Order l order cut) = λ d m. absurd m
+requested P submit read (event.Crash r) = λ d m. absurd m
+requested P submit read (event.Restart r) = λ d m. absurd m
+
+-- the same facts, with other states of readers
+with_states : (c : Cluster) (asked : List KeptRecord) (t : Token) (history : List KeptRecord) (sent : List Letter) (states others : RoleId → State)
+    → Reads c asked t history sent states → ((a : RoleId) → InReader c (others a)) → Reads c asked t history sent others
+with_states c asked t history sent states others h readers = record { has = h.has; says = h.says; evidence = h.evidence; readers = readers }
+
+module _ (c : Cluster) (asked : List KeptRecord) (sent0 : List Letter) (states0 : RoleId → State) (facts0 : Facts c asked sent0 states0) (t : Token) where
+  asks : (history : List KeptRecord) (sent : List Letter) (states : RoleId → State) (e : Event) → Known c history sent states → Reads c asked t history sent states
+      → Reads c asked t history (sent ++ request e) states
+  asks history sent states e known reads =
+      sent_more c asked t history sent states known.1 reads (request e)
+      (requested (λ d. ReadSays asked t history d.from d.to d.msg) (λ from to command. tt) (λ from to seq replica key. tt) e)
+      (λ w a n x. absurd (requested (λ d. (u : Token) (i : Round) (k : ℕ) → d.msg ≡ msg.PreReadAck u i k → ⊥)
+      (λ from to command u i k q. cc) (λ from to seq replica key u i k q. cc) e _ x.1 t w n refl))
+
+  start : (states : RoleId → State) → ((a : RoleId) → (states a ≡ Down) ⊎ (states a ≡ fresh_state c a.kind)) → Since c asked t [] [] states
+  start states is has = record {
+    has = has;
+    says = λ d m. absurd m;
+    evidence = λ w. inr (inl (λ a n x. x.1));
+    readers = λ a. elim (is a) [
+      | inl e ↦ subst (λ s. InReader c s) (sym e) tt
+      | inr e ↦ subst (λ s. InReader c s) (sym e) (fresh_reader c a.kind)
+    ];
+  }
+
+  pub reads_laws : Laws c (λ e. Unit {0}) (KnownSince c asked) (Since c asked t)
+  reads_laws = record {
+    same = λ history sent states others e h has.
+        let reads = h has in with_states c asked t history sent states others reads (λ a. subst (λ s. InReader c s) (e a) (reads.readers a));
+    start = start;
+    stop = λ history sent states me h has.
+        let reads = h has in
+        with_states c asked t history sent states _ reads (set_running (λ a s. InReader c s) me Down states tt (λ a e. reads.readers a));
+    wake = λ history sent states me h down has.
+        let reads = h has in
+        with_states c asked t history sent states _ reads (set_running (λ a s. InReader c s) me (fresh_state c me.kind) states (fresh_reader c me.kind) (λ a e. reads.readers a));
+    ask = λ history sent states e allowed known h has. asks history sent states e known.0 (h has);
+    batcher = λ history sent states b v i known h up given.
+        let kinds = batcher_kinds c (role kind.Batcher b) refl v i in
+        lands c asked t history sent states known.0.1 (h known.1) (role kind.Batcher b) BatcherIn _
+        (sends_only (λ d. ReadSays asked t history d.from d.to d.msg) (role kind.Batcher b) _ kinds
+        (λ to. batcher_sends (λ m. ReadSays asked t history (role kind.Batcher b) to m) (λ commands. tt)))
+        (no_acks c asked t history sent states known.0.1 (h known.1) (role kind.Batcher b) _ (λ e. cc) kinds) tt;
+    leader = λ history sent states l v i known h up given.
+        let kinds = leader_kinds c (role kind.Leader l) refl (durable_of leader_rules (role kind.Leader l) history) v i in
+        lands c asked t history sent states known.0.1 (h known.1) (role kind.Leader l) LeaderIn _
+        (sends_only (λ d. ReadSays asked t history d.from d.to d.msg) (role kind.Leader l) _ kinds
+        (λ to. leader_sends (λ m. ReadSays asked t history (role kind.Leader l) to m) (λ j. tt) (λ j g. tt) (λ j. tt) (λ j g s cw u. tt) (λ j cw. tt) (λ j g. tt)))
+        (no_acks c asked t history sent states known.0.1 (h known.1) (role kind.Leader l) _ (λ e. cc) kinds) tt;
+    proxy = λ history sent states p v i known h up given.
+        let kinds = proxy_kinds c (role kind.Proxy p) refl v i in
+        lands c asked t history sent states known.0.1 (h known.1) (role kind.Proxy p) ProxyIn _
+        (sends_only (λ d. ReadSays asked t history d.from d.to d.msg) (role kind.Proxy p) _ kinds
+        (λ to. proxy_sends (λ m. ReadSays asked t history (role kind.Proxy p) to m) (λ j s cw u. tt) (λ s u. tt) (λ j s. tt)))
+        (no_acks c asked t history sent states known.0.1 (h known.1) (role kind.Proxy p) _ (λ e. cc) kinds) tt;
+    acceptor = λ history sent states a i known h up given. acceptor_lands c asked sent0 states0 facts0 t history sent states known.0 (h known.1) a i given;
+    matchmaker = λ history sent states m i known h up given. matchmaker_lands c asked sent0 states0 facts0 t history sent states known.0 (h known.1) m i;
+    replica = λ history sent states p v i known h up given. replica_lands c asked sent0 states0 facts0 t history sent states known.0 (h known.1) p v i up given;
+    unbatcher = λ history sent states u i known h up given.
+        let kinds = unbatcher_kinds c (role kind.Unbatcher u) refl i in
+        lands c asked t history sent states known.0.1 (h known.1) (role kind.Unbatcher u) plain _
+        (sends_only (λ d. ReadSays asked t history d.from d.to d.msg) (role kind.Unbatcher u) _ kinds
+        (λ to. unbatcher_sends (λ m. ReadSays asked t history (role kind.Unbatcher u) to m) (λ seq at reply. tt)))
+        (no_acks c asked t history sent states known.0.1 (h known.1) (role kind.Unbatcher u) _ (λ e. cc) kinds) tt;
+    reader = λ history sent states r v i known h up given. reader_lands c asked sent0 states0 facts0 t history sent states known.0 (h known.1) r v i up given;
+  }
+
+-- runs
+
+pub known_holds : (c : Cluster) (es : List Event) → HoldsIn (Known c) (run c es)
+known_holds c es = (kinds_hold c es, facts_hold c es)
+
+-- records are only added
+has_step : (w : World) (e : Event) → Has (reverse (step w e).kept) (reverse w.kept)
+unfolding step
+has_step w e k m = Member-reverse k (w.kept ++ (change w e).kept) (Member-first k w.kept (change w e).kept (Member-turned k w.kept m))
+
+has_run : (w : World) (es : List Event) (asked : List KeptRecord) → Has (reverse w.kept) asked → Has (reverse (run_from w es).kept) asked
+has_run w [] asked has = has
+has_run w (e ∷ es) asked has = has_run (step w e) es asked (λ k m. has_step w e k (has k m))
+
+known_since : (c : Cluster) (asked : List KeptRecord) (w : World) (es : List Event) → HoldsAlong (Known c) w es → Has (reverse w.kept) asked → HoldsAlong (KnownSince c asked) w es
+known_since c asked w [] known has = (known, has)
+known_since c asked w (e ∷ es) known has = ((known.0, has), known_since c asked (step w e) es known.1 (λ k m. has_step w e k (has k m)))
+
+-- of each read from the start on
+pub reads_always : (c : Cluster) (es : List Event) (t : Token) → HoldsIn (Reads c [] t) (run c es)
+reads_always c es t =
+    run_keeps c (λ e. Unit {0}) (KnownSince c []) (Since c [] t) (reads_laws c [] [] _ (facts_hold c []) t) es
+    (known_since c [] (run c []) es (along c (Known c) (known_holds c) [] es) (λ k m. absurd m)) (all_allowed (run c []) es) (λ k m. absurd m)
+
+-- a read that was not asked for is unread
+pub unread_holds : (c : Cluster) (es : List Event) (t : Token) → was_asked t (run c es).events ≡ false → HoldsIn (Unread t) (run c es)
+unread_holds c es t h =
+    run_keeps c (IsOther t) (Known c) (Unread t) (unread_laws t c) es (along c (Known c) (known_holds c) [] es) (not_asked t (run c []) es h)
+
+else_says : (asked history : List KeptRecord) (t : Token) (from to : RoleId) (m : Msg) → IsElse t from to m → ReadSays asked t history from to m
+else_says asked history t from to (msg.MatchReadAck u w es) h = λ e. absurd (h e)
+else_says asked history t from to (msg.PreRead u w) h = λ e. absurd (h e)
+else_says asked history t from to (msg.PreReadAck u w n) h = λ e. absurd (h e)
+else_says asked history t from to (msg.Read u n key) h = λ e. absurd (h e)
+else_says asked history t from to (msg.ReadAnswer seq n found) h = λ e p. absurd (h e p)
+else_says asked history t from to other h = tt
+
+-- of a read, from a run on in which it was not asked for
+pub reads_since : (c : Cluster) (es more : List Event) (t : Token) → was_asked t (run c es).events ≡ false
+    → HoldsIn (Reads c (reverse (run c es).kept) t) (run c (es ++ more))
+reads_since c es more t h =
+    let w = run c es in
+    let asked = reverse w.kept in
+    let unread = unread_holds c es t h in
+    let now : HoldsIn (Since c asked t) w = λ has. record {
+      has = has;
+      says = λ d m. else_says asked asked t d.from d.to d.msg (unread d m);
+      evidence = λ i. inr (inl (λ a n x. unread _ x.1 refl));
+      readers = (reads_always c es t).readers;
+    } in
+    let later = run_from_keeps c (λ e. Unit {0}) (KnownSince c asked) (Since c asked t) (reads_laws c asked w.sent (states_of w.roles) (facts_hold c es) t) w (run_cluster c es)
+    now more (known_since c asked w more (along c (Known c) (known_holds c) es more) (λ k m. m)) (all_allowed w more) (has_run w more asked (λ k m. m)) in
+    subst (λ x. HoldsIn (Reads c asked t) x) (sym (run_append c es more)) later

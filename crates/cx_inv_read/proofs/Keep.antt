@@ -1,0 +1,158 @@
+-- The facts on a read after a step: what was said stays so, and what a row sends and leaves is added.
+use Rattle.std.proofs.Common.{◌≡◌, ℕ, Bool, true, false, ◌&&◌, ◌⊎◌, List, ◌∷◌, ◌++◌, inl, inr, ap, sym, subst, ◌∙◌}
+use Rattle.std.specs.List.{list_any}
+use Rattle.std.proofs.lemmas.Bool.{true≢false, and_parts, and_from, cases_Bool}
+use Rattle.cx_base.specs.declared.cluster.Cluster.{Cluster}
+use Rattle.cx_base.specs.declared.role.Kind.TheVariants as kind
+use Rattle.cx_base.specs.declared.role.RoleId.{RoleId}
+use Rattle.cx_base.specs.declared.round.Round.{Round}
+use Rattle.cx_base.specs.Round.{same_round}
+use Rattle.cx_field.specs.declared.parts.Entry.{Entry}
+use Rattle.cx_field.specs.declared.parts.Token.{Token}
+use Rattle.cx_msg.specs.Letter.{Letter, letter}
+use Rattle.cx_msg.specs.declared.input.KeptRecord.{KeptRecord}
+use Rattle.cx_msg.specs.declared.message.Msg.{Msg}
+use Rattle.cx_msg.specs.declared.message.Msg.TheVariants as msg
+use Rattle.cx_model.specs.Lists.{number_itself}
+use Rattle.cx_model.specs.Member.{Member}
+use Rattle.cx_model.specs.Outcome.{Outcome}
+use Rattle.cx_model.specs.Request.{same_read}
+use Rattle.cx_inv_run.specs.Kinds.{OfKind}
+use Rattle.cx_inv_run.specs.Laws.{Lands}
+use Rattle.cx_inv_run.specs.States.{State, Down, entry_by, with_record}
+use Rattle.cx_inv_run.proofs.Members.{Member-cases, Member-both, Member-any, any-Member}
+use Rattle.cx_inv_run.proofs.Histories.{kept_longer, set_running}
+use Rattle.cx_inv_run.proofs.Rounds.{same_round-true, same_round-itself}
+use Rattle.cx_inv_match.specs.Facts.{Facts}
+use Rattle.cx_inv_read.specs.Reads.{Has, Covers, IsRaised, IsReadAnswer, ReadSays, IsAcked, HasEvidence, InReader, Reads}
+use Rattle.cx_inv_read.proofs.Rows.{Each, same_read-true}
+
+-- from the asking on
+abbrev pub Since : Cluster → List KeptRecord → Token → List KeptRecord → List Letter → (RoleId → State) → Type 0
+Since c asked t history sent states = Has history asked → Reads c asked t history sent states
+
+pub covers_older : (history longer : List KeptRecord) → Has longer history → (a : RoleId) (n : ℕ) → Covers longer a n → Covers history a n
+covers_older history longer more a n h = record {
+  votes = λ j s v x. h.votes j s v (x.0, more _ x.1);
+  marks = λ j m x. h.marks j m (elim x [ inl y ↦ inl (y.0, y.1, more _ y.2) | inr y ↦ inr (more _ y) ]);
+}
+
+module _ (history longer : List KeptRecord) (more : Has longer history) where
+  pub still_raised : (w : Round) → IsRaised history w → IsRaised longer w
+  still_raised w h = elim h [ inl e ↦ inl e | inr x ↦ inr (x.0, x.1, more _ x.2) ]
+
+  still_answer : (asked : List KeptRecord) (m : RoleId) (w : Round) (es : List Entry) → IsReadAnswer asked history m w es → IsReadAnswer asked longer m w es
+  still_answer asked m w es h = record {
+    all = h.all;
+    only = λ e k. let x = h.only e k in (x.0, more _ x.1);
+    raised = still_raised w h.raised;
+    has_watermark = h.has_watermark;
+  }
+
+  pub still_says : (asked : List KeptRecord) (t : Token) (from to : RoleId) (m : Msg) → ReadSays asked t history from to m → ReadSays asked t longer from to m
+  still_says asked t from to (msg.MatchReadAck u w es) h = λ e. still_answer asked from w es (h e)
+  still_says asked t from to (msg.PreRead u w) h = λ e. still_raised w (h e)
+  still_says asked t from to (msg.PreReadAck u w n) h = λ e. let x = h e in (x.0, still_raised w x.1)
+  still_says asked t from to (msg.Read u n key) h = h
+  still_says asked t from to (msg.ReadAnswer seq n found) h = h
+  still_says asked t from to other h = tt
+
+  still_evidence : (c : Cluster) (asked : List KeptRecord) (t : Token) (sent : List Letter) (w : Round) → HasEvidence c asked t history sent w → HasEvidence c asked t longer sent w
+  still_evidence c asked t sent w (inl e) = inl e
+  still_evidence c asked t sent w (inr (inl x)) = inr (inl x)
+  still_evidence c asked t sent w (inr (inr k)) = inr (inr (k.0, (λ r m. more r (k.1 r m)), k.2, k.3, k.4))
+
+-- whether a message is an acceptor's answer to the read, with this watermark
+abbrev is_ack : Token → Round → Msg → Bool
+is_ack t w (msg.PreReadAck u i n) = same_read u t && same_round i w
+is_ack t w other = false
+
+ack_is : (t : Token) (w : Round) (m : Msg) → is_ack t w m ≡ true → (n : ℕ) × (m ≡ msg.PreReadAck t w n)
+ack_is t w (msg.PreReadAck u i n) h =
+    let p = and_parts (same_read u t) (same_round i w) h in
+    (n, ap (λ x. msg.PreReadAck x i n) (same_read-true u t p.0) ∙ ap (λ x. msg.PreReadAck t x n) (same_round-true i w p.1))
+ack_is t w other h = cc
+
+is_ack-itself : (t : Token) (w : Round) (n : ℕ) → is_ack t w (msg.PreReadAck t w n) ≡ true
+is_ack-itself t w n = and_from _ _ (and_from _ _ (number_itself t.client) (number_itself t.seq)) (same_round-itself w)
+
+acked_cases : (sent ds : List Letter) (t : Token) (w : Round) (a : RoleId) (n : ℕ) → IsAcked (sent ++ ds) t w a n → IsAcked sent t w a n ⊎ IsAcked ds t w a n
+acked_cases sent ds t w a n h = elim (Member-cases _ sent ds h.1) [ inl m ↦ inl (h.0, m) | inr m ↦ inr (h.0, m) ]
+
+module _ (c : Cluster) (asked : List KeptRecord) (t : Token) (history : List KeptRecord) (sent : List Letter) (states : RoleId → State)
+    (facts : Facts c history sent states) (reads : Reads c asked t history sent states) where
+  -- answers of acceptors by what they kept till now, with a watermark that was raised
+  abbrev pub AcksAreSo : List Letter → Type 0
+  AcksAreSo ds = (w : Round) (a : RoleId) (n : ℕ) → IsAcked ds t w a n → Covers history a n × IsRaised history w
+
+  -- no answer with this watermark, or all cover this history
+  new_evidence : (w : Round) → IsRaised history w → ((a : RoleId) (n : ℕ) → IsAcked sent t w a n → ⊥) → (ds : List Letter) → AcksAreSo ds
+      → HasEvidence c asked t history (sent ++ ds) w
+  new_evidence w (inl e) none ds acks = inl e
+  new_evidence w (inr x) none ds acks =
+      inr (inr (
+        history,
+        (λ k m. m),
+        reads.has,
+        (facts.garbaged x.0 w x.1 x.2).1,
+        λ a n y. elim (acked_cases sent ds t w a n y) [ inl z ↦ absurd (none a n z) | inr z ↦ (acks w a n z).0 ],
+      ))
+
+  more_evidence : (ds : List Letter) → AcksAreSo ds → (w : Round) → HasEvidence c asked t history sent w → HasEvidence c asked t history (sent ++ ds) w
+  more_evidence ds acks w (inl e) = inl e
+  more_evidence ds acks w (inr (inr k)) =
+      inr (inr (
+        k.0,
+        k.1,
+        k.2,
+        k.3,
+        λ a n y. elim (acked_cases sent ds t w a n y) [ inl z ↦ k.4 a n z | inr z ↦ covers_older k.0 history k.1 a n (acks w a n z).0 ],
+      ))
+  more_evidence ds acks w (inr (inl none)) = elim (cases_Bool (list_any (λ (d : Letter). is_ack t w d.msg) ds)) [
+    | inl h ↦ (
+        let r = any-Member (λ (d : Letter). is_ack t w d.msg) ds h in
+        let q = ack_is t w r.0.msg r.2 in
+        let m : Member (letter r.0.from r.0.to (msg.PreReadAck t w q.0)) ds = subst (λ x. Member (letter r.0.from r.0.to x) ds) q.1 r.1 in
+        new_evidence w (acks w r.0.from q.0 (r.0.to, m)).1 none ds acks
+        )
+    | inr f ↦ inr (inl (λ a n y. elim (acked_cases sent ds t w a n y) [
+      | inl z ↦ none a n z
+      | inr z ↦ true≢false (sym (Member-any (λ (d : Letter). is_ack t w d.msg) (letter a z.0 (msg.PreReadAck t w n)) ds z.1 (is_ack-itself t w n)) ∙ f)
+    ]))
+  ]
+
+  -- more datagrams, of no role's step
+  pub sent_more : (ds : List Letter) → Each (λ d. ReadSays asked t history d.from d.to d.msg) ds → AcksAreSo ds → Reads c asked t history (sent ++ ds) states
+  sent_more ds says acks = record {
+    has = reads.has;
+    says = Member-both (λ (d : Letter). ReadSays asked t history d.from d.to d.msg) sent ds reads.says says;
+    evidence = λ w. more_evidence ds acks w (reads.evidence w);
+    readers = reads.readers;
+  }
+
+  -- a row lands whose datagrams say what is so
+  pub lands : {V : Type 0} (me : RoleId) (make : V → State) (o : Outcome V)
+      → Each (λ d. ReadSays asked t history d.from d.to d.msg) o.sends → AcksAreSo o.sends → InReader c (make o.volatile)
+      → Lands (Since c asked t) history sent states me make o
+  lands me make o says acks state = record {
+    whole = λ has. record {
+      has = has;
+      says = Member-both (λ (d : Letter). ReadSays asked t (with_record me o.kept history) d.from d.to d.msg) sent o.sends
+          (λ d m. still_says history (with_record me o.kept history) (kept_longer me o.kept history) asked t d.from d.to d.msg (reads.says d m))
+          (λ d m. still_says history (with_record me o.kept history) (kept_longer me o.kept history) asked t d.from d.to d.msg (says d m));
+      evidence = λ w.
+          still_evidence history (with_record me o.kept history) (kept_longer me o.kept history) c asked t (sent ++ o.sends) w
+          (more_evidence o.sends acks w (reads.evidence w));
+      readers = set_running (λ a s. InReader c s) me (make o.volatile) states state (λ a e. reads.readers a);
+    };
+    cut = λ r e has. record {
+      has = has;
+      says = λ d m. still_says history (entry_by me r ∷ history) (λ k x. inr x) asked t d.from d.to d.msg (reads.says d m);
+      evidence = λ w. still_evidence history (entry_by me r ∷ history) (λ k x. inr x) c asked t sent w (reads.evidence w);
+      readers = set_running (λ a s. InReader c s) me Down states tt (λ a e. reads.readers a);
+    };
+  }
+
+  -- only acceptors send such answers
+  pub no_acks : {V : Type 0} (me : RoleId) (o : Outcome V) → (me.kind ≡ kind.Acceptor → ⊥) → OfKind me o → AcksAreSo o.sends
+  no_acks me o other kinds w a n x = absurd (other (kinds.sends _ x.1).1)

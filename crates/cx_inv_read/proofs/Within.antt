@@ -1,0 +1,249 @@
+-- An answer tells no more values than some replica kept.
+use Rattle.std.proofs.Common.{◌≡◌, ◌⊎◌, ℕ, ◌+◌, ◌≤◌, ◌&&◌, List, [], ◌∷◌, ◌++◌, map, filter, length, inl, inr, ap, sym, subst, refl, arith}
+use Rattle.std.specs.Prelude.{◌==◌, ◌%◌, nat_lt, nat_le, slice_get, Option, None, Some}
+use Rattle.std.specs.List.{list_any}
+use Rattle.std.proofs.lemmas.List.{length-append}
+use Rattle.std.proofs.lemmas.Option.{same_Some}
+use Rattle.cx_base.specs.declared.cluster.Cluster.{Cluster}
+use Rattle.cx_base.specs.declared.command.Answered.{Answered}
+use Rattle.cx_base.specs.declared.command.Command.{Command}
+use Rattle.cx_base.specs.declared.command.Value.{Value}
+use Rattle.cx_base.specs.declared.event.Event.{Event}
+use Rattle.cx_base.specs.declared.role.Kind.TheVariants as kind
+use Rattle.cx_base.specs.declared.role.RoleId.{RoleId}
+use Rattle.cx_base.specs.Fold.{commands_of}
+use Rattle.cx_base.specs.Lists.{below}
+use Rattle.cx_base.specs.Log.{ready_values}
+use Rattle.cx_base.specs.Noted.{noted_for, with_answer}
+use Rattle.cx_base.specs.Role.{role, same_role}
+use Rattle.cx_msg.specs.Letter.{Letter, letter}
+use Rattle.cx_msg.specs.declared.input.Input.{Input}
+use Rattle.cx_msg.specs.declared.input.Input.TheVariants as input
+use Rattle.cx_msg.specs.declared.input.KeptRecord.{KeptRecord}
+use Rattle.cx_msg.specs.declared.kept.Record.{Record}
+use Rattle.cx_msg.specs.declared.kept.Record.TheVariants as kept
+use Rattle.cx_msg.specs.declared.message.Msg.{Msg}
+use Rattle.cx_msg.specs.declared.message.Msg.TheVariants as msg
+use Rattle.cx_model.specs.declared.states.Deferred.{Deferred}
+use Rattle.cx_model.specs.Acceptor.{acceptor_rules}
+use Rattle.cx_model.specs.Leader.{leader_rules}
+use Rattle.cx_model.specs.Matchmaker.{matchmaker_rules}
+use Rattle.cx_model.specs.Member.{Member}
+use Rattle.cx_model.specs.Names.{names}
+use Rattle.cx_model.specs.Outcome.{Outcome, either_way}
+use Rattle.cx_model.specs.Replica.{ReplicaDurable, ReplicaVolatile, Machine, Executed, new_machine, acting, execute_behind, execute, execute_all, execute_value, machine_from, machine_of, results_at, results_from, read_answer_to, read_answers, apply, fetch_found, held_to, fetch_to, replica_rules, replica_after, replica_takes, replica_tick, replica_row}
+use Rattle.cx_model.specs.Request.{same_read, request}
+use Rattle.cx_model.specs.Unbatcher.{answer_to, unbatcher_takes, unbatcher_row}
+use Rattle.cx_model.specs.World.{run}
+use Rattle.cx_inv_run.specs.Laws.{Lands, Laws, anything}
+use Rattle.cx_inv_run.specs.States.{State, Given, entry_by, with_record, durable_of, HoldsIn}
+use Rattle.cx_inv_run.proofs.Histories.{by_role, durable_own, durable_other}
+use Rattle.cx_inv_run.proofs.Members.{Member-both, Member-map, Member-one}
+use Rattle.cx_inv_run.proofs.Senders.{batcher_kinds, leader_kinds, proxy_kinds, acceptor_kinds, matchmaker_kinds, reader_kinds}
+use Rattle.cx_inv_run.proofs.Sends.{batcher_sends, leader_sends, proxy_sends, acceptor_sends, matchmaker_sends, reader_sends, sends_only}
+use Rattle.cx_inv_run.proofs.Steps.{run_keeps, along_anything, all_allowed}
+use Rattle.cx_inv_read.specs.Reads.{IsWithin, TellsWithin, Within}
+use Rattle.cx_inv_read.proofs.Fresh.{requested}
+use Rattle.cx_inv_read.proofs.Rows.{Each}
+use Rattle.cx_inv_read.proofs.Says.{told_lands}
+
+-- a replica's values only grow
+
+after_longer : (d : ReplicaDurable) (r : Record) → length d.log ≤ length (replica_after d r).log
+after_longer d (kept.Log vs) = omega (arith, length-append d.log vs)
+after_longer d (kept.Promise i) = omega arith
+after_longer d (kept.Vote i s cw v) = omega arith
+after_longer d (kept.Water i cw) = omega arith
+after_longer d (kept.Match i g) = omega arith
+after_longer d (kept.Garbage i g) = omega arith
+after_longer d (kept.Round i g) = omega arith
+
+abbrev log_by : List KeptRecord → RoleId → List Value
+log_by history a = (durable_of replica_rules a history).log
+
+log_longer : (me : RoleId) (r : Record) (history : List KeptRecord) (p : RoleId) → length (log_by history p) ≤ length (log_by (entry_by me r ∷ history) p)
+log_longer me r history =
+    by_role (λ a. length (log_by history a) ≤ length (log_by (entry_by me r ∷ history) a)) me
+    (subst (λ (d : ReplicaDurable). length (log_by history me) ≤ length d.log) (sym (durable_own replica_rules me r history)) (after_longer (durable_of replica_rules me history) r))
+    (λ a e. subst (λ (d : ReplicaDurable). length (log_by history a) ≤ length d.log) (sym (durable_other replica_rules me a r history e)) (omega arith))
+
+still_within : (me : RoleId) (r : Record) (history : List KeptRecord) (n : ℕ) → IsWithin history n → IsWithin (entry_by me r ∷ history) n
+still_within me r history n h = let l = log_longer me r history h.0 in let k = h.1 in (h.0, omega arith)
+
+still_tells : (me : RoleId) (r : Record) (history : List KeptRecord) (m : Msg) → TellsWithin history m → TellsWithin (entry_by me r ∷ history) m
+still_tells me r history (msg.Results s answers) h = λ a m. still_within me r history a.at (h a m)
+still_tells me r history (msg.Answer seq at reply) h = still_within me r history at h
+still_tells me r history (msg.ReadAnswer seq n found) h = still_within me r history n h
+still_tells me r history other h = tt
+
+-- what executing answers and notes lies within the values executed
+
+abbrev UpTo : ℕ → List Answered → Type 0
+UpTo n answers = (a : Answered) → Member a answers → a.at ≤ n
+
+noted_there : (client : ℕ) (notes : List Answered) (a : Answered) → noted_for client notes ≡ Some a → Member a notes
+noted_there client [] a e = cc
+noted_there client (x ∷ notes) a e =
+    either_way (λ (o : Option Answered). o ≡ Some a → Member a (x ∷ notes)) (x.client == client) (Some x) (noted_for client notes)
+    (λ q. inl (sym (same_Some x a q))) (λ q. inr (noted_there client notes a q)) e
+
+with_answer-cases : (one : Answered) (notes : List Answered) (a : Answered) → Member a (with_answer one notes) → (a ≡ one) ⊎ Member a notes
+with_answer-cases one [] a m = elim m [ inl e ↦ inl e | inr k ↦ absurd k ]
+with_answer-cases one (x ∷ notes) a m =
+    either_way (λ (l : List Answered). Member a l → (a ≡ one) ⊎ Member a (x ∷ notes)) (x.client == one.client) (one ∷ notes) (x ∷ with_answer one notes)
+    (λ k. elim k [ inl e ↦ inl e | inr q ↦ inr (inr q) ])
+    (λ k. elim k [ inl e ↦ inr (inl e) | inr q ↦ elim (with_answer-cases one notes a q) [ inl e ↦ inl e | inr y ↦ inr (inr y) ] ]) m
+
+up_more : (n k : ℕ) (answers : List Answered) → n ≤ k → UpTo n answers → UpTo k answers
+up_more n k answers l h a m = let p = h a m in omega arith
+
+abbrev IsUpTo : ℕ → Executed → Type 0
+IsUpTo n e = UpTo n e.machine.notes × UpTo n e.answers
+
+acting_up : (at : ℕ) (m : Machine) (c : Command) → UpTo at m.notes → IsUpTo at (acting at m c)
+acting_up at m c h = (
+  λ a k. elim (with_answer-cases _ m.notes a k) [ inl e ↦ (let p : a.at ≡ at = ap (λ (x : Answered). x.at) e in omega arith) | inr q ↦ h a q ],
+  λ a k. elim k [ inl e ↦ (let p : a.at ≡ at = ap (λ (x : Answered). x.at) e in omega arith) | inr q ↦ absurd q ],
+)
+
+behind_up : (at : ℕ) (m : Machine) (c : Command) (o : Option Answered) → noted_for c.client m.notes ≡ o → UpTo at m.notes → IsUpTo at (execute_behind at m c o)
+behind_up at m c None e h = acting_up at m c h
+behind_up at m c (Some last) e h =
+    either_way (IsUpTo at) (nat_lt last.seq c.seq) _ _ (acting_up at m c h)
+    (either_way (IsUpTo at) (last.seq == c.seq) _ _
+    (h, λ a k. elim k [ inl q ↦ h a (subst (λ x. Member x m.notes) (sym q) (noted_there c.client m.notes last e)) | inr q ↦ absurd q ])
+    (h, λ a k. absurd k))
+
+all_up : (at : ℕ) (m : Machine) (cs : List Command) → UpTo at m.notes → IsUpTo at (execute_all at m cs)
+all_up at m [] h = (h, λ a k. absurd k)
+all_up at m (c ∷ cs) h =
+    let one = behind_up at m c (noted_for c.client m.notes) refl h in
+    let rest = all_up at (execute at m c).machine cs one.0 in
+    (rest.0, Member-both (λ (a : Answered). a.at ≤ at) (execute at m c).answers (execute_all at (execute at m c).machine cs).answers one.1 rest.1)
+
+value_up : (slot : ℕ) (m : Machine) (v : Value) → UpTo slot m.notes → IsUpTo (slot + 1) (execute_value slot m v)
+value_up slot m v h = all_up (slot + 1) m (commands_of v) (up_more slot (slot + 1) m.notes (omega arith) h)
+
+machine_up : (vs : List Value) (slot : ℕ) (m : Machine) → UpTo slot m.notes → UpTo (slot + length vs) (machine_from slot m vs).notes
+machine_up [] slot m h = up_more slot (slot + 0) m.notes (omega arith) h
+machine_up (v ∷ vs) slot m h =
+    let rest = machine_up vs (slot + 1) (execute_value slot m v).machine (value_up slot m v h).0 in
+    λ a k. let p = rest a k in omega arith
+
+log_up : (log : List Value) → UpTo (length log) (machine_of log).notes
+log_up log = let h = machine_up log 0 new_machine (λ a k. absurd k) in λ a k. let p = h a k in omega arith
+
+results_up : (P : Letter → Type 0) (c : Cluster) (me : RoleId) (n : ℕ) → ((to : RoleId) (slot : ℕ) (answers : List Answered) → UpTo n answers → P (letter me to (msg.Results slot answers)))
+    → (vs : List Value) (slot : ℕ) (m : Machine) → slot + length vs ≤ n → UpTo slot m.notes → Each P (results_from c me slot m vs)
+results_up P c me n says [] slot m l h = λ d k. absurd k
+results_up P c me n says (v ∷ vs) slot m l h =
+    let one = value_up slot m v h in
+    Member-both P (results_at c me slot (execute_value slot m v).answers) (results_from c me (slot + 1) (execute_value slot m v).machine vs)
+    (either_way (Each P) ((slot % c.replicas == me.index) && nat_lt 0 (length (execute_value slot m v).answers)) _ _
+    (Member-one P _ (says _ slot (execute_value slot m v).answers (up_more (slot + 1) n (execute_value slot m v).answers (omega arith) one.1))) (λ d k. absurd k))
+    (results_up P c me n says vs (slot + 1) (execute_value slot m v).machine (omega arith) one.0)
+
+-- the rows of each role
+
+abbrev Says : List KeptRecord → Letter → Type 0
+Says history d = TellsWithin history d.msg
+
+-- whatever record is kept, a row's datagrams tell what is so by then
+abbrev Good : {V : Type 0} → List KeptRecord → RoleId → Outcome V → Type 0
+Good history me o = Each (Says (with_record me o.kept history)) o.sends
+
+module _ (c : Cluster) (history : List KeptRecord) (me : RoleId) where
+  abbrev d : ReplicaDurable
+  d = durable_of replica_rules me history
+
+  kept_within : (values : List Value) (n : ℕ) → n ≤ length (d.log ++ values) → IsWithin (entry_by me (kept.Log values) ∷ history) n
+  kept_within values n l = (me, subst (λ (x : ReplicaDurable). n ≤ length x.log) (sym (durable_own replica_rules me (kept.Log values) history)) l)
+
+  applied : (v : ReplicaVolatile) (values : List Value) → Good history me (apply c me d v values)
+  applied v values =
+      Member-both (Says (entry_by me (kept.Log values) ∷ history)) (results_from c me (length d.log) (machine_of d.log) values) (read_answers me (d.log ++ values) v.deferred)
+      (results_up (Says (entry_by me (kept.Log values) ∷ history)) c me (length (d.log ++ values)) (λ to slot answers h a k. kept_within values a.at (h a k)) values (length d.log) (machine_of d.log)
+      (omega (arith, length-append d.log values)) (log_up d.log))
+      (λ x k. let r = Member-map (read_answer_to me (d.log ++ values)) x (filter (λ (r : Deferred). nat_le r.mark (length (d.log ++ values))) v.deferred) k in
+      subst (Says (entry_by me (kept.Log values) ∷ history)) (sym r.2) (kept_within values (length (d.log ++ values)) (omega arith)))
+
+  fetched : (v : ReplicaVolatile) (from : RoleId) (s : ℕ) (o : Option Value) → Good history me (fetch_found me v from s o)
+  fetched v from s None = λ x k. absurd k
+  fetched v from s (Some value) = Member-one (Says history) _ tt
+
+  replica_took : (v : ReplicaVolatile) (from : RoleId) (m : Msg) → Good history me (replica_takes c me d v from m)
+  replica_took v from (msg.Chosen s value) =
+      either_way (Good history me) (nat_lt s (length d.log)) _ _ (λ x k. absurd k)
+      (either_way (Good history me) (nat_le (length d.log + 32) s) _ _ (λ x k. absurd k)
+      (either_way (Good history me) (nat_lt (length d.log) s) _ _ (λ x k. absurd k) (applied v (ready_values (length d.log) v.early value))))
+  replica_took v from (msg.Read t n key) =
+      either_way (Good history me) (nat_le n (length d.log)) _ _ (Member-one (Says history) _ (me, omega arith))
+      (either_way (Good history me) (list_any (λ (other : Deferred). same_read t other.token) v.deferred) _ _ (λ x k. absurd k)
+      (either_way (Good history me) (nat_le 64 (length v.deferred)) _ _ (λ x k. absurd k) (λ x k. absurd k)))
+  replica_took v from (msg.Fetch s) = fetched v from s (slice_get d.log s)
+  replica_took v from other = λ x k. absurd k
+
+  ticked : (v : ReplicaVolatile) → Good history me (replica_tick c me d v)
+  ticked v =
+      Member-both (Says history) (map (held_to me (length d.log)) (below c.leaders)) (fetch_to c me (length d.log))
+      (λ x k. let r = Member-map (held_to me (length d.log)) x (below c.leaders) k in subst (Says history) (sym r.2) tt)
+      (either_way (Each (Says history)) (nat_lt 1 c.replicas) _ _ (Member-one (Says history) _ tt) (λ x k. absurd k))
+
+  replica_good : (v : ReplicaVolatile) (i : Input) → Good history me (replica_row c me d v i)
+  replica_good v (input.Take l) =
+      either_way (Good history me) (same_role l.to me && names c l) _ _ (replica_took v l.from l.msg) (λ x k. absurd k)
+  replica_good v input.Tick = ticked v
+  replica_good v (input.Order order) = λ x k. absurd k
+
+  unbatcher_took : (m : Msg) → TellsWithin history m → Good history me (unbatcher_takes me m)
+  unbatcher_took (msg.Results s answers) says =
+      λ x k. let r = Member-map (answer_to me) x answers k in subst (Says history) (sym r.2) (says r.0 r.1)
+  unbatcher_took other says = λ x k. absurd k
+
+  unbatcher_good : (sent : List Letter) → Each (Says history) sent → (i : Input) → Given sent me i → Good history me (unbatcher_row c me tt tt i)
+  unbatcher_good sent told (input.Take l) given =
+      either_way (Good history me) (same_role l.to me && names c l) _ _ (unbatcher_took l.msg (told l given.1)) (λ x k. absurd k)
+  unbatcher_good sent told input.Tick given = λ x k. absurd k
+  unbatcher_good sent told (input.Order order) given = λ x k. absurd k
+
+lands : {V : Type 0} (history : List KeptRecord) (sent : List Letter) (states : RoleId → State) → Within history sent states
+    → (me : RoleId) (make : V → State) (o : Outcome V) → Good history me o → Lands Within history sent states me make o
+lands history sent states told me make o good = told_lands Says (λ a r h d x. still_tells a r h d.msg x) history sent states told me make o good
+
+within_laws : (c : Cluster) → Laws c (λ e. Unit {0}) anything Within
+within_laws c = record {
+  same = λ history sent states others e h. h;
+  start = λ states h d m. absurd m;
+  stop = λ history sent states me h. h;
+  wake = λ history sent states me h down. h;
+  ask = λ history sent states e allowed known h.
+      Member-both (Says history) sent (request e) h (requested (Says history) (λ from to command. tt) (λ from to seq replica key. tt) e);
+  batcher = λ history sent states b v i known h up given.
+      lands history sent states h (role kind.Batcher b) _ _
+      (sends_only _ (role kind.Batcher b) _ (batcher_kinds c (role kind.Batcher b) refl v i) (λ to. batcher_sends (TellsWithin _) (λ commands. tt)));
+  leader = λ history sent states l v i known h up given.
+      lands history sent states h (role kind.Leader l) _ _
+      (sends_only _ (role kind.Leader l) _ (leader_kinds c (role kind.Leader l) refl (durable_of leader_rules (role kind.Leader l) history) v i)
+      (λ to. leader_sends (TellsWithin _) (λ j. tt) (λ j g. tt) (λ j. tt) (λ j g s cw u. tt) (λ j cw. tt) (λ j g. tt)));
+  proxy = λ history sent states p v i known h up given.
+      lands history sent states h (role kind.Proxy p) _ _
+      (sends_only _ (role kind.Proxy p) _ (proxy_kinds c (role kind.Proxy p) refl v i) (λ to. proxy_sends (TellsWithin _) (λ j s cw u. tt) (λ s u. tt) (λ j s. tt)));
+  acceptor = λ history sent states a i known h up given.
+      lands history sent states h (role kind.Acceptor a) _ _
+      (sends_only _ (role kind.Acceptor a) _ (acceptor_kinds c (role kind.Acceptor a) refl (durable_of acceptor_rules (role kind.Acceptor a) history) i)
+      (λ to. acceptor_sends (TellsWithin _) (λ j cw votes. tt) (λ j promise. tt) (λ j s. tt) (λ j cw. tt) (λ t w n. tt)));
+  matchmaker = λ history sent states m i known h up given.
+      lands history sent states h (role kind.Matchmaker m) _ _
+      (sends_only _ (role kind.Matchmaker m) _ (matchmaker_kinds c (role kind.Matchmaker m) refl (durable_of matchmaker_rules (role kind.Matchmaker m) history) i)
+      (λ to. matchmaker_sends (TellsWithin _) (λ j w entries. tt) (λ j reason other. tt) (λ j. tt) (λ t w entries. tt)));
+  replica = λ history sent states p v i known h up given.
+      lands history sent states h (role kind.Replica p) _ _ (replica_good c history (role kind.Replica p) v i);
+  unbatcher = λ history sent states u i known h up given.
+      lands history sent states h (role kind.Unbatcher u) _ _ (unbatcher_good c history (role kind.Unbatcher u) sent h i given);
+  reader = λ history sent states r v i known h up given.
+      lands history sent states h (role kind.Reader r) _ _
+      (sends_only _ (role kind.Reader r) _ (reader_kinds c (role kind.Reader r) refl v i) (λ to. reader_sends (TellsWithin _) (λ t. tt) (λ t w. tt) (λ t n key. tt)));
+}
+
+pub within_holds : (c : Cluster) (es : List Event) → HoldsIn Within (run c es)
+within_holds c es = run_keeps c (λ e. Unit {0}) anything Within (within_laws c) es (along_anything (run c []) es) (all_allowed (run c []) es)

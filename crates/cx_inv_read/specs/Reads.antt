@@ -1,0 +1,117 @@
+-- What the datagrams of a read say: of the history as it was when the read was first asked for, of a read that was not asked for yet, and of how
+-- many values some replica kept.
+use Rattle.std.specs.Prelude.{◌≡◌, ◌⊎◌, ℕ, ◌+◌, ◌*◌, ◌<◌, ◌≤◌, false, List, length}
+use Rattle.cx_base.specs.declared.cluster.Cluster.{Cluster}
+use Rattle.cx_base.specs.declared.command.Answered.{Answered}
+use Rattle.cx_base.specs.declared.command.Value.{Value}
+use Rattle.cx_base.specs.declared.role.Kind.TheVariants as kind
+use Rattle.cx_base.specs.declared.role.RoleId.{RoleId}
+use Rattle.cx_base.specs.declared.round.Round.{Round}
+use Rattle.cx_base.specs.Grid.{Shape}
+use Rattle.cx_base.specs.Role.{role}
+use Rattle.cx_base.specs.Round.{is_before, no_round}
+use Rattle.cx_field.specs.declared.parts.Entry.{Entry}
+use Rattle.cx_field.specs.declared.parts.Token.{Token}
+use Rattle.cx_msg.specs.Letter.{Letter, letter}
+use Rattle.cx_msg.specs.declared.input.KeptRecord.{KeptRecord}
+use Rattle.cx_msg.specs.declared.message.Msg.{Msg}
+use Rattle.cx_msg.specs.declared.message.Msg.TheVariants as msg
+use Rattle.cx_model.specs.Facts.{HasVoted}
+use Rattle.cx_model.specs.Matchmaker.{entry}
+use Rattle.cx_model.specs.Member.{Member}
+use Rattle.cx_model.specs.Promises.{IsConfig}
+use Rattle.cx_model.specs.Reader.{Reading, token}
+use Rattle.cx_model.specs.Replica.{replica_rules}
+use Rattle.cx_inv_run.specs.States.{State, ReaderIn, durable_of}
+use Rattle.cx_inv_match.specs.Facts.{AreOnce, told_by}
+use Rattle.cx_inv_match.specs.Words.{HasMatch, HasGarbage, HasMark, IsChosenIn, IsCollected}
+
+-- the longer history has all of the shorter
+abbrev pub Has : List KeptRecord → List KeptRecord → Type 0
+Has longer shorter = (k : KeptRecord) → Member k shorter → Member k longer
+
+-- a number above each slot that an acceptor voted in by this history, and at least each watermark that it kept
+pub record Covers (history : List KeptRecord) (a : RoleId) (n : ℕ) : Type 0 where
+  pub votes : (j : Round) (s : ℕ) (v : Value) → HasVoted history a j s v → s < n
+  pub marks : (j : Round) (k : ℕ) → HasMark history a j k → k ≤ n
+
+-- a number above each slot that has a chosen value by this history
+abbrev pub IsAbove : List KeptRecord → ℕ → Type 0
+IsAbove history n = (j : Round) (s : ℕ) (v : Value) → IsChosenIn history j s v → s < n
+
+-- no watermark, or one for which a matchmaker forgot rounds
+abbrev pub IsRaised : List KeptRecord → Round → Type 0
+IsRaised history w = (w ≡ no_round) ⊎ ((m : RoleId) × (g : Shape) × HasGarbage history m w g)
+
+-- a matchmaker's answer has each round that was recorded there when the read was asked for, unless its watermark is above it
+pub record IsReadAnswer (asked history : List KeptRecord) (m : RoleId) (water : Round) (entries : List Entry) : Type 0 where
+  pub all : (j : Round) (g : Shape) → is_before j water ≡ false → HasMatch asked m j g → Member (entry j g) entries
+  pub only : (e : Entry) → Member e entries → IsConfig history e.round e.grid
+  pub raised : IsRaised history water
+  pub has_watermark : (water ≡ no_round) ⊎ ((g : Shape) × Member (entry water g) entries)
+
+-- What a datagram of the read says. A kind that isn't named says nothing here.
+abbrev pub ReadSays : List KeptRecord → Token → List KeptRecord → RoleId → RoleId → Msg → Type 0
+ReadSays asked t history from to (msg.MatchReadAck u w entries) = u ≡ t → IsReadAnswer asked history from w entries
+ReadSays asked t history from to (msg.PreRead u w) = u ≡ t → IsRaised history w
+ReadSays asked t history from to (msg.PreReadAck u w n) = u ≡ t → Covers asked from n × IsRaised history w
+ReadSays asked t history from to (msg.Read u n key) = u ≡ t → IsAbove asked n
+ReadSays asked t history from to (msg.ReadAnswer seq n found) = to ≡ role kind.Client t.client → seq ≡ t.seq → IsAbove asked n
+ReadSays asked t history from to other = Unit {0}
+
+-- an acceptor answered the read, asked with this watermark, by this number
+abbrev pub IsAcked : List Letter → Token → Round → RoleId → ℕ → Type 0
+IsAcked sent t w a n = (to : RoleId) × Member (letter a to (msg.PreReadAck t w n)) sent
+
+-- There is no watermark, or no acceptor answered with it, or all their answers cover one history that isn't shorter than that of the asking and in
+-- which the rounds below the watermark could be forgotten.
+abbrev pub HasEvidence : Cluster → List KeptRecord → Token → List KeptRecord → List Letter → Round → Type 0
+HasEvidence c asked t history sent w =
+    (w ≡ no_round)
+    ⊎ (((a : RoleId) (n : ℕ) → IsAcked sent t w a n → ⊥)
+    ⊎ ((k : List KeptRecord) × Has history k × Has k asked × IsCollected c k w × ((a : RoleId) (n : ℕ) → IsAcked sent t w a n → Covers k a n)))
+
+-- no matchmaker was counted twice for a read, and each is one of the cluster's
+pub record IsReading (c : Cluster) (r : Reading) : Type 0 where
+  pub once : AreOnce (told_by r.told)
+  pub known : (m : ℕ) → Member m (told_by r.told) → m < 2 * c.f + 1
+
+abbrev pub InReader : Cluster → State → Type 0
+InReader c (ReaderIn v) = (r : Reading) → Member r v.reads → IsReading c r
+InReader c other = Unit {0}
+
+-- the facts on a read, once it was asked for in a world with these records
+pub record Reads (c : Cluster) (asked : List KeptRecord) (t : Token) (history : List KeptRecord) (sent : List Letter) (states : RoleId → State) : Type 0 where
+  pub has : Has history asked
+  pub says : (d : Letter) → Member d sent → ReadSays asked t history d.from d.to d.msg
+  pub evidence : (w : Round) → HasEvidence c asked t history sent w
+  pub readers : (me : RoleId) → InReader c (states me)
+
+-- a datagram that is of no read with this token
+abbrev pub IsElse : Token → RoleId → RoleId → Msg → Type 0
+IsElse t from to (msg.ReadReq seq replica key) = token from.index seq ≡ t → ⊥
+IsElse t from to (msg.MatchRead u) = u ≡ t → ⊥
+IsElse t from to (msg.MatchReadAck u w entries) = u ≡ t → ⊥
+IsElse t from to (msg.PreRead u w) = u ≡ t → ⊥
+IsElse t from to (msg.PreReadAck u w n) = u ≡ t → ⊥
+IsElse t from to (msg.Read u n key) = u ≡ t → ⊥
+IsElse t from to (msg.ReadAnswer seq n found) = to ≡ role kind.Client t.client → seq ≡ t.seq → ⊥
+IsElse t from to other = Unit {0}
+
+-- a read that nobody has asked for: no datagram of it was sent
+abbrev pub Unread : Token → List KeptRecord → List Letter → (RoleId → State) → Type 0
+Unread t history sent states = (d : Letter) → Member d sent → IsElse t d.from d.to d.msg
+
+-- some replica kept so many values
+abbrev pub IsWithin : List KeptRecord → ℕ → Type 0
+IsWithin history n = (p : RoleId) × (n ≤ length (durable_of replica_rules p history).log)
+
+-- an answer tells no more values than some replica kept
+abbrev pub TellsWithin : List KeptRecord → Msg → Type 0
+TellsWithin history (msg.Results s answers) = (a : Answered) → Member a answers → IsWithin history a.at
+TellsWithin history (msg.Answer seq at reply) = IsWithin history at
+TellsWithin history (msg.ReadAnswer seq n found) = IsWithin history n
+TellsWithin history other = Unit {0}
+
+abbrev pub Within : List KeptRecord → List Letter → (RoleId → State) → Type 0
+Within history sent states = (d : Letter) → Member d sent → TellsWithin history d.msg

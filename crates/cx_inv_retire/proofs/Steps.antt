@@ -1,0 +1,147 @@
+-- The facts on retirement hold of every run; and any moment of a run is a past, from which on they hold.
+use Rattle.std.proofs.Common.{List, [], ◌∷◌, ◌++◌, reverse, inl, inr, sym, subst, refl}
+use Rattle.cx_base.specs.declared.cluster.Cluster.{Cluster}
+use Rattle.cx_base.specs.declared.event.Event.{Event}
+use Rattle.cx_base.specs.declared.role.Kind.{Kind}
+use Rattle.cx_base.specs.declared.role.Kind.TheVariants as kind
+use Rattle.cx_base.specs.declared.role.RoleId.{RoleId}
+use Rattle.cx_base.specs.declared.round.Round.{Round}
+use Rattle.cx_base.specs.Role.{role}
+use Rattle.cx_field.specs.declared.parts.Entry.{Entry}
+use Rattle.cx_field.specs.declared.parts.Token.{Token}
+use Rattle.cx_msg.specs.Letter.{Letter, letter}
+use Rattle.cx_msg.specs.declared.input.KeptRecord.{KeptRecord}
+use Rattle.cx_msg.specs.declared.message.Msg.{Msg}
+use Rattle.cx_msg.specs.declared.message.Msg.TheVariants as msg
+use Rattle.cx_model.specs.Acceptor.{acceptor_rules, acceptor_row}
+use Rattle.cx_model.specs.Batcher.{batcher_row}
+use Rattle.cx_model.specs.Member.{Member}
+use Rattle.cx_model.specs.Proxy.{proxy_row}
+use Rattle.cx_model.specs.Replica.{replica_rules, replica_row}
+use Rattle.cx_model.specs.Unbatcher.{unbatcher_row}
+use Rattle.cx_model.specs.World.{World, change, step, run, run_from}
+use Rattle.cx_inv_run.specs.Laws.{Laws, HoldsAlong}
+use Rattle.cx_inv_run.specs.States.{State, Down, BatcherIn, ProxyIn, ReplicaIn, plain, states_of, fresh_state, durable_of, HoldsIn}
+use Rattle.cx_inv_run.proofs.KindLaws.{kinds_hold}
+use Rattle.cx_inv_run.proofs.Members.{Member-first, Member-reverse, Member-turned}
+use Rattle.cx_inv_run.proofs.Senders.{acceptor_kinds, batcher_kinds, unbatcher_kinds, proxy_kinds, replica_kinds}
+use Rattle.cx_inv_run.proofs.Steps.{run_from_keeps, always, run_append, run_cluster, all_allowed}
+use Rattle.cx_inv_match.specs.Facts.{Facts}
+use Rattle.cx_inv_match.specs.Words.{HasLog}
+use Rattle.cx_inv_vote.proofs.Steps.{facts_hold}
+use Rattle.cx_inv_read.proofs.Fresh.{reads_always}
+use Rattle.cx_inv_read.specs.Reads.{Has}
+use Rattle.cx_inv_retire.specs.Retire.{IsNewRound, RetireSays, HasCounted, RetireFacts, Known}
+use Rattle.cx_inv_retire.proofs.Keep.{same_states, set, asked, quiet_lands}
+use Rattle.cx_inv_retire.proofs.Leaders.{leader_lands}
+use Rattle.cx_inv_retire.proofs.Matchmakers.{matchmaker_lands}
+use Rattle.cx_inv_retire.proofs.Readers.{reader_lands}
+
+-- a fresh role has counted nobody
+fresh_counted : (c : Cluster) (k : Kind) → HasCounted c (fresh_state c k)
+fresh_counted c kind.Client = tt
+fresh_counted c kind.Batcher = tt
+fresh_counted c kind.Leader = λ t. cc
+fresh_counted c kind.Proxy = tt
+fresh_counted c kind.Acceptor = tt
+fresh_counted c kind.Matchmaker = tt
+fresh_counted c kind.Replica = tt
+fresh_counted c kind.Unbatcher = tt
+fresh_counted c kind.Reader = tt
+
+pub retire_laws : (c : Cluster) (past : List KeptRecord) (fresh : Token → Type 0) → Laws c (λ e. Unit {0}) (Known c past) (RetireFacts c past fresh)
+retire_laws c past fresh = record {
+  same = λ history sent states others e h. same_states c past fresh history sent states h others e;
+  start = λ states first. record {
+    says = λ d m. absurd m;
+    running = λ a. elim (first a) [ inl e ↦ subst (λ s. HasCounted c s) (sym e) tt | inr e ↦ subst (λ s. HasCounted c s) (sym e) (fresh_counted c a.kind) ];
+  };
+  stop = λ history sent states me h. set c past fresh history sent states h me Down tt;
+  wake = λ history sent states me h down. set c past fresh history sent states h me (fresh_state c me.kind) (fresh_counted c me.kind);
+  ask = λ history sent states e allowed known h. asked c past fresh history sent states h e;
+  batcher = λ history sent states b v i known h is given.
+      quiet_lands c past fresh history sent states h (role kind.Batcher b) BatcherIn kind.Batcher (λ e. cc) (λ e. cc) (λ e. cc) refl
+      (batcher_row c (role kind.Batcher b) tt v i) (batcher_kinds c (role kind.Batcher b) refl v i) tt;
+  leader = λ history sent states l v i known h. leader_lands c past fresh history sent states known h l v i;
+  proxy = λ history sent states p v i known h is given.
+      quiet_lands c past fresh history sent states h (role kind.Proxy p) ProxyIn kind.Proxy (λ e. cc) (λ e. cc) (λ e. cc) refl
+      (proxy_row c (role kind.Proxy p) tt v i) (proxy_kinds c (role kind.Proxy p) refl v i) tt;
+  acceptor = λ history sent states a i known h is given.
+      quiet_lands c past fresh history sent states h (role kind.Acceptor a) plain kind.Acceptor (λ e. cc) (λ e. cc) (λ e. cc) refl
+      (acceptor_row c (role kind.Acceptor a) (durable_of acceptor_rules (role kind.Acceptor a) history) tt i)
+      (acceptor_kinds c (role kind.Acceptor a) refl (durable_of acceptor_rules (role kind.Acceptor a) history) i) tt;
+  matchmaker = λ history sent states m i known h is given. matchmaker_lands c past fresh history sent states known h m i;
+  replica = λ history sent states p v i known h is given.
+      quiet_lands c past fresh history sent states h (role kind.Replica p) ReplicaIn kind.Replica (λ e. cc) (λ e. cc) (λ e. cc) refl
+      (replica_row c (role kind.Replica p) (durable_of replica_rules (role kind.Replica p) history) v i)
+      (replica_kinds c (role kind.Replica p) refl (durable_of replica_rules (role kind.Replica p) history) v i) tt;
+  unbatcher = λ history sent states u i known h is given.
+      quiet_lands c past fresh history sent states h (role kind.Unbatcher u) plain kind.Unbatcher (λ e. cc) (λ e. cc) (λ e. cc) refl
+      (unbatcher_row c (role kind.Unbatcher u) tt tt i) (unbatcher_kinds c (role kind.Unbatcher u) refl i) tt;
+  reader = λ history sent states r v i known h. reader_lands c past fresh history sent states known h r v i;
+}
+
+-- what is known along a run, from a past of it on
+
+step_has : (w : World) (e : Event) → Has (reverse (step w e).kept) (reverse w.kept)
+unfolding step
+step_has w e k m = Member-reverse k (w.kept ++ (change w e).kept) (Member-first k w.kept (change w e).kept (Member-turned k w.kept m))
+
+has_from : (w : World) (es : List Event) → Has (reverse (run_from w es).kept) (reverse w.kept)
+has_from w [] k m = m
+has_from w (e ∷ es) k m = has_from (step w e) es k (step_has w e k m)
+
+pub has_run : (c : Cluster) (es more : List Event) → Has (reverse (run c (es ++ more)).kept) (reverse (run c es).kept)
+has_run c es more = subst (λ (w : World). Has (reverse w.kept) (reverse (run c es).kept)) (sym (run_append c es more)) (has_from (run c es) more)
+
+knows : (c : Cluster) (past : List KeptRecord) (es : List Event) → Has (reverse (run c es).kept) past → HoldsIn (Known c past) (run c es)
+knows c past es has = record { kinds = kinds_hold c es; facts = facts_hold c es; readers = (reads_always c es (record { client = 0; seq = 0 })).readers; has = has }
+
+knows_along : (c : Cluster) (past : List KeptRecord) (es more : List Event) → Has (reverse (run c es).kept) past → HoldsAlong (Known c past) (run c es) more
+knows_along c past es [] has = knows c past es has
+knows_along c past es (e ∷ more) has = (
+  knows c past es has,
+  subst (λ w. HoldsAlong (Known c past) w more) (run_append c es (e ∷ [])) (knows_along c past (es ++ e ∷ []) more (λ k m. has_run c es (e ∷ []) k (has k m))),
+)
+
+-- from the start on there is no past, and no read is fresh
+
+abbrev pub no_read : Token → Type 0
+no_read t = ⊥
+
+pub knows_nothing : (c : Cluster) (es : List Event) → HoldsIn (Known c []) (run c es)
+knows_nothing c es = knows c [] es (λ k m. absurd m)
+
+pub retire_holds : (c : Cluster) (es : List Event) → HoldsIn (RetireFacts c [] no_read) (run c es)
+retire_holds c es = always c (Known c []) (RetireFacts c [] no_read) (retire_laws c [] no_read) (knows_nothing c) es
+
+-- a read of which neither an answer of a matchmaker nor a question to an acceptor was sent
+pub record IsFresh (sent : List Letter) (t : Token) : Type 0 where
+  pub answers : (from to : RoleId) (w : Round) (es : List Entry) → Member (letter from to (msg.MatchReadAck t w es)) sent → ⊥
+  pub asks : (from to : RoleId) (w : Round) → Member (letter from to (msg.PreRead t w)) sent → ⊥
+
+-- any moment is a past
+
+module _ (c : Cluster) (history : List KeptRecord) (sent : List Letter) (states : RoleId → State) (facts : Facts c history sent states) (h : RetireFacts c [] no_read history sent states) where
+  not_new : (m : RoleId) (k : Round) → HasLog history m k → IsNewRound history k → ⊥
+  not_new m k x new = new x.0 (elim x.1 [ inl y ↦ facts.asked m k x.0 y | inr y ↦ (facts.garbaged m k x.0 y).0 ])
+
+  now_says : (from to : RoleId) (m : Msg) → Member (letter from to m) sent → RetireSays c [] no_read history from to m → RetireSays c history (IsFresh sent) history from to m
+  now_says from to (msg.MatchB k w es) x says = λ new. absurd (not_new from k (facts.says _ x).matched new)
+  now_says from to (msg.GarbageB i) x says = says
+  now_says from to (msg.Phase1A k) x says = (says.0, λ new. absurd (new says.0.0 says.0.1))
+  now_says from to (msg.MatchReadAck t w es) x says = (says.0, λ fresh. absurd (fresh.answers from to w es x))
+  now_says from to (msg.PreRead t w) x says = λ fresh. absurd (fresh.asks from to w x)
+  now_says from to other x says = tt
+
+  now : RetireFacts c history (IsFresh sent) history sent states
+  now = record { says = λ d m. now_says d.from d.to d.msg m (h.says d m); running = h.running }
+
+-- so the facts hold of a longer run, from there on
+pub since : (c : Cluster) (es more : List Event) → HoldsIn (RetireFacts c (reverse (run c es).kept) (IsFresh (run c es).sent)) (run c (es ++ more))
+since c es more =
+    let w = run c es in
+    let past = reverse w.kept in
+    subst (λ x. HoldsIn (RetireFacts c past (IsFresh w.sent)) x) (sym (run_append c es more))
+    (run_from_keeps c (λ e. Unit {0}) (Known c past) (RetireFacts c past (IsFresh w.sent)) (retire_laws c past (IsFresh w.sent)) w (run_cluster c es)
+    (now c past w.sent (states_of w.roles) (facts_hold c es) (retire_holds c es)) more (knows_along c past es more (λ k m. m)) (all_allowed w more))

@@ -1,0 +1,87 @@
+-- What is told and sent once the rounds below some round are retired.
+use Rattle.std.specs.Prelude.{◌≡◌, ◌⊎◌, ℕ, ◌+◌, ◌*◌, ◌<◌, Bool, true, false, List}
+use Rattle.cx_base.specs.declared.cluster.Cluster.{Cluster}
+use Rattle.cx_base.specs.declared.role.Kind.TheVariants as kind
+use Rattle.cx_base.specs.declared.role.RoleId.{RoleId}
+use Rattle.cx_base.specs.declared.round.Round.{Round}
+use Rattle.cx_base.specs.declared.why.Why.{Why}
+use Rattle.cx_base.specs.declared.why.Why.TheVariants as why
+use Rattle.cx_base.specs.Grid.{Shape}
+use Rattle.cx_base.specs.Role.{role}
+use Rattle.cx_base.specs.Round.{is_before, no_round}
+use Rattle.cx_field.specs.declared.parts.Entry.{Entry}
+use Rattle.cx_field.specs.declared.parts.Token.{Token}
+use Rattle.cx_msg.specs.Letter.{Letter}
+use Rattle.cx_msg.specs.declared.input.KeptRecord.{KeptRecord}
+use Rattle.cx_msg.specs.declared.message.Msg.{Msg}
+use Rattle.cx_msg.specs.declared.message.Msg.TheVariants as msg
+use Rattle.cx_model.specs.Collection.{is_collecting}
+use Rattle.cx_model.specs.Member.{Member}
+use Rattle.cx_model.specs.Promises.{IsConfig, IsMemberFrom}
+use Rattle.cx_inv_run.specs.Kinds.{Kinds}
+use Rattle.cx_inv_run.specs.States.{State, LeaderIn}
+use Rattle.cx_inv_match.specs.Facts.{AreOnce, Facts}
+use Rattle.cx_inv_match.specs.Words.{how_many, HasGarbage}
+use Rattle.cx_inv_read.specs.Reads.{Has, InReader}
+
+-- no leader kept this round
+abbrev pub IsNewRound : List KeptRecord → Round → Type 0
+IsNewRound history k = (g : Shape) → IsConfig history k g → ⊥
+
+-- a matchmaker forgot the rounds below this one, where there are some
+abbrev pub HasForgotten : List KeptRecord → RoleId → Round → Type 0
+HasForgotten history m i = (is_before no_round i ≡ false) ⊎ ((j : Round) × (g : Shape) × HasGarbage history m j g × (is_before j i ≡ false))
+
+-- more than half of the matchmakers forgot the rounds below this one
+pub record IsRetired (c : Cluster) (history : List KeptRecord) (i : Round) : Type 0 where
+  pub who : ℕ → Bool
+  pub most : c.f < how_many c who
+  pub each : (m : ℕ) → who m ≡ true → HasForgotten history (role kind.Matchmaker m) i
+
+-- whatever was retired in the past, this acceptor is in the grid of a round that wasn't
+abbrev pub IsFromRetired : Cluster → List KeptRecord → List KeptRecord → RoleId → Type 0
+IsFromRetired c past history to = (i : Round) → IsRetired c past i → IsMemberFrom history i to
+
+-- a matchmaker's watermark is not below one that it had in the past
+abbrev pub IsRisen : List KeptRecord → RoleId → Round → Type 0
+IsRisen past m w = (j : Round) (g : Shape) → HasGarbage past m j g → is_before w j ≡ false
+
+-- these entries tell of rounds that were kept
+abbrev pub AreConfigs : List KeptRecord → List Entry → Type 0
+AreConfigs history es = (e : Entry) → Member e es → IsConfig history e.round e.grid
+
+-- What a datagram says: of itself, and where its round is newer than the past, or its read is fresh. A kind that isn't named says nothing here.
+abbrev pub RetireSays : Cluster → List KeptRecord → (Token → Type 0) → List KeptRecord → RoleId → RoleId → Msg → Type 0
+RetireSays c past fresh history from to (msg.MatchB k w es) = IsNewRound past k → IsRisen past from w
+RetireSays c past fresh history from to (msg.GarbageB i) = HasForgotten history from i
+RetireSays c past fresh history from to (msg.Phase1A k) = ((g : Shape) × IsConfig history k g) × (IsNewRound past k → IsFromRetired c past history to)
+RetireSays c past fresh history from to (msg.MatchReadAck t w es) = AreConfigs history es × (fresh t → IsRisen past from w)
+RetireSays c past fresh history from to (msg.PreRead t w) = fresh t → IsFromRetired c past history to
+RetireSays c past fresh history from to other = Unit {0}
+
+-- matchmakers of the cluster, none twice
+pub record AreMatchmakers (c : Cluster) (ms : List ℕ) : Type 0 where
+  pub once : AreOnce ms
+  pub known : (m : ℕ) → Member m ms → m < 2 * c.f + 1
+
+-- whom a leader that retires rounds has counted
+abbrev pub HasCounted : Cluster → State → Type 0
+HasCounted c (LeaderIn v) = is_collecting v.collection.stage ≡ true → AreMatchmakers c v.collection.counted
+HasCounted c other = Unit {0}
+
+-- what a leader's answer says, where this is its last round
+abbrev pub WordSays : Cluster → List KeptRecord → Round → Why → Type 0
+WordSays c history own why.Retired = IsRetired c history own
+WordSays c history own other = Unit {0}
+
+-- The facts on retirement, relative to a past and to the reads that are fresh since then.
+pub record RetireFacts (c : Cluster) (past : List KeptRecord) (fresh : Token → Type 0) (history : List KeptRecord) (sent : List Letter) (states : RoleId → State) : Type 0 where
+  pub says : (d : Letter) → Member d sent → RetireSays c past fresh history d.from d.to d.msg
+  pub running : (me : RoleId) → HasCounted c (states me)
+
+-- what is known already, from the past on
+pub record Known (c : Cluster) (past : List KeptRecord) (history : List KeptRecord) (sent : List Letter) (states : RoleId → State) : Type 0 where
+  pub kinds : Kinds history sent states
+  pub facts : Facts c history sent states
+  pub readers : (me : RoleId) → InReader c (states me)
+  pub has : Has history past

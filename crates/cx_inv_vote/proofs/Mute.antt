@@ -1,0 +1,57 @@
+-- Roles that keep nothing, and whose datagrams say nothing of what was kept: of their rows only the new state matters.
+use Rattle.std.proofs.Common.{◌≡◌, List, inl, inr, sym, ◌∙◌, subst}
+use Rattle.cx_base.specs.declared.cluster.Cluster.{Cluster}
+use Rattle.cx_base.specs.declared.role.Kind.{Kind}
+use Rattle.cx_base.specs.declared.role.Kind.TheVariants as kind
+use Rattle.cx_base.specs.declared.role.RoleId.{RoleId}
+use Rattle.cx_msg.specs.Letter.{Letter}
+use Rattle.cx_msg.specs.declared.input.KeptRecord.{KeptRecord}
+use Rattle.cx_msg.specs.declared.kept.Record.{Record}
+use Rattle.cx_msg.specs.declared.kept.Record.TheVariants as kept
+use Rattle.cx_msg.specs.declared.message.Msg.{Msg}
+use Rattle.cx_msg.specs.declared.message.Msg.TheVariants as msg
+use Rattle.cx_model.specs.Outcome.{Outcome}
+use Rattle.cx_inv_run.specs.Kinds.{IsSender, IsKeeper, IsKept, OfKind}
+use Rattle.cx_inv_run.specs.Laws.{Lands}
+use Rattle.cx_inv_run.specs.States.{State, with_record}
+use Rattle.cx_inv_match.specs.Facts.{Says, InState, Facts}
+use Rattle.cx_inv_vote.proofs.Rows.{lands, quiet_kind}
+
+-- Kinds of roles that keep nothing, and whose datagrams say nothing of what was kept.
+module _ (k : Kind) (no_leader : k ≡ kind.Leader → ⊥) (no_matchmaker : k ≡ kind.Matchmaker → ⊥) (no_acceptor : k ≡ kind.Acceptor → ⊥)
+    (no_proxy : k ≡ kind.Proxy → ⊥) (no_replica : k ≡ kind.Replica → ⊥) where
+  mute_says : (c : Cluster) (history : List KeptRecord) (sent : List Letter) (from : RoleId) (m : Msg) → IsSender k m → Says c history sent from m
+  mute_says c history sent from (msg.Leads i) e = absurd (no_leader e)
+  mute_says c history sent from (msg.MatchA i g) e = absurd (no_leader e)
+  mute_says c history sent from (msg.MatchB i w entries) e = absurd (no_matchmaker e)
+  mute_says c history sent from (msg.Phase1B i cw votes) e = absurd (no_acceptor e)
+  mute_says c history sent from (msg.Propose i g s cw v) e = absurd (no_leader e)
+  mute_says c history sent from (msg.Phase2A i s cw v) e = absurd (no_proxy e)
+  mute_says c history sent from (msg.Phase2B i s) e = absurd (no_acceptor e)
+  mute_says c history sent from (msg.Chosen s v) e = absurd (elim e [ inl p ↦ no_proxy p | inr p ↦ no_replica p ])
+  mute_says c history sent from (msg.ChosenIn i s) e = absurd (no_proxy e)
+  mute_says c history sent from (msg.Informed i n) e = absurd (no_acceptor e)
+  mute_says c history sent from (msg.GarbageA i g) e = absurd (no_leader e)
+  mute_says c history sent from other e = tt
+
+  mute_keeps : (r : Record) → IsKeeper k r → ⊥
+  mute_keeps (kept.Promise i) e = no_acceptor e
+  mute_keeps (kept.Vote i s cw v) e = no_acceptor e
+  mute_keeps (kept.Water i cw) e = no_acceptor e
+  mute_keeps (kept.Match i g) e = no_matchmaker e
+  mute_keeps (kept.Garbage i g) e = no_matchmaker e
+  mute_keeps (kept.Round i g) e = no_leader e
+  mute_keeps (kept.Log values) e = no_replica e
+
+  module _ (c : Cluster) (history : List KeptRecord) (sent : List Letter) (states : RoleId → State) (facts : Facts c history sent states)
+      (me : RoleId) (is : me.kind ≡ k) where
+    -- of such a role's row only the new state matters
+    pub mute_lands : {V : Type 0} (make : V → State) (o : Outcome V) → OfKind me o → InState c (with_record me o.kept history) sent me (make o.volatile)
+        → Lands (Facts c) history sent states me make o
+    mute_lands make o of_kind state =
+        lands c history sent states facts me make o (quiet_kind me o (λ e. no_leader (sym is ∙ e)) of_kind)
+        record {
+          lawful = λ r e. absurd (mute_keeps r (subst (λ x. IsKeeper x r) is (subst (λ x. IsKept me.kind x) e of_kind.keeps)));
+          says = λ longer more d m. mute_says c (with_record me o.kept history) longer d.from d.msg (subst (λ x. IsSender x d.msg) is (of_kind.sends d m).1);
+          state = state;
+        }

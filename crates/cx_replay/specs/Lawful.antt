@@ -1,0 +1,30 @@
+-- What is promised of the run of an input, however far it was run.
+use Rattle.std.specs.Prelude.{ℕ, List, Bool, Option}
+use Rattle.std.specs.Io.KnownBytes.{Consumes}
+use Rattle.cx_base.specs.declared.cluster.Cluster.{Cluster}
+use Rattle.cx_base.specs.declared.event.Event.{Event}
+use Rattle.cx_model.specs.Member.{Begins}
+use Rattle.cx_promises.specs.Lawful.{IsLawful}
+use Rattle.cx_replay.specs.Generated.{gen_events}
+use Rattle.cx_replay.specs.Input.{heard_of}
+use Rattle.cx_replay.specs.declared.input.Heard.{Heard}
+use Rattle.cx_replay.specs.declared.input.Heard.TheVariants.{Nothing, BadHeader, Lines}
+use Rattle.cx_script.specs.Generator.{gen_cluster}
+
+-- the run of these events is lawful, and so it was after each of them
+abbrev pub IsLawfulAlong : Cluster → List Event → Type 0
+IsLawfulAlong c es = (so_far : List Event) → Begins so_far es → IsLawful c so_far
+
+-- the run of the events that bytes say
+abbrev pub IsLawfulRun : Heard → Type 0
+IsLawfulRun Nothing = Unit {0}
+IsLawfulRun BadHeader = Unit {0}
+IsLawfulRun (Lines c spelled) = IsLawfulAlong c spelled.events
+
+-- the run of the bytes that a source gave, whether they were all or others may come
+abbrev pub IsLawfulInput : Option (List ℕ) → Option (List ℕ) → Type 0
+IsLawfulInput left left_after = (bytes : List ℕ) → Consumes left left_after bytes → (ended : Bool) → IsLawfulRun (heard_of ended bytes)
+
+-- the run of so many generated events of a seed
+abbrev pub IsLawfulGenerated : ℕ → ℕ → Type 0
+IsLawfulGenerated seed count = IsLawfulAlong gen_cluster (gen_events seed count)

@@ -1,0 +1,20 @@
+use Rattle.std.proofs.Common.{◌≡◌, false, List, ap, sym, ◌∙◌}
+use Rattle.cx_base.specs.declared.command.Value.{Value}
+use Rattle.cx_model.specs.Chosen.{chosen_prefix}
+use Rattle.cx_model.specs.World.{World}
+use Rattle.cx_promises.specs.Lawful.{IsCommandList}
+use Rattle.cx_world.specs.World.{WorldState, roles_of, lists_of}
+use Rattle.cx_world.proofs.Answered.{ok_then}
+use Rattle.cx_world.proofs.Promised.{list_of_run}
+use Rattle.cx_world.proofs.world.World.chosen_prefix.Goals as goal
+
+pub returns-clause-agreed : goal.returns-clause-agreed
+returns-clause-agreed c =
+    let fields = c.self.inside in
+    let w : World = record { cluster = fields.cluster; roles = roles_of (lists_of fields.seats); events = fields.events; kept = fields.kept.items; sent = fields.sent.items } in
+    λ fresh.
+    let holds = c.self.invariant (ap (λ (x : WorldState). x.spent) c.self.view_is ∙ fresh) in
+    let seen : WorldState = c.args.self.now in
+    let same : seen.world ≡ w = sym (ap (λ (x : WorldState). x.world) c.self.view_is) in
+    rw same (ok_then _ (λ (values : List Value). IsCommandList w.cluster w.kept values) c.chosen_prefix.result
+    (λ values is. list_of_run w holds.ran values (is ∙ ap (λ ks. chosen_prefix ks) c.deref.ensures.value)) c.chosen_prefix.ensures)
