@@ -4,7 +4,7 @@
 //! added here: roles keep their records in order, and which first phases were done.
 #![tactic(auto)]
 
-ghost use Rattle.cx_inv_facts.specs.Laws.{RoundsHold, MatchingHold, OpenRoundsHold, CollectionHolds};
+ghost use Rattle.cx_inv_facts.specs.Laws.{RoundsHold, MatchingHold, OpenRoundsHold, CollectionHolds, FactsHold};
 
 /// Rounds: each is kept once, by the leader that it names, with one grid, and carries one value for each slot.
 pub fn rounds_hold()
@@ -24,4 +24,9 @@ pub fn open_rounds_hold()
 /// Collection: a matchmaker forgets rounds only for one that was collected, and whoever was informed tells so to every later round.
 pub fn collection_holds()
     ensures { CollectionHolds }
+{}
+
+/// All published facts hold at every moment of every run, with those on watermarks and on reads.
+pub fn facts_hold()
+    ensures { FactsHold }
 {}
