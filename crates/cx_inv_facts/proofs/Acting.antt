@@ -1,5 +1,5 @@
 -- What a role sends in its turn is of its role's kind.
-use Rattle.std.proofs.Common.{◌≡◌, ℕ, List, [], Option, Some, sym, subst, refl}
+use Rattle.std.proofs.Common.{◌≡◌, List, Option, subst}
 use Rattle.cx_base.specs.declared.role.Kind.{Kind}
 use Rattle.cx_base.specs.declared.role.Kind.TheVariants as kind
 use Rattle.cx_base.specs.declared.role.RoleId.{RoleId}

@@ -1,5 +1,5 @@
 -- Each step keeps what matchmakers' and acceptors' answers say, so they say it in every run.
-use Rattle.std.proofs.Common.{◌≡◌, ℕ, ◌≤◌, true, false, ◌&&◌, max, ◌⊎◌, List, [], ◌∷◌, ◌++◌, Option, None, Some, sym, subst, refl, inl, inr, arith}
+use Rattle.std.proofs.Common.{◌≡◌, ℕ, true, false, ◌&&◌, ◌⊎◌, List, ◌∷◌, sym, subst, refl, inl, inr, arith}
 use Rattle.std.specs.Prelude.{nat_le, nat_lt, length}
 use Rattle.std.specs.List.{list_any}
 use Rattle.std.proofs.lemmas.Bool.{and_parts}
@@ -13,11 +13,10 @@ use Rattle.cx_base.specs.declared.round.Round.{Round}
 use Rattle.cx_base.specs.Role.{role, same_role}
 use Rattle.cx_base.specs.Round.{is_before, same_round, no_round}
 use Rattle.cx_field.specs.declared.parts.Entry.{Entry}
-use Rattle.cx_msg.specs.Letter.{Letter, letter}
+use Rattle.cx_msg.specs.Letter.{Letter}
 use Rattle.cx_msg.specs.declared.input.Input.{Input}
 use Rattle.cx_msg.specs.declared.input.Input.TheVariants as input
 use Rattle.cx_msg.specs.declared.input.KeptRecord.{KeptRecord}
-use Rattle.cx_msg.specs.declared.kept.Record.{Record}
 use Rattle.cx_msg.specs.declared.kept.Record.TheVariants as kept
 use Rattle.cx_msg.specs.declared.message.Msg.{Msg}
 use Rattle.cx_msg.specs.declared.message.Msg.TheVariants as msg
@@ -38,7 +37,7 @@ use Rattle.cx_inv_run.proofs.Members.{Member-both, Member-one, filter-Member}
 use Rattle.cx_inv_run.proofs.Rounds.{before_cases, before-both, same_round-true}
 use Rattle.cx_inv_run.proofs.Senders.{batcher_kinds, leader_kinds, proxy_kinds, replica_kinds, unbatcher_kinds, reader_kinds}
 use Rattle.cx_inv_run.proofs.Steps.{always}
-use Rattle.cx_inv_match.specs.Facts.{IsLog, Facts}
+use Rattle.cx_inv_match.specs.Facts.{Facts}
 use Rattle.cx_inv_match.specs.Words.{HasMark, HasPromise}
 use Rattle.cx_inv_vote.proofs.Steps.{facts_hold}
 use Rattle.cx_inv_facts.specs.Answers.{HasEntry, HasReached, AnswerSays, AnswersSay}

@@ -1,5 +1,5 @@
 -- Whoever leads a round, and whoever asks to retire the rounds below one, does so after its first phase was done.
-use Rattle.std.proofs.Common.{◌≡◌, ℕ, zero, suc, ◌+◌, true, false, ◌⊎◌, List, [], ◌∷◌, ◌++◌, Option, None, Some, ap, sym, ◌∙◌, subst, refl, inl, inr, append-nil, append_assoc}
+use Rattle.std.proofs.Common.{◌≡◌, ℕ, zero, suc, ◌+◌, true, ◌⊎◌, List, [], ◌∷◌, ◌++◌, Option, None, Some, ap, sym, ◌∙◌, subst, refl, inl, inr, append-nil}
 use Rattle.std.specs.Prelude.{slice_get, slice_set, length}
 use Rattle.std.proofs.lemmas.Option.{same_Some}
 use Rattle.std.proofs.lemmas.Bool.{true≢false, cases_eq}
@@ -13,7 +13,7 @@ use Rattle.cx_base.specs.declared.round.Round.{Round}
 use Rattle.cx_base.specs.declared.why.Why.{Why}
 use Rattle.cx_base.specs.declared.why.Why.TheVariants as why
 use Rattle.cx_base.specs.Grid.{Shape}
-use Rattle.cx_base.specs.Role.{role, same_role}
+use Rattle.cx_base.specs.Role.{role}
 use Rattle.cx_msg.specs.Letter.{Letter}
 use Rattle.cx_msg.specs.declared.input.Act.{Act}
 use Rattle.cx_msg.specs.declared.input.Input.{Input}
@@ -25,7 +25,7 @@ use Rattle.cx_model.specs.Acceptor.{acceptor_rules}
 use Rattle.cx_model.specs.Batcher.{batcher_rules}
 use Rattle.cx_model.specs.Facts.{IsRetiring, IsFinished, round_in}
 use Rattle.cx_model.specs.History.{Finish, finish_with, finish_of, finish_by, finish_at, finished_from, finished}
-use Rattle.cx_model.specs.Leader.{LeaderDurable, LeaderVolatile, leader_rules, leader_row, round_of, is_leading}
+use Rattle.cx_model.specs.Leader.{LeaderVolatile, leader_rules, leader_row, round_of, is_leading}
 use Rattle.cx_model.specs.Lists.{get_set_same, get_set_other, differ_role, records_other}
 use Rattle.cx_model.specs.Matchmaker.{matchmaker_rules}
 use Rattle.cx_model.specs.Member.{Member}

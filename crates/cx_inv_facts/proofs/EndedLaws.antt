@@ -1,5 +1,5 @@
 -- Each step keeps what is so of a round whose first phase was done.
-use Rattle.std.proofs.Common.{◌≡◌, ℕ, ◌≤◌, true, false, ◌⊎◌, List, [], ◌∷◌, ◌++◌, Option, None, Some, ap, sym, subst, ◌∙◌, refl, inl, inr}
+use Rattle.std.proofs.Common.{◌≡◌, ℕ, ◌≤◌, true, false, ◌⊎◌, List, ◌∷◌, ◌++◌, Option, None, Some, ap, sym, subst, ◌∙◌, refl, inl, inr}
 use Rattle.cx_base.specs.declared.cluster.Cluster.{Cluster}
 use Rattle.cx_base.specs.declared.command.Value.{Value}
 use Rattle.cx_base.specs.declared.event.Event.{Event}
@@ -32,17 +32,17 @@ use Rattle.cx_model.specs.Replica.{replica_rules}
 use Rattle.cx_model.specs.Request.{request}
 use Rattle.cx_inv_run.specs.Kinds.{IsSender, IsKept, OfKind}
 use Rattle.cx_inv_run.specs.Laws.{Lands, Laws}
-use Rattle.cx_inv_run.specs.States.{State, Down, Plain, BatcherIn, LeaderIn, ProxyIn, ReplicaIn, ReaderIn, plain, fresh_state, set_state, entry_by, with_record, durable_of, Given}
+use Rattle.cx_inv_run.specs.States.{State, Down, BatcherIn, LeaderIn, ProxyIn, ReplicaIn, ReaderIn, plain, fresh_state, set_state, entry_by, with_record, durable_of, Given}
 use Rattle.cx_inv_run.proofs.Histories.{durable_own, durable_other, set_running, kept_longer}
-use Rattle.cx_inv_run.proofs.Members.{Member-cases, Member-first, Member-one}
+use Rattle.cx_inv_run.proofs.Members.{Member-first, Member-one}
 use Rattle.cx_inv_run.proofs.Rounds.{before-itself}
 use Rattle.cx_inv_run.proofs.Senders.{batcher_kinds, leader_kinds, proxy_kinds, acceptor_kinds, matchmaker_kinds, replica_kinds, unbatcher_kinds, reader_kinds}
-use Rattle.cx_inv_match.specs.Facts.{Facts, InState}
+use Rattle.cx_inv_match.specs.Facts.{InState}
 use Rattle.cx_inv_match.specs.Words.{IsChosenIn}
 use Rattle.cx_inv_vote.proofs.Leaders.{leader_lands}
 use Rattle.cx_inv_vote.proofs.Send.{proposed_cases, retiring_cases}
-use Rattle.cx_inv_facts.specs.Ended.{IsColumnInformed, Retires, LeadsStill, EndedIn, EndedState, IsEnded, HasPast, Known, EndedSince}
-use Rattle.cx_inv_facts.proofs.EndedRows.{MsgFits, EndsOn, ends_on}
+use Rattle.cx_inv_facts.specs.Ended.{IsColumnInformed, Retires, EndedIn, EndedState, IsEnded, Known, EndedSince}
+use Rattle.cx_inv_facts.proofs.EndedRows.{MsgFits, ends_on}
 use Rattle.cx_inv_facts.proofs.LeaderRows.{leader_next}
 use Rattle.cx_inv_facts.proofs.Next.{AllNext}
 

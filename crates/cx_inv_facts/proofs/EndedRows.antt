@@ -1,11 +1,10 @@
 -- Each row of a leader leaves what is so of a round whose first phase was done.
-use Rattle.std.proofs.Common.{◌≡◌, ℕ, ◌+◌, ◌<◌, ◌≤◌, true, false, not, ◌&&◌, ◌||◌, ◌==◌, max, ◌⊎◌, List, [], ◌∷◌, ◌++◌, map, filter, Option, None, Some, ap, sym, subst, ◌∙◌, refl, inl, inr, arith}
-use Rattle.std.specs.Prelude.{Bool, nat_le, nat_lt, length, if◌then◌else◌, slice_index_or, slice_set}
+use Rattle.std.proofs.Common.{◌≡◌, ℕ, ◌<◌, ◌≤◌, true, not, ◌&&◌, ◌||◌, ◌==◌, ◌⊎◌, List, [], ◌∷◌, ◌++◌, map, Option, None, Some, ap, sym, subst, ◌∙◌, refl, inl, inr, arith}
+use Rattle.std.specs.Prelude.{nat_le, nat_lt, length, slice_index_or}
 use Rattle.std.proofs.lemmas.Bool.{true≢false, and_parts, not-false, leb-true}
 use Rattle.cx_base.specs.declared.cluster.Cluster.{Cluster}
 use Rattle.cx_base.specs.declared.command.Command.{Command}
 use Rattle.cx_base.specs.declared.command.Placed.{Placed}
-use Rattle.cx_base.specs.declared.command.Value.{Value}
 use Rattle.cx_base.specs.declared.event.Order.{Order as OrderOf}
 use Rattle.cx_base.specs.declared.event.Order.TheVariants.{Lead, Change, Collect}
 use Rattle.cx_base.specs.declared.role.Kind.TheVariants as kind
@@ -27,10 +26,10 @@ use Rattle.cx_msg.specs.declared.message.Msg.{Msg}
 use Rattle.cx_msg.specs.declared.message.Msg.TheVariants as msg
 use Rattle.cx_model.specs.declared.states.Mode.{Mode}
 use Rattle.cx_model.specs.declared.states.Mode.TheVariants.{Idle, Matching, Phase1, Leading}
-use Rattle.cx_model.specs.declared.states.Stage.TheVariants.{Informing, Collecting, Retired}
+use Rattle.cx_model.specs.declared.states.Stage.TheVariants.{Collecting, Retired}
 use Rattle.cx_model.specs.Collection.{Collection, collection_from, with_informed, with_forgotten, is_off, is_informing, is_collecting}
 use Rattle.cx_model.specs.Facts.{IsInformed, LeaderWasTold}
-use Rattle.cx_model.specs.Leader.{LeaderDurable, LeaderVolatile, leader_rules, round_of, is_own, is_idle, is_matching, is_promising, is_leading, match_a_to, phase1a_to, leads_to, propose_to, inform_to, garbage_a_to, begin_in, finish, matched_by, match_counted, promise_counted, propose_in, collect_in, informed_counted, informed_in, forgotten_counted, is_past_window, is_settled, open_values, stage_sends, leader_takes, tick_in, order_row, leader_row}
+use Rattle.cx_model.specs.Leader.{LeaderDurable, LeaderVolatile, round_of, is_own, is_idle, is_matching, is_promising, is_leading, match_a_to, phase1a_to, leads_to, propose_to, inform_to, garbage_a_to, begin_in, finish, matched_by, match_counted, promise_counted, propose_in, collect_in, informed_counted, informed_in, forgotten_counted, is_past_window, is_settled, open_values, stage_sends, leader_takes, tick_in, order_row, leader_row}
 use Rattle.cx_model.specs.Matched.{enough, matchmakers, is_counted, live_entries, is_member_of, members_of, members_in, rows_whole}
 use Rattle.cx_model.specs.Member.{Member}
 use Rattle.cx_model.specs.Names.{names, names_grid}
@@ -38,10 +37,10 @@ use Rattle.cx_model.specs.Outcome.{Outcome, answered, replied, by_test, either_w
 use Rattle.cx_model.specs.Plan.{promised_by, has_promised, plan, placed_from}
 use Rattle.cx_model.specs.Promises.{IsConfig}
 use Rattle.cx_inv_run.specs.Kinds.{Kinds}
-use Rattle.cx_inv_run.specs.States.{State, durable_of, Given}
+use Rattle.cx_inv_run.specs.States.{State, Given}
 use Rattle.cx_inv_run.proofs.Members.{Member-map, Member-both, Member-one, Member-filter}
 use Rattle.cx_inv_run.proofs.Rounds.{same_round-true}
-use Rattle.cx_inv_match.specs.Facts.{InMode, InStage, IsInforming, IsLeading}
+use Rattle.cx_inv_match.specs.Facts.{InMode, InStage, IsLeading}
 use Rattle.cx_inv_match.specs.Words.{IsChosenIn}
 use Rattle.cx_inv_vote.proofs.Moves.{is_matching-mode, is_promising-mode, is_leading-mode, is_informing-stage, is_collecting-stage}
 use Rattle.cx_inv_vote.proofs.Searches.{whole_column, mark-cases}

@@ -1,31 +1,27 @@
 -- What is so of each finished round, at every moment from then on.
-use Rattle.std.proofs.Common.{◌≡◌, ℕ, ◌<◌, ◌≤◌, ◌⊎◌, List, [], ◌∷◌, ◌++◌, reverse, ap, sym, subst, ◌∙◌, refl, inl, inr, append_assoc}
+use Rattle.std.proofs.Common.{◌≡◌, ℕ, List, [], ◌∷◌, ◌++◌, reverse, ap, sym, subst, ◌∙◌, refl, inl, inr, append_assoc}
 use Rattle.cx_base.specs.declared.cluster.Cluster.{Cluster}
-use Rattle.cx_base.specs.declared.command.Value.{Value}
 use Rattle.cx_base.specs.declared.event.Event.{Event}
 use Rattle.cx_base.specs.declared.round.Round.{Round}
-use Rattle.cx_base.specs.Grid.{Shape}
 use Rattle.cx_msg.specs.Letter.{Letter}
 use Rattle.cx_msg.specs.declared.input.KeptRecord.{KeptRecord}
-use Rattle.cx_model.specs.Facts.{IsProposed, IsFinished}
-use Rattle.cx_model.specs.History.{Finish, finish_at, finished_from, finished}
+use Rattle.cx_model.specs.Facts.{IsFinished}
+use Rattle.cx_model.specs.History.{Finish, finish_at, finished_from}
 use Rattle.cx_model.specs.Member.{Member}
-use Rattle.cx_model.specs.Promises.{IsConfig}
 use Rattle.cx_model.specs.World.{World, change, step, run, run_from, start}
 use Rattle.cx_inv_run.specs.Laws.{HoldsAlong}
 use Rattle.cx_inv_run.specs.States.{HoldsIn, states_of}
 use Rattle.cx_inv_run.proofs.KindLaws.{kinds_hold}
-use Rattle.cx_inv_run.proofs.Members.{Member-cases, Member-first, Member-reverse, Member-turned}
-use Rattle.cx_inv_run.proofs.Steps.{run_from_append, run_append, run_cluster, run_from_keeps, all_allowed}
+use Rattle.cx_inv_run.proofs.Members.{Member-cases}
+use Rattle.cx_inv_run.proofs.Steps.{run_append, run_cluster, run_from_keeps, all_allowed}
 use Rattle.cx_inv_match.specs.Facts.{Facts}
-use Rattle.cx_inv_match.specs.Words.{IsMatched, IsSafe}
-use Rattle.cx_inv_match.proofs.Grow.{Grows, grown_config, grown_matched, grown_safe}
+use Rattle.cx_inv_match.proofs.Grow.{grown_config, grown_matched, grown_safe}
 use Rattle.cx_inv_vote.proofs.Steps.{facts_hold}
-use Rattle.cx_inv_facts.specs.Ended.{IsEnded, HasPast, Known, EndedSince}
+use Rattle.cx_inv_facts.specs.Ended.{HasPast, Known, EndedSince}
 use Rattle.cx_inv_facts.proofs.EndedLaws.{ended_laws}
-use Rattle.cx_inv_facts.proofs.Finishing.{IsFinishStep, finish_step}
+use Rattle.cx_inv_facts.proofs.Finishing.{finish_step}
 use Rattle.cx_inv_facts.proofs.FreshlyDone.{IsFreshlyDone, freshly_done}
-use Rattle.cx_inv_facts.proofs.Moments.{run_from_kept, run_from_sent, run_grows}
+use Rattle.cx_inv_facts.proofs.Moments.{run_from_sent, run_grows}
 
 -- the event that finished a round, among those of a run
 pub record IsAt (w : World) (es : List Event) (f : Finish) : Type 0 where

@@ -1,21 +1,15 @@
 -- An event that ends the first phase of a leader: which row it is, and what it leaves.
-use Rattle.std.proofs.Common.{◌≡◌, ℕ, true, ◌⊎◌, List, [], ◌∷◌, reverse, Option, None, Some, ap, sym, ◌∙◌, subst, refl, inl, inr}
+use Rattle.std.proofs.Common.{◌≡◌, ℕ, true, ◌⊎◌, List, [], reverse, Option, None, Some, ap, sym, ◌∙◌, subst, refl, inl, inr}
 use Rattle.std.specs.Prelude.{slice_get, slice_set, length, ◌+◌}
-use Rattle.std.proofs.lemmas.Option.{same_Some}
-use Rattle.cx_base.specs.declared.cluster.Cluster.{Cluster}
-use Rattle.cx_base.specs.declared.event.Cut.{Cut}
 use Rattle.cx_base.specs.declared.event.Event.{Event}
 use Rattle.cx_base.specs.declared.role.Kind.{Kind}
 use Rattle.cx_base.specs.declared.role.Kind.TheVariants as kind
 use Rattle.cx_base.specs.declared.role.RoleId.{RoleId}
-use Rattle.cx_base.specs.declared.round.Round.{Round}
 use Rattle.cx_base.specs.declared.why.Why.{Why}
 use Rattle.cx_base.specs.declared.why.Why.TheVariants as why
 use Rattle.cx_base.specs.Role.{role}
 use Rattle.cx_field.specs.declared.parts.Entry.{Entry}
-use Rattle.cx_msg.specs.Letter.{Letter}
 use Rattle.cx_msg.specs.declared.input.Act.{Act}
-use Rattle.cx_msg.specs.declared.input.Act.TheVariants.{Give}
 use Rattle.cx_msg.specs.declared.input.Input.{Input}
 use Rattle.cx_msg.specs.declared.input.KeptRecord.{KeptRecord}
 use Rattle.cx_model.specs.History.{Finish, finish_with, finish_of, finish_by, finish_at}
@@ -25,12 +19,12 @@ use Rattle.cx_model.specs.Member.{Member}
 use Rattle.cx_model.specs.Outcome.{Outcome}
 use Rattle.cx_model.specs.Turn.{whole_turn}
 use Rattle.cx_model.specs.World.{World, Roles, Change, Turns, change, act_of, of_leader, turn_at, turn_done, durable_part, kept_by}
-use Rattle.cx_inv_run.specs.States.{HoldsIn, states_of, durable_of}
+use Rattle.cx_inv_run.specs.States.{states_of, durable_of}
 use Rattle.cx_inv_run.proofs.Histories.{durable_by_time}
 use Rattle.cx_inv_run.proofs.Sends.{named}
 use Rattle.cx_inv_match.specs.Facts.{Facts}
 use Rattle.cx_inv_facts.proofs.LeaderRows.{IsFinishing, finishing}
-use Rattle.cx_inv_facts.proofs.Turns.{GivenBy, IsStill, by_event, by_turn}
+use Rattle.cx_inv_facts.proofs.Turns.{by_event, by_turn}
 
 -- a leader was in its first phase, and its row was `finish`
 pub record IsFinishStep (w : World) (ch : Change) (f : Finish) : Type 0 where

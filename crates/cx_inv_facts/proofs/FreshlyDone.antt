@@ -1,6 +1,5 @@
 -- What is so of a round right after its first phase was done.
-use Rattle.std.proofs.Common.{◌≡◌, ℕ, zero, suc, ◌+◌, ◌-◌, ◌<◌, ◌≤◌, true, ◌⊎◌, List, [], ◌∷◌, ◌++◌, map, reverse, Option, None, Some, ap, sym, subst, ◌∙◌, refl, inl, inr, ⊎_elim, append-nil, arith}
-use Rattle.std.specs.Prelude.{slice_get}
+use Rattle.std.proofs.Common.{◌≡◌, ℕ, zero, suc, ◌+◌, ◌-◌, ◌<◌, ◌≤◌, true, ◌⊎◌, List, ◌++◌, map, reverse, Option, None, Some, ap, sym, subst, ◌∙◌, refl, inl, inr, ⊎_elim, append-nil, arith}
 use Rattle.std.proofs.lemmas.Bool.{cases_eq}
 use Rattle.std.proofs.lemmas.Option.{same_Some}
 use Rattle.cx_base.specs.declared.cluster.Cluster.{Cluster}
@@ -14,23 +13,19 @@ use Rattle.cx_base.specs.Grid.{Shape}
 use Rattle.cx_base.specs.Lists.{below, numbers}
 use Rattle.cx_base.specs.Role.{role}
 use Rattle.cx_field.specs.declared.parts.Entry.{Entry}
-use Rattle.cx_msg.specs.Letter.{Letter, letter}
+use Rattle.cx_msg.specs.Letter.{Letter}
 use Rattle.cx_msg.specs.declared.input.KeptRecord.{KeptRecord}
-use Rattle.cx_msg.specs.declared.kept.Record.TheVariants as kept
-use Rattle.cx_msg.specs.declared.message.Msg.{Msg}
 use Rattle.cx_msg.specs.declared.message.Msg.TheVariants as msg
-use Rattle.cx_model.specs.declared.states.Mode.{Mode}
-use Rattle.cx_model.specs.declared.states.Mode.TheVariants.{Matching, Phase1, Leading}
+use Rattle.cx_model.specs.declared.states.Mode.TheVariants.{Leading}
 use Rattle.cx_model.specs.declared.states.Plan.{Plan}
 use Rattle.cx_model.specs.declared.states.Stage.{Stage}
-use Rattle.cx_model.specs.declared.states.Stage.TheVariants.{Off}
 use Rattle.cx_model.specs.Collection.{Collection}
 use Rattle.cx_model.specs.Facts.{IsProposed, IsRetiring}
 use Rattle.cx_model.specs.History.{Finish}
-use Rattle.cx_model.specs.Leader.{LeaderDurable, LeaderVolatile, leader_rules, leads_to, propose_to, finish, round_of, is_idle, is_matching, is_promising}
+use Rattle.cx_model.specs.Leader.{LeaderVolatile, leader_rules, leads_to, propose_to, finish, round_of, is_matching, is_promising}
 use Rattle.cx_model.specs.Member.{Member}
 use Rattle.cx_model.specs.Plan.{plan, placed_from, voted_value, best_vote, votes_told}
-use Rattle.cx_model.specs.Promises.{HasKept, IsConfig}
+use Rattle.cx_model.specs.Promises.{IsConfig}
 use Rattle.cx_model.specs.World.{World, change, step}
 use Rattle.cx_inv_run.specs.States.{State, LeaderIn, state_found, states_of, durable_of}
 use Rattle.cx_inv_run.proofs.Members.{Member-cases, Member-first, Member-second, Member-map, map-Member}

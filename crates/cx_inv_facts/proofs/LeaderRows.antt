@@ -1,5 +1,5 @@
 -- What a leader's rows keep is later than all that it kept before, and the word `leads` says that its first phase is done.
-use Rattle.std.proofs.Common.{◌≡◌, ℕ, ◌+◌, true, false, not, ◌&&◌, ◌||◌, max, ◌==◌, ◌⊎◌, List, [], ◌∷◌, ◌++◌, Option, None, Some, ap, sym, subst, ◌∙◌, refl, inl, inr, arith}
+use Rattle.std.proofs.Common.{◌≡◌, ℕ, ◌+◌, true, false, not, ◌&&◌, ◌||◌, max, ◌==◌, ◌⊎◌, List, [], ◌∷◌, Option, None, Some, ap, sym, subst, ◌∙◌, refl, inl, inr, arith}
 use Rattle.std.specs.Prelude.{Bool, nat_le, nat_lt, length, if◌then◌else◌, slice_index_or}
 use Rattle.std.proofs.lemmas.Bool.{true≢false, and_parts, not-false}
 use Rattle.std.proofs.lemmas.Option.{same_Some}
@@ -35,7 +35,7 @@ use Rattle.cx_model.specs.Promises.{HasKept}
 use Rattle.cx_inv_run.specs.States.{State, durable_of}
 use Rattle.cx_inv_run.proofs.Rounds.{before-from_at_most, before-higher, before-changed}
 use Rattle.cx_inv_match.specs.Facts.{IsLast, Facts}
-use Rattle.cx_inv_facts.proofs.Next.{IsNext, AllNext}
+use Rattle.cx_inv_facts.proofs.Next.{AllNext}
 
 -- a row that ends the first phase of a leader, which was matching or promising
 pub record IsFinishing (c : Cluster) (me : RoleId) (d : LeaderDurable) (v : LeaderVolatile) (o : Outcome LeaderVolatile) : Type 0 where

@@ -1,6 +1,6 @@
 -- A leader leads only from the word `leads` on, in the same round, and asks to retire rounds only while it leads.
-use Rattle.std.proofs.Common.{◌≡◌, ℕ, ◌+◌, true, false, not, ◌&&◌, ◌||◌, ◌==◌, ◌⊎◌, List, [], ◌∷◌, ◌++◌, map, filter, Option, None, Some, ap, sym, subst, ◌∙◌, refl, inl, inr}
-use Rattle.std.specs.Prelude.{Bool, nat_le, nat_lt, length, if◌then◌else◌, slice_index_or, slice_set}
+use Rattle.std.proofs.Common.{◌≡◌, ℕ, true, not, ◌&&◌, ◌||◌, ◌==◌, ◌⊎◌, List, [], ◌∷◌, ◌++◌, map, Option, None, Some, ap, sym, subst, refl, inl, inr}
+use Rattle.std.specs.Prelude.{nat_le, nat_lt, length, slice_index_or}
 use Rattle.std.proofs.lemmas.Bool.{and_parts, not-false}
 use Rattle.cx_base.specs.declared.cluster.Cluster.{Cluster}
 use Rattle.cx_base.specs.declared.command.Command.{Command}
@@ -23,16 +23,14 @@ use Rattle.cx_msg.specs.declared.message.Msg.{Msg}
 use Rattle.cx_msg.specs.declared.message.Msg.TheVariants as msg
 use Rattle.cx_model.specs.declared.states.Mode.{Mode}
 use Rattle.cx_model.specs.declared.states.Mode.TheVariants.{Idle, Matching, Phase1, Leading}
-use Rattle.cx_model.specs.declared.states.Plan.{Plan}
-use Rattle.cx_model.specs.Collection.{Collection, with_informed, with_forgotten, is_off, is_informing, is_collecting, is_retired}
-use Rattle.cx_model.specs.Leader.{LeaderDurable, LeaderVolatile, round_of, is_own, is_idle, is_matching, is_promising, is_leading, match_a_to, phase1a_to, leads_to, propose_to, inform_to, garbage_a_to, begin_in, finish, matched_by, match_counted, promise_counted, propose_in, collect_in, informed_in, forgotten_counted, is_past_window, is_settled, open_values, stage_sends, leader_takes, tick_in, order_row, leader_row}
+use Rattle.cx_model.specs.Collection.{with_informed, is_off, is_informing, is_collecting}
+use Rattle.cx_model.specs.Leader.{LeaderDurable, LeaderVolatile, round_of, is_own, is_idle, is_matching, is_promising, is_leading, match_a_to, phase1a_to, leads_to, propose_to, inform_to, garbage_a_to, begin_in, finish, matched_by, match_counted, promise_counted, propose_in, collect_in, informed_in, is_past_window, is_settled, open_values, stage_sends, leader_takes, tick_in, order_row, leader_row}
 use Rattle.cx_model.specs.Matched.{enough, matchmakers, is_counted, live_entries, is_member_of, members_of, members_in, rows_whole}
 use Rattle.cx_model.specs.Member.{Member}
 use Rattle.cx_model.specs.Names.{names, names_grid}
 use Rattle.cx_model.specs.Outcome.{Outcome, answered, replied, by_test, either_way}
 use Rattle.cx_model.specs.Plan.{promised_by, has_promised, plan, placed_from}
 use Rattle.cx_inv_run.proofs.Members.{Member-map, Member-both, Member-one}
-use Rattle.cx_inv_vote.proofs.Moves.{is_leading-mode}
 
 module _ (c : Cluster) (me : RoleId) (d : LeaderDurable) (v : LeaderVolatile) where
   -- a datagram that asks to forget rounds does so for the round that is led

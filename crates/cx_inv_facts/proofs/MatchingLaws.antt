@@ -1,28 +1,22 @@
 -- The facts on matching and promising, of a run.
-use Rattle.std.proofs.Common.{◌≡◌, ℕ, ◌+◌, ◌<◌, ◌≤◌, true, false, ◌⊎◌, List, reverse, Some, sym, subst, refl, inl, inr, arith}
-use Rattle.std.specs.Prelude.{slice_get}
+use Rattle.std.proofs.Common.{◌≡◌, ℕ, ◌+◌, ◌≤◌, true, false, ◌⊎◌, List, reverse, sym, subst, refl, inl, inr, arith}
 use Rattle.std.proofs.lemmas.Bool.{cases_Bool}
 use Rattle.cx_base.specs.declared.cluster.Cluster.{Cluster}
-use Rattle.cx_base.specs.declared.command.Value.{Value}
 use Rattle.cx_base.specs.declared.event.Event.{Event}
 use Rattle.cx_base.specs.declared.role.Kind.TheVariants as kind
 use Rattle.cx_base.specs.declared.role.RoleId.{RoleId}
 use Rattle.cx_base.specs.declared.round.Round.{Round}
-use Rattle.cx_base.specs.Grid.{Shape}
 use Rattle.cx_base.specs.Role.{role}
 use Rattle.cx_base.specs.Round.{is_before}
 use Rattle.cx_field.specs.declared.parts.Entry.{Entry}
-use Rattle.cx_field.specs.declared.parts.Vote.{Vote}
-use Rattle.cx_msg.specs.Letter.{Letter, letter}
+use Rattle.cx_msg.specs.Letter.{letter}
 use Rattle.cx_msg.specs.declared.input.KeptRecord.{KeptRecord}
 use Rattle.cx_msg.specs.declared.kept.Record.TheVariants as kept
 use Rattle.cx_msg.specs.declared.message.Msg.TheVariants as msg
 use Rattle.cx_model.specs.Acceptor.{AcceptorDurable, acceptor_rules}
-use Rattle.cx_model.specs.Facts.{MatchingFacts, HasMatched, HasVoted, IsRetiring, IsFinished, acceptor_of, has_matched, is_match_of, recorders}
+use Rattle.cx_model.specs.Facts.{MatchingFacts, HasMatched, IsRetiring, IsFinished, acceptor_of, has_matched, is_match_of, recorders}
 use Rattle.cx_model.specs.Matched.{matchmakers}
-use Rattle.cx_model.specs.Matchmaker.{entry}
 use Rattle.cx_model.specs.Member.{Member}
-use Rattle.cx_model.specs.Promises.{HasKept}
 use Rattle.cx_model.specs.World.{run, records_of}
 use Rattle.cx_inv_run.specs.States.{HoldsIn}
 use Rattle.cx_inv_run.proofs.Histories.{durable_by_time}
@@ -30,7 +24,7 @@ use Rattle.cx_inv_run.proofs.Members.{Member-any}
 use Rattle.cx_inv_run.proofs.Quorums.{wider}
 use Rattle.cx_inv_run.proofs.Rounds.{same_round-itself}
 use Rattle.cx_inv_match.specs.Facts.{IsAcceptor, Facts}
-use Rattle.cx_inv_match.specs.Words.{HasMatch, HasPromise, IsMatched}
+use Rattle.cx_inv_match.specs.Words.{HasPromise, IsMatched}
 use Rattle.cx_inv_vote.proofs.Steps.{facts_hold}
 use Rattle.cx_inv_facts.specs.Answers.{HasReached}
 use Rattle.cx_inv_facts.specs.Laws.{MatchingHold}

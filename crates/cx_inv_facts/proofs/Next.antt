@@ -1,6 +1,6 @@
 -- What each row keeps is later than all that its role kept before.
-use Rattle.std.proofs.Common.{◌≡◌, ℕ, ◌+◌, ◌<◌, true, false, not, ◌&&◌, max, ◌==◌, ◌⊎◌, List, [], ◌∷◌, Option, None, Some, ap, sym, subst, ◌∙◌, refl, inl, inr, arith}
-use Rattle.std.specs.Prelude.{Bool, nat_le, nat_lt, length, if◌then◌else◌}
+use Rattle.std.proofs.Common.{◌≡◌, ℕ, true, false, ◌&&◌, ◌⊎◌, List, Option, None, Some, subst, inl, inr}
+use Rattle.std.specs.Prelude.{nat_le, nat_lt, length}
 use Rattle.std.specs.List.{list_any}
 use Rattle.std.proofs.lemmas.Bool.{cases_Bool}
 use Rattle.std.proofs.lemmas.Option.{same_Some}
@@ -27,8 +27,8 @@ use Rattle.cx_model.specs.Member.{Member}
 use Rattle.cx_model.specs.Names.{names}
 use Rattle.cx_model.specs.Outcome.{Outcome, by_test, either_way}
 use Rattle.cx_model.specs.Promises.{HasKept}
-use Rattle.cx_inv_run.specs.Kinds.{IsKept, IsKeeper}
-use Rattle.cx_inv_run.specs.States.{State, entry_by, durable_of}
+use Rattle.cx_inv_run.specs.Kinds.{IsKept}
+use Rattle.cx_inv_run.specs.States.{State, durable_of}
 use Rattle.cx_inv_run.proofs.Members.{none-Member}
 use Rattle.cx_inv_run.proofs.Rounds.{before_cases, before-both, before-to_at_least, before-from_at_most, at_most-trans}
 use Rattle.cx_inv_match.specs.Facts.{IsLog, Facts}

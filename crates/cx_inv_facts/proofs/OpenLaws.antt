@@ -1,12 +1,11 @@
 -- What can still be chosen in an open round below a finished one is what the finished one proposes, from its watermark on.
-use Rattle.std.proofs.Common.{◌≡◌, ℕ, ◌<◌, ◌≤◌, true, false, not, ◌||◌, ◌⊎◌, List, [], ◌∷◌, reverse, inl, inr, sym, ◌∙◌, subst, ap, refl, ⊎_elim, arith}
+use Rattle.std.proofs.Common.{◌≡◌, ℕ, ◌<◌, ◌≤◌, true, false, not, ◌||◌, List, [], reverse, inl, inr, sym, ◌∙◌, subst, ap, ⊎_elim, arith}
 use Rattle.std.proofs.lemmas.Bool.{cases_Bool, cases_lt, true≢false, or_cases, or_left, or_right, not-true}
 use Rattle.cx_base.specs.declared.cluster.Cluster.{Cluster}
 use Rattle.cx_base.specs.declared.command.Value.{Value}
 use Rattle.cx_base.specs.declared.command.Value.TheVariants.{Noop, Batch}
 use Rattle.cx_base.specs.declared.event.Event.{Event}
 use Rattle.cx_base.specs.declared.role.Kind.TheVariants as kind
-use Rattle.cx_base.specs.declared.role.RoleId.{RoleId}
 use Rattle.cx_base.specs.declared.round.Round.{Round}
 use Rattle.cx_base.specs.Grid.{Shape}
 use Rattle.cx_base.specs.Lists.{below}
@@ -20,7 +19,6 @@ use Rattle.cx_msg.specs.declared.kept.Record.TheVariants as kept
 use Rattle.cx_model.specs.Facts.{OpenRoundFacts, HasVoted, IsProposed, IsFinished, CanBeChosen, has_matched, is_match_of, is_closed, matchmaker_of, acceptor_of}
 use Rattle.cx_model.specs.Matchmaker.{MatchmakerDurable, matchmaker_rules, entry}
 use Rattle.cx_model.specs.Member.{Member}
-use Rattle.cx_model.specs.Promises.{HasKept}
 use Rattle.cx_model.specs.World.{run, records_of}
 use Rattle.cx_inv_run.specs.States.{HoldsIn}
 use Rattle.cx_inv_run.proofs.Histories.{durable_by_time}
@@ -34,7 +32,7 @@ use Rattle.cx_inv_vote.proofs.Steps.{facts_hold}
 use Rattle.cx_inv_facts.specs.Laws.{OpenRoundsHold}
 use Rattle.cx_inv_facts.proofs.FinishedRounds.{finished_round}
 use Rattle.cx_inv_facts.proofs.MatchingLaws.{acceptor_is}
-use Rattle.cx_inv_facts.proofs.Moments.{to_turned, of_turned}
+use Rattle.cx_inv_facts.proofs.Moments.{to_turned}
 
 module _ (c : Cluster) (es : List Event) where
   abbrev history : List KeptRecord
@@ -63,9 +61,11 @@ module _ (c : Cluster) (es : List Event) where
   recorded : (m : ℕ) (j : Round) → has_matched history m j ≡ true → (g : Shape) × HasMatch (reverse history) (role kind.Matchmaker m) j g
   recorded m j t =
       let r = any-Member (λ x. is_match_of j x) (records_of (role kind.Matchmaker m) history) t in
-      let g = match_in j r.0 r.2 in
-      (g.0, to_turned history (role kind.Matchmaker m) (kept.Match j g.0)
-      (record_in (role kind.Matchmaker m) history (kept.Match j g.0) (subst (λ x. Member x (records_of (role kind.Matchmaker m) history)) g.1 r.1)))
+      let g = match_in j r.0 r.2 in (
+        g.0,
+        to_turned history (role kind.Matchmaker m) (kept.Match j g.0)
+            (record_in (role kind.Matchmaker m) history (kept.Match j g.0) (subst (λ x. Member x (records_of (role kind.Matchmaker m) history)) g.1 r.1)),
+      )
 
   module _ (j : Round) (s : ℕ) (u : Value) (h : CanBeChosen c history j s u) where
     -- an open round isn't shut

@@ -1,5 +1,5 @@
 -- What an answer to a reader tells, when it is sent: each round that its sender recorded, or a watermark above it.
-use Rattle.std.proofs.Common.{◌≡◌, ℕ, true, false, ◌&&◌, ◌⊎◌, List, [], ◌∷◌, reverse, Option, Some, sym, subst, refl, inl, inr}
+use Rattle.std.proofs.Common.{◌≡◌, true, ◌&&◌, ◌⊎◌, List, [], ◌∷◌, reverse, sym, subst, refl, inl, inr}
 use Rattle.std.specs.Prelude.{nat_le, length}
 use Rattle.std.specs.List.{list_any}
 use Rattle.std.proofs.lemmas.Bool.{cases_Bool}
@@ -28,7 +28,7 @@ use Rattle.cx_model.specs.Outcome.{Outcome, either_way}
 use Rattle.cx_model.specs.Request.{request}
 use Rattle.cx_model.specs.World.{World, Change, change, act_of, durable_part}
 use Rattle.cx_inv_run.specs.Kinds.{IsSender}
-use Rattle.cx_inv_run.specs.States.{HoldsIn, durable_of}
+use Rattle.cx_inv_run.specs.States.{HoldsIn}
 use Rattle.cx_inv_run.proofs.Histories.{durable_by_time}
 use Rattle.cx_inv_run.proofs.Members.{Member-one}
 use Rattle.cx_inv_match.specs.Facts.{IsLog, Facts}

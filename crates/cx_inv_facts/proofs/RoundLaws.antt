@@ -1,34 +1,31 @@
 -- The facts on rounds hold of every run.
-use Rattle.std.proofs.Common.{◌≡◌, ℕ, ◌<◌, true, ◌⊎◌, List, reverse, Option, Some, ap, sym, subst, ◌∙◌, refl, inl, inr, ⊎_elim, arith}
+use Rattle.std.proofs.Common.{◌≡◌, ℕ, ◌<◌, reverse, Option, Some, sym, subst, ◌∙◌, refl, inl, inr, ⊎_elim, arith}
 use Rattle.std.specs.Prelude.{slice_get}
 use Rattle.std.proofs.lemmas.Bool.{cases_eq, cases_lt}
 use Rattle.cx_base.specs.declared.cluster.Cluster.{Cluster}
 use Rattle.cx_base.specs.declared.command.Value.{Value}
-use Rattle.cx_base.specs.declared.event.Event.{Event}
 use Rattle.cx_base.specs.declared.role.Kind.TheVariants as kind
 use Rattle.cx_base.specs.declared.role.RoleId.{RoleId}
 use Rattle.cx_base.specs.declared.round.Round.{Round}
 use Rattle.cx_base.specs.Grid.{Shape}
 use Rattle.cx_base.specs.Role.{role}
-use Rattle.cx_msg.specs.Letter.{Letter}
-use Rattle.cx_msg.specs.declared.input.KeptRecord.{KeptRecord}
 use Rattle.cx_msg.specs.declared.kept.Record.TheVariants as kept
 use Rattle.cx_model.specs.Batcher.{BatcherVolatile}
-use Rattle.cx_model.specs.Facts.{RoundFacts, Carries, HasVoted, IsProposed, LeaderWasTold, ProxyWasTold, BatcherWasTold, ReplicaWasTold, ReaderWasTold, round_in}
+use Rattle.cx_model.specs.Facts.{RoundFacts, Carries, HasVoted, IsProposed, LeaderWasTold, round_in}
 use Rattle.cx_model.specs.Leader.{LeaderDurable, LeaderVolatile, leader_rules, round_of}
 use Rattle.cx_model.specs.Member.{Member}
 use Rattle.cx_model.specs.Proxy.{ProxyVolatile}
 use Rattle.cx_model.specs.Reader.{ReaderVolatile}
 use Rattle.cx_model.specs.Replica.{ReplicaVolatile}
 use Rattle.cx_model.specs.World.{World, run}
-use Rattle.cx_inv_run.specs.States.{State, BatcherIn, LeaderIn, ProxyIn, ReplicaIn, ReaderIn, state_found, entry_by, durable_of, HoldsIn}
+use Rattle.cx_inv_run.specs.States.{State, BatcherIn, LeaderIn, ProxyIn, ReplicaIn, ReaderIn, state_found, entry_by, HoldsIn}
 use Rattle.cx_inv_run.proofs.Histories.{durable_by_time}
 use Rattle.cx_inv_run.proofs.Members.{Member-at}
 use Rattle.cx_inv_run.proofs.Rounds.{before-itself}
 use Rattle.cx_inv_match.specs.Facts.{Facts, InState}
 use Rattle.cx_inv_vote.proofs.Steps.{facts_hold}
 use Rattle.cx_inv_facts.specs.Laws.{RoundsHold}
-use Rattle.cx_inv_facts.specs.Order.{Each, LaterOfOne, Ordered}
+use Rattle.cx_inv_facts.specs.Order.{Each, LaterOfOne}
 use Rattle.cx_inv_facts.proofs.Each.{each_at, each_turned}
 use Rattle.cx_inv_facts.proofs.Moments.{to_turned}
 use Rattle.cx_inv_facts.proofs.Ordered.{ordered}
