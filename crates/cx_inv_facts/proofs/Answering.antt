@@ -88,7 +88,8 @@ module _ (history : List KeptRecord) (sent : List Letter) (states : RoleId → S
     cut = λ r e d m. says_more history (entry_by me r ∷ history) (λ k n. inr n) d.from d.msg (h d m);
   }
 
-  calm : {V : Type 0} (me : RoleId) (make : V → State) (o : Outcome V) → SendsNoAnswers me.kind → OfKind me o → Lands AnswersSay history sent states me make o
+  calm : {V : Type 0} (me : RoleId) (make : V → State) (o : Outcome V) → SendsNoAnswers me.kind → OfKind me o
+      → Lands AnswersSay history sent states me make o
   calm me make o none kinds = says_on me make o (λ d m. no_answers (with_record me o.kept history) me.kind none d.from d.msg (kinds.sends d m).1)
 
   requested : (e : Event) (d : Letter) → Member d (request e) → AnswerSays history d.from d.msg
@@ -158,7 +159,8 @@ module _ (c : Cluster) (history : List KeptRecord) (sent : List Letter) (states 
   entry_there : (log.watermark ≡ no_round) ⊎ HasEntry log.watermark log.entries
   entry_there = elim (facts.logs matchmaker).raised [ inl x ↦ inl x.0 | inr x ↦ inr x.1 ]
 
-  entry_before : (i : Round) → is_before i log.watermark ≡ false → (log.watermark ≡ no_round) ⊎ ((log.watermark ≡ i) ⊎ HasEntry log.watermark (entries_before i log.entries))
+  entry_before : (i : Round) → is_before i log.watermark ≡ false
+      → (log.watermark ≡ no_round) ⊎ ((log.watermark ≡ i) ⊎ HasEntry log.watermark (entries_before i log.entries))
   entry_before i from = elim entry_there [ inl e ↦ inl e | inr x ↦ inr (go x (before_cases log.watermark i)) ]
     where
       go : HasEntry log.watermark log.entries → (is_before log.watermark i ≡ true) ⊎ ((log.watermark ≡ i) ⊎ (is_before i log.watermark ≡ true))
@@ -170,7 +172,8 @@ module _ (c : Cluster) (history : List KeptRecord) (sent : List Letter) (states 
   matchmaker_told : (from : RoleId) (x : Msg) → Answers (matchmaker_takes matchmaker log from x)
   matchmaker_told from (msg.MatchA i g) =
       by_test Answers (is_before i log.watermark) _ _ (λ t. Member-one (λ (d : Letter). AnswerSays history d.from d.msg) _ tt)
-      (λ low. either_way Answers (list_any (λ (e : Entry). is_before i e.round) log.entries) _ _ (Member-one (λ (d : Letter). AnswerSays history d.from d.msg) _ tt)
+      (λ low. either_way Answers (list_any (λ (e : Entry). is_before i e.round) log.entries) _ _
+      (Member-one (λ (d : Letter). AnswerSays history d.from d.msg) _ tt)
       (either_way Answers (has_round i log.entries) _ _ (Member-one (λ (d : Letter). AnswerSays history d.from d.msg) _ (entry_before i low))
       (either_way Answers (nat_le 16 (length log.entries)) _ _ (Member-one (λ (d : Letter). AnswerSays history d.from d.msg) _ tt)
       (Member-one (λ (d : Letter). AnswerSays (entry_by matchmaker (kept.Match i g) ∷ history) d.from d.msg) _ (entry_before i low)))))
@@ -192,17 +195,26 @@ answer_laws c = record {
   start = λ states starts d m. absurd m;
   stop = λ history sent states me h. h;
   wake = λ history sent states me h down. h;
-  ask = λ history sent states e allowed facts h. Member-both (λ (d : Letter). AnswerSays history d.from d.msg) sent (request e) h (requested history sent states h e);
-  batcher = λ history sent states b v i facts h is given. calm history sent states h (role kind.Batcher b) BatcherIn _ tt (batcher_kinds c (role kind.Batcher b) refl v i);
+  ask = λ history sent states e allowed facts h.
+      Member-both (λ (d : Letter). AnswerSays history d.from d.msg) sent (request e) h (requested history sent states h e);
+  batcher = λ history sent states b v i facts h is given.
+      calm history sent states h (role kind.Batcher b) BatcherIn _ tt (batcher_kinds c (role kind.Batcher b) refl v i);
   leader = λ history sent states l v i facts h is given.
-      calm history sent states h (role kind.Leader l) LeaderIn _ tt (leader_kinds c (role kind.Leader l) refl (durable_of leader_rules (role kind.Leader l) history) v i);
-  proxy = λ history sent states p v i facts h is given. calm history sent states h (role kind.Proxy p) ProxyIn _ tt (proxy_kinds c (role kind.Proxy p) refl v i);
-  acceptor = λ history sent states a i facts h is given. says_on history sent states h (role kind.Acceptor a) plain _ (acceptor_row-told c history sent states facts a i);
-  matchmaker = λ history sent states m i facts h is given. says_on history sent states h (role kind.Matchmaker m) plain _ (matchmaker_row-told c history sent states facts m i);
+      calm history sent states h (role kind.Leader l) LeaderIn _ tt
+      (leader_kinds c (role kind.Leader l) refl (durable_of leader_rules (role kind.Leader l) history) v i);
+  proxy = λ history sent states p v i facts h is given.
+      calm history sent states h (role kind.Proxy p) ProxyIn _ tt (proxy_kinds c (role kind.Proxy p) refl v i);
+  acceptor = λ history sent states a i facts h is given.
+      says_on history sent states h (role kind.Acceptor a) plain _ (acceptor_row-told c history sent states facts a i);
+  matchmaker = λ history sent states m i facts h is given.
+      says_on history sent states h (role kind.Matchmaker m) plain _ (matchmaker_row-told c history sent states facts m i);
   replica = λ history sent states p v i facts h is given.
-      calm history sent states h (role kind.Replica p) ReplicaIn _ tt (replica_kinds c (role kind.Replica p) refl (durable_of replica_rules (role kind.Replica p) history) v i);
-  unbatcher = λ history sent states u i facts h is given. calm history sent states h (role kind.Unbatcher u) plain _ tt (unbatcher_kinds c (role kind.Unbatcher u) refl i);
-  reader = λ history sent states r v i facts h is given. calm history sent states h (role kind.Reader r) ReaderIn _ tt (reader_kinds c (role kind.Reader r) refl v i);
+      calm history sent states h (role kind.Replica p) ReplicaIn _ tt
+      (replica_kinds c (role kind.Replica p) refl (durable_of replica_rules (role kind.Replica p) history) v i);
+  unbatcher = λ history sent states u i facts h is given.
+      calm history sent states h (role kind.Unbatcher u) plain _ tt (unbatcher_kinds c (role kind.Unbatcher u) refl i);
+  reader = λ history sent states r v i facts h is given.
+      calm history sent states h (role kind.Reader r) ReaderIn _ tt (reader_kinds c (role kind.Reader r) refl v i);
 }
 
 pub answers_say : (c : Cluster) (es : List Event) → HoldsIn AnswersSay (run c es)

@@ -47,7 +47,8 @@ use Rattle.cx_inv_facts.proofs.Turns.{IsStill, by_event, by_turn, turn_keeps}
 
 -- the rounds that are led, or for which others are retired, are all of a set
 pub record AreLed (Done : Round → Type 0) (w : World) : Type 0 where
-  pub leads : (l : ℕ) (v : LeaderVolatile) → slice_get w.roles.leaders l ≡ Some (Some v) → is_leading v.mode ≡ true → Done (round_in w.kept (role kind.Leader l))
+  pub leads : (l : ℕ) (v : LeaderVolatile) → slice_get w.roles.leaders l ≡ Some (Some v) → is_leading v.mode ≡ true
+      → Done (round_in w.kept (role kind.Leader l))
   pub retires : (i : Round) → IsRetiring w.sent i → Done i
 
 -- one of these finishes is of the round
@@ -58,17 +59,21 @@ IsOneOf fs i = (f : Finish) × Member f fs × (f.round ≡ i)
 round_left : (me : RoleId) (l : ℕ) (history : List KeptRecord) (o : Option Record) → (role kind.Leader l ≡ me → ⊥)
     → round_in (history ++ kept_by me o) (role kind.Leader l) ≡ round_in history (role kind.Leader l)
 round_left me l history o other =
-    ap (λ (rs : List Record). round_of (folded leader_rules rs).own) (records_other (role kind.Leader l) me history o (differ_role (role kind.Leader l) me other))
+    ap (λ (rs : List Record). round_of (folded leader_rules rs).own)
+    (records_other (role kind.Leader l) me history o (differ_role (role kind.Leader l) me other))
 
 -- who asks to retire rounds is a leader
 no_retiring : {A : Type 0} (k : Kind) (m : Msg) (i : Round) (g : Shape) → (k ≡ kind.Leader → ⊥) → IsSender k m → m ≡ msg.GarbageA i g → A
 no_retiring k m i g other s e = absurd (other (subst (λ x. IsSender k x) e s))
 
-finish_there : (n : ℕ) (me : RoleId) (y : Why) (roles : Roles) (history : List KeptRecord) (v : LeaderVolatile) → y ≡ why.Leads → slice_get roles.leaders me.index ≡ Some (Some v)
+finish_there : (n : ℕ) (me : RoleId) (y : Why) (roles : Roles) (history : List KeptRecord) (v : LeaderVolatile) → y ≡ why.Leads
+    → slice_get roles.leaders me.index ≡ Some (Some v)
     → Member {X = Finish} (record { event = n; round = round_of (durable_part leader_rules me history).own; cw = v.cw; end = v.end }) (finish_of n me kind.Leader y roles history)
 finish_there n me y roles history v e is =
-    subst (λ x. Member {X = Finish} (record { event = n; round = round_of (durable_part leader_rules me history).own; cw = v.cw; end = v.end }) (finish_of n me kind.Leader x roles history)) (sym e)
-    (subst (λ (o : Option (Option LeaderVolatile)). Member {X = Finish} (record { event = n; round = round_of (durable_part leader_rules me history).own; cw = v.cw; end = v.end })
+    subst (λ x. Member {X = Finish} (record { event = n; round = round_of (durable_part leader_rules me history).own; cw = v.cw; end = v.end })
+    (finish_of n me kind.Leader x roles history)) (sym e)
+    (subst (λ (o : Option (Option LeaderVolatile)). Member {X = Finish}
+    (record { event = n; round = round_of (durable_part leader_rules me history).own; cw = v.cw; end = v.end })
     (finish_with n (round_of (durable_part leader_rules me history).own) o)) (sym is) (inl refl))
 
 module _ (Done : Round → Type 0) (w : World) (led : AreLed Done w) where
@@ -76,7 +81,8 @@ module _ (Done : Round → Type 0) (w : World) (led : AreLed Done w) where
   After ch i = Done i ⊎ ((n : ℕ) → IsOneOf (finish_by n ch.who ch.why ch.roles w.kept) i)
 
   pub record LedAfter (ch : Change) : Type 0 where
-    pub leads : (l : ℕ) (v : LeaderVolatile) → slice_get ch.roles.leaders l ≡ Some (Some v) → is_leading v.mode ≡ true → After ch (round_in (w.kept ++ ch.kept) (role kind.Leader l))
+    pub leads : (l : ℕ) (v : LeaderVolatile) → slice_get ch.roles.leaders l ≡ Some (Some v) → is_leading v.mode ≡ true
+        → After ch (round_in (w.kept ++ ch.kept) (role kind.Leader l))
     pub retires : (d : Letter) → Member d ch.sends → (i : Round) (g : Shape) → d.msg ≡ msg.GarbageA i g → After ch i
 
   still_leads : (l : ℕ) (v : LeaderVolatile) → slice_get w.roles.leaders l ≡ Some (Some v) → is_leading v.mode ≡ true
@@ -87,15 +93,18 @@ module _ (Done : Round → Type 0) (w : World) (led : AreLed Done w) where
 
   -- while another role keeps a record
   leads_beside : (l : ℕ) (v : LeaderVolatile) → slice_get w.roles.leaders l ≡ Some (Some v) → is_leading v.mode ≡ true
-      → (me : RoleId) → (role kind.Leader l ≡ me → ⊥) → (ks : List KeptRecord) (o : Option Record) → ks ≡ kept_by me o → Done (round_in (w.kept ++ ks) (role kind.Leader l))
+      → (me : RoleId) → (role kind.Leader l ≡ me → ⊥) → (ks : List KeptRecord) (o : Option Record) → ks ≡ kept_by me o
+      → Done (round_in (w.kept ++ ks) (role kind.Leader l))
   leads_beside l v e t me other ks o is =
       subst (λ (x : List KeptRecord). Done (round_in (w.kept ++ x) (role kind.Leader l))) (sym is)
       (subst Done (sym (round_left me l w.kept o other)) (led.leads l v e t))
 
   request_retires : (e : Event) (d : Letter) → Member d (request e) → (i : Round) (g : Shape) → d.msg ≡ msg.GarbageA i g → ⊥
-  request_retires (event.Write command batcher) d (inl p) i g e = let q : msg.Submit command ≡ msg.GarbageA i g = ap (λ (x : Letter). x.msg) (sym p) ∙ e in cc
+  request_retires (event.Write command batcher) d (inl p) i g e =
+      let q : msg.Submit command ≡ msg.GarbageA i g = ap (λ (x : Letter). x.msg) (sym p) ∙ e in cc
   request_retires (event.Write command batcher) d (inr m) i g e = m
-  request_retires (event.Read client seq reader replica key) d (inl p) i g e = let q : msg.ReadReq seq replica key ≡ msg.GarbageA i g = ap (λ (x : Letter). x.msg) (sym p) ∙ e in cc
+  request_retires (event.Read client seq reader replica key) d (inl p) i g e =
+      let q : msg.ReadReq seq replica key ≡ msg.GarbageA i g = ap (λ (x : Letter). x.msg) (sym p) ∙ e in cc
   request_retires (event.Read client seq reader replica key) d (inr m) i g e = m
   request_retires other d m i g e = m
 
@@ -104,7 +113,8 @@ module _ (Done : Round → Type 0) (w : World) (led : AreLed Done w) where
       → ((o : Option Record) × (ch.kept ≡ kept_by me o)) → ((d : Letter) → Member d ch.sends → IsSender k d.msg) → LedAfter ch
   calm ch me k is other same keeps kinds = record {
     leads = λ l v e t.
-        inl (leads_beside l v (subst (λ (ls : List (Option LeaderVolatile)). slice_get ls l ≡ Some (Some v)) same e) t me (λ p. other (sym is ∙ ap (λ (a : RoleId). a.kind) (sym p))) ch.kept keeps.0 keeps.1);
+        inl (leads_beside l v (subst (λ (ls : List (Option LeaderVolatile)). slice_get ls l ≡ Some (Some v)) same e) t me
+        (λ p. other (sym is ∙ ap (λ (a : RoleId). a.kind) (sym p))) ch.kept keeps.0 keeps.1);
     retires = λ d m i g e. no_retiring k d.msg i g other (kinds d m) e;
   }
 
@@ -160,9 +170,11 @@ module _ (Done : Round → Type 0) (w : World) (led : AreLed Done w) where
       leads_after l u e t (inl q) =
           let p : Some (Some o.volatile) ≡ Some (Some u) = sym set_now ∙ subst (λ k. slice_get set k ≡ Some (Some u)) q e in
           let same : u ≡ o.volatile = sym (same_Some o.volatile u (same_Some (Some o.volatile) (Some u) p)) in
-          subst (λ k. AfterRow (round_in (w.kept ++ kept_by me o.kept) (role kind.Leader k))) (sym q) (own_led (subst (λ (x : LeaderVolatile). is_leading x.mode ≡ true) same t))
+          subst (λ k. AfterRow (round_in (w.kept ++ kept_by me o.kept) (role kind.Leader k))) (sym q)
+          (own_led (subst (λ (x : LeaderVolatile). is_leading x.mode ≡ true) same t))
       leads_after l u e t (inr q) =
-          inl (leads_beside l u (sym (get_set_other w.roles.leaders n l (Some o.volatile) q) ∙ e) t me (λ r. q (ap (λ (a : RoleId). a.index) r)) (kept_by me o.kept) o.kept refl)
+          inl (leads_beside l u (sym (get_set_other w.roles.leaders n l (Some o.volatile) q) ∙ e) t me (λ r. q (ap (λ (a : RoleId). a.index) r))
+          (kept_by me o.kept) o.kept refl)
 
       row_led : LedIn (turn_done me w.roles.leaders (whole_turn o))
       row_led = record {
@@ -176,18 +188,22 @@ module _ (Done : Round → Type 0) (w : World) (led : AreLed Done w) where
   act_led act me kind.Client is = calm _ me kind.Client is (λ p. cc) refl (None, refl) (λ d m. absurd m)
   act_led act me kind.Leader is =
       subst (λ (a : RoleId). LedAfter (of_leader a w.roles (turn_at leader_rules w.cluster a w.kept act w.roles.leaders))) (sym (named kind.Leader me is))
-      (by_turn leader_rules w.cluster (role kind.Leader me.index) w.kept w.roles.leaders (LedIn me.index) (still_led me.index) act (λ v i cut ran a. row_led me.index v i ran))
+      (by_turn leader_rules w.cluster (role kind.Leader me.index) w.kept w.roles.leaders (LedIn me.index) (still_led me.index) act
+      (λ v i cut ran a. row_led me.index v i ran))
   act_led act me kind.Batcher is =
       calm _ me kind.Batcher is (λ p. cc) refl (turn_keeps batcher_rules w.cluster me w.kept w.roles.batchers act) (act_kinds w act me kind.Batcher is)
-  act_led act me kind.Proxy is = calm _ me kind.Proxy is (λ p. cc) refl (turn_keeps proxy_rules w.cluster me w.kept w.roles.proxies act) (act_kinds w act me kind.Proxy is)
+  act_led act me kind.Proxy is =
+      calm _ me kind.Proxy is (λ p. cc) refl (turn_keeps proxy_rules w.cluster me w.kept w.roles.proxies act) (act_kinds w act me kind.Proxy is)
   act_led act me kind.Acceptor is =
       calm _ me kind.Acceptor is (λ p. cc) refl (turn_keeps acceptor_rules w.cluster me w.kept w.roles.acceptors act) (act_kinds w act me kind.Acceptor is)
   act_led act me kind.Matchmaker is =
-      calm _ me kind.Matchmaker is (λ p. cc) refl (turn_keeps matchmaker_rules w.cluster me w.kept w.roles.matchmakers act) (act_kinds w act me kind.Matchmaker is)
+      calm _ me kind.Matchmaker is (λ p. cc) refl (turn_keeps matchmaker_rules w.cluster me w.kept w.roles.matchmakers act)
+      (act_kinds w act me kind.Matchmaker is)
   act_led act me kind.Replica is =
       calm _ me kind.Replica is (λ p. cc) refl (turn_keeps replica_rules w.cluster me w.kept w.roles.replicas act) (act_kinds w act me kind.Replica is)
   act_led act me kind.Unbatcher is =
-      calm _ me kind.Unbatcher is (λ p. cc) refl (turn_keeps unbatcher_rules w.cluster me w.kept w.roles.unbatchers act) (act_kinds w act me kind.Unbatcher is)
+      calm _ me kind.Unbatcher is (λ p. cc) refl (turn_keeps unbatcher_rules w.cluster me w.kept w.roles.unbatchers act)
+      (act_kinds w act me kind.Unbatcher is)
   act_led act me kind.Reader is =
       calm _ me kind.Reader is (λ p. cc) refl (turn_keeps reader_rules w.cluster me w.kept w.roles.readers act) (act_kinds w act me kind.Reader is)
 
@@ -216,22 +232,26 @@ module _ (Done : Round → Type 0) (w : World) (led : AreLed Done w) where
 
 -- along a run
 
-pub run_led : (Done : Round → Type 0) (w : World) → AreLed Done w → (es : List Event) → AreLed (λ i. Done i ⊎ IsOneOf (finished_from w es) i) (run_from w es)
+pub run_led : (Done : Round → Type 0) (w : World) → AreLed Done w → (es : List Event)
+    → AreLed (λ i. Done i ⊎ IsOneOf (finished_from w es) i) (run_from w es)
 run_led Done w led [] = record { leads = λ l v e t. inl (led.leads l v e t); retires = λ i h. inl (led.retires i h) }
 run_led Done w led (e ∷ es) =
     let more = run_led (λ i. Done i ⊎ IsOneOf (finish_at w e) i) (step w e) (step_led Done w led e) es in
     record { leads = λ l v p t. joined _ (more.leads l v p t); retires = λ i h. joined i (more.retires i h) }
   where
-    joined : (i : Round) → (Done i ⊎ IsOneOf (finish_at w e) i) ⊎ IsOneOf (finished_from (step w e) es) i → Done i ⊎ IsOneOf (finish_at w e ++ finished_from (step w e) es) i
+    joined : (i : Round) → (Done i ⊎ IsOneOf (finish_at w e) i) ⊎ IsOneOf (finished_from (step w e) es) i
+        → Done i ⊎ IsOneOf (finish_at w e ++ finished_from (step w e) es) i
     joined i (inl (inl h)) = inl h
     joined i (inl (inr h)) = inr (h.0, Member-first h.0 (finish_at w e) (finished_from (step w e) es) h.1, h.2)
     joined i (inr h) = inr (h.0, Member-second h.0 (finish_at w e) (finished_from (step w e) es) h.1, h.2)
 
 -- at the start nobody leads
-fresh_leader : (c : Cluster) (count l : ℕ) (v : LeaderVolatile) → slice_get (fresh_roles (leader_rules.fresh c) count) l ≡ Some (Some v) → is_leading v.mode ≡ true → ⊥
+fresh_leader : (c : Cluster) (count l : ℕ) (v : LeaderVolatile) → slice_get (fresh_roles (leader_rules.fresh c) count) l ≡ Some (Some v)
+    → is_leading v.mode ≡ true → ⊥
 fresh_leader c zero l v e t = cc
 fresh_leader c (suc count) zero v e t =
-    true≢false (sym t ∙ ap (λ (u : LeaderVolatile). is_leading u.mode) (sym (same_Some (leader_rules.fresh c) v (same_Some (Some (leader_rules.fresh c)) (Some v) e))))
+    true≢false (sym t ∙ ap (λ (u : LeaderVolatile). is_leading u.mode)
+    (sym (same_Some (leader_rules.fresh c) v (same_Some (Some (leader_rules.fresh c)) (Some v) e))))
 fresh_leader c (suc count) (suc l) v e t = fresh_leader c count l v e t
 
 start_led : (c : Cluster) → AreLed (λ i. ⊥) (start c)
@@ -244,6 +264,7 @@ retiring_finished c es i h = elim ((run_led (λ i. ⊥) (start c) (start_led c) 
   | inr x ↦ (
     (x.0).cw,
     (x.0).end,
-    ((x.0).event, subst (λ (r : Round). Member {X = Finish} (record { event = (x.0).event; round = r; cw = (x.0).cw; end = (x.0).end }) (finished c es)) x.2 x.1),
+    ((x.0).event, subst (λ (r : Round). Member {X = Finish} (record { event = (x.0).event; round = r; cw = (x.0).cw; end = (x.0).end })
+    (finished c es)) x.2 x.1),
   )
 ]

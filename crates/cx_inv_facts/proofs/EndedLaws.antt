@@ -136,7 +136,8 @@ module _ (i : Round) (cw end : ℕ) where
         → Lands (EndedSince past i cw end) history sent states me make o
     landed history sent states h me make o fits own = record {
       whole = λ has.
-          ended_after history (with_record me o.kept history) sent (sent ++ o.sends) (kept_longer me o.kept history) (λ d m. Member-first d sent o.sends m) states h me (make o.volatile)
+          ended_after history (with_record me o.kept history) sent (sent ++ o.sends) (kept_longer me o.kept history)
+          (λ d m. Member-first d sent o.sends m) states h me (make o.volatile)
           (fits_proposed history sent o.sends fits) (fits_retiring history sent o.sends fits) own (others_keep me o.kept history);
       cut = λ r e has.
           ended_after history (entry_by me r ∷ history) sent sent (λ k m. inr m) (λ d m. m) states h me Down
@@ -171,7 +172,8 @@ module _ (i : Round) (cw end : ℕ) where
           let next = subst (λ (x : Option Record). AllNext history me x) e (leader_next c history sent states known.facts l v j) in
           let after = (leader_lands c history sent states l v j known.kinds known.facts at given).cut (kept.Round k h) e in
           let owner : me ≡ role kind.Leader k.id = after.owner me k h (inl refl) in
-          let same : config.0 ≡ me = known.facts.owner config.0 i g (known.has _ config.1) ∙ ap (λ (x : Round). role kind.Leader x.id) (sym p) ∙ sym owner in
+          let same : config.0 ≡ me = known.facts.owner config.0 i g (known.has _ config.1) ∙ ap (λ (x : Round). role kind.Leader x.id)
+          (sym p) ∙ sym owner in
           before-itself i (subst (λ x. is_before i x ≡ true) p (next i g (subst (λ a. HasKept history a (kept.Round i g)) same (known.has _ config.1))))
       not_again r s e p = cc
 
@@ -195,7 +197,8 @@ module _ (i : Round) (cw end : ℕ) where
             landed history sent states h me LeaderIn o
             (ends_on c history sent states known.kinds i cw end me dur v knows.0 knows.1 ended_leader j given).sends (after_row o.kept refl)
 
-    fresh_ended : (c : Cluster) (history : List KeptRecord) (sent : List Letter) (me : RoleId) (k : Kind) → EndedState history sent i cw end me (fresh_state c k)
+    fresh_ended : (c : Cluster) (history : List KeptRecord) (sent : List Letter) (me : RoleId) (k : Kind)
+        → EndedState history sent i cw end me (fresh_state c k)
     fresh_ended c history sent a kind.Leader = λ e. inl refl
     fresh_ended c history sent a other = tt
 
@@ -216,7 +219,9 @@ module _ (i : Round) (cw end : ℕ) where
             low = λ t v y. elim (fits_proposed history sent (request e) (request_fits history sent e) t v y) [ inl z ↦ x.low t v z | inr l ↦ l ];
             retiring = λ y. column_more history history sent (sent ++ request e) (λ k m. m) (λ d m. Member-first d sent (request e) m)
                 (elim (fits_retiring history sent (request e) (request_fits history sent e) y) [ inl z ↦ x.retiring z | inr z ↦ z ]);
-            running = λ a. state_more history history sent (sent ++ request e) (λ k m. m) (λ d m. Member-first d sent (request e) m) a refl (states a) (x.running a);
+            running = λ a.
+                state_more history history sent (sent ++ request e) (λ k m. m) (λ d m. Member-first d sent (request e) m) a refl (states a)
+                (x.running a);
           };
       batcher = λ history sent states b v j known h at given.
           calm history sent states (h known.has) (role kind.Batcher b) BatcherIn _ (λ p. cc) (batcher_kinds c (role kind.Batcher b) refl v j) tt;

@@ -51,12 +51,14 @@ AllNext history me (Some r) = IsNext history me r
 
 -- what old records say
 
-pub was_logged : (history : List KeptRecord) (me : RoleId) (old : Record) (i : Round) → logged_in old ≡ Some i → HasKept history me old → HasLog history me i
+pub was_logged : (history : List KeptRecord) (me : RoleId) (old : Record) (i : Round) → logged_in old ≡ Some i → HasKept history me old
+    → HasLog history me i
 was_logged history me (kept.Match j g) i e x = (g, inl (subst (λ k. HasMatch history me k g) (same_Some j i e) x))
 was_logged history me (kept.Garbage j g) i e x = (g, inr (subst (λ k. HasGarbage history me k g) (same_Some j i e) x))
 was_logged history me other i e x = cc
 
-pub was_promised : (history : List KeptRecord) (me : RoleId) (old : Record) (i : Round) → promised_in old ≡ Some i → HasKept history me old → HasPromise history me i
+pub was_promised : (history : List KeptRecord) (me : RoleId) (old : Record) (i : Round) → promised_in old ≡ Some i → HasKept history me old
+    → HasPromise history me i
 was_promised history me (kept.Promise j) i e x = inl (subst (λ k. HasKept history me (kept.Promise k)) (same_Some j i e) x)
 was_promised history me (kept.Vote j s cw v) i e x = inr (cw, inl (s, v, subst (λ k. HasKept history me (kept.Vote k s cw v)) (same_Some j i e) x))
 was_promised history me (kept.Water j cw) i e x = inr (cw, inr (subst (λ k. HasKept history me (kept.Water k cw)) (same_Some j i e) x))
@@ -65,19 +67,23 @@ was_promised history me other i e x = cc
 -- one that is next is later than the old ones
 
 module _ (history : List KeptRecord) (me : RoleId) where
-  begun_later : (r : Record) → IsNext history me r → (old : Record) → HasKept history me old → (i j : Round) → begun_in old ≡ Some i → begun_in r ≡ Some j → is_before i j ≡ true
+  begun_later : (r : Record) → IsNext history me r → (old : Record) → HasKept history me old → (i j : Round) → begun_in old ≡ Some i
+      → begun_in r ≡ Some j → is_before i j ≡ true
   begun_later (kept.Round k g) next (kept.Round m h) x i j e f =
       subst (λ y. is_before y j ≡ true) (same_Some m i e) (subst (λ y. is_before m y ≡ true) (same_Some k j f) (next m h x))
   begun_later (kept.Round k g) next old x i j e f = cc
   begun_later r next old x i j e f = cc
 
-  matched_later : (r : Record) → IsNext history me r → (old : Record) → HasKept history me old → (i j : Round) → logged_in old ≡ Some i → matched_in r ≡ Some j → is_before i j ≡ true
+  matched_later : (r : Record) → IsNext history me r → (old : Record) → HasKept history me old → (i j : Round) → logged_in old ≡ Some i
+      → matched_in r ≡ Some j → is_before i j ≡ true
   matched_later (kept.Match k g) next old x i j e f = subst (λ y. is_before i y ≡ true) (same_Some k j f) (next i (was_logged history me old i e x))
   matched_later r next old x i j e f = cc
 
-  promised_later : (r : Record) → IsNext history me r → (old : Record) → HasKept history me old → (i j : Round) → promised_in old ≡ Some i → promised_in r ≡ Some j → is_before j i ≡ false
+  promised_later : (r : Record) → IsNext history me r → (old : Record) → HasKept history me old → (i j : Round) → promised_in old ≡ Some i
+      → promised_in r ≡ Some j → is_before j i ≡ false
   promised_later (kept.Promise k) next old x i j e f = subst (λ y. is_before y i ≡ false) (same_Some k j f) (next i (was_promised history me old i e x))
-  promised_later (kept.Vote k s cw v) next old x i j e f = subst (λ y. is_before y i ≡ false) (same_Some k j f) (next i (was_promised history me old i e x))
+  promised_later (kept.Vote k s cw v) next old x i j e f =
+      subst (λ y. is_before y i ≡ false) (same_Some k j f) (next i (was_promised history me old i e x))
   promised_later (kept.Water k cw) next old x i j e f = subst (λ y. is_before y i ≡ false) (same_Some k j f) (next i (was_promised history me old i e x))
   promised_later r next old x i j e f = cc
 
@@ -159,7 +165,8 @@ module _ (c : Cluster) (history : List KeptRecord) (sent : List Letter) (states 
         go (inl t) k = before-to_at_least j log.watermark i t from
         go (inr t) (inl l) = l
         go (inr t) (inr (inl e)) = absurd (not_there i log.entries (entry j g) new (is_log.all j g t x) e)
-        go (inr t) (inr (inr l)) = absurd (before-both i j l (none-Member (λ (y : Entry). is_before i y.round) log.entries last (entry j g) (is_log.all j g t x)))
+        go (inr t) (inr (inr l)) =
+            absurd (before-both i j l (none-Member (λ (y : Entry). is_before i y.round) log.entries last (entry j g) (is_log.all j g t x)))
 
     -- the watermark itself has an entry
     above_watermark : ((g : Shape) × Member (entry log.watermark g) log.entries) → is_before log.watermark i ≡ true

@@ -43,15 +43,18 @@ module _ (c : Cluster) (es : List Event) where
 
   is_log : (m : ℕ) → IsLog (reverse history) (role kind.Matchmaker m) (matchmaker_of history m)
   is_log m =
-      subst (λ (d : MatchmakerDurable). IsLog (reverse history) (role kind.Matchmaker m) d) (sym (durable_by_time matchmaker_rules (role kind.Matchmaker m) history))
+      subst (λ (d : MatchmakerDurable). IsLog (reverse history) (role kind.Matchmaker m) d)
+      (sym (durable_by_time matchmaker_rules (role kind.Matchmaker m) history))
       (facts.logs (role kind.Matchmaker m))
 
   -- a matchmaker that recorded a later round will not record this one any more
-  later_closes : (m : ℕ) (j i : Round) (g : Shape) → is_before j i ≡ true → HasMatch (reverse history) (role kind.Matchmaker m) i g → is_closed (matchmaker_of history m) j ≡ true
+  later_closes : (m : ℕ) (j i : Round) (g : Shape) → is_before j i ≡ true → HasMatch (reverse history) (role kind.Matchmaker m) i g
+      → is_closed (matchmaker_of history m) j ≡ true
   later_closes m j i g l x = elim (cases_Bool (is_before i (matchmaker_of history m).watermark)) [
     | inl t ↦ or_left _ _ (before-trans j i (matchmaker_of history m).watermark l t)
     | inr f ↦ or_right (is_before j (matchmaker_of history m).watermark) _
-        (Member-any (λ (e : Entry). not (is_before e.round j)) (entry i g) (matchmaker_of history m).entries ((is_log m).all i g f x) (ap (λ b. not b) (before-not j i l)))
+        (Member-any (λ (e : Entry). not (is_before e.round j)) (entry i g) (matchmaker_of history m).entries ((is_log m).all i g f x)
+        (ap (λ b. not b) (before-not j i l)))
   ]
 
   match_in : (j : Round) (r : Record) → is_match_of j r ≡ true → (g : Shape) × (r ≡ kept.Match j g)
@@ -71,15 +74,18 @@ module _ (c : Cluster) (es : List Event) where
     -- an open round isn't shut
     not_shut : IsShut c (reverse history) j → ⊥
     not_shut x =
-        let k = most_meet c (λ m. has_matched history m j || not (is_closed (matchmaker_of history m) j)) x.who (let o = h.is_open in omega arith) x.most in
+        let k = most_meet c (λ m. has_matched history m j || not (is_closed (matchmaker_of history m) j)) x.who
+        (let o = h.is_open in omega arith) x.most in
         elim (or_cases (has_matched history k.0 j) (not (is_closed (matchmaker_of history k.0) j)) k.2) [
           | inl t ↦ (let r = recorded k.0 j t in x.never k.0 k.3 r.0 r.1)
           | inr t ↦ (let r = x.later k.0 k.3 in true≢false (sym (later_closes k.0 j r.0 r.1 r.2 r.3) ∙ not-true (is_closed (matchmaker_of history k.0) j) t))
         ]
 
     -- a member that promised a later round did so for good
-    bound : (a : ℕ) → is_before j (acceptor_of history a).promise ≡ false → (i : Round) → is_before j i ≡ true → HasPromise (reverse history) (role kind.Acceptor a) i → ⊥
-    bound a low i l x = before-both j (acceptor_of history a).promise (before-to_at_least j i (acceptor_of history a).promise l ((acceptor_is c es a).bound i x)) low
+    bound : (a : ℕ) → is_before j (acceptor_of history a).promise ≡ false → (i : Round) → is_before j i ≡ true
+        → HasPromise (reverse history) (role kind.Acceptor a) i → ⊥
+    bound a low i l x =
+        before-both j (acceptor_of history a).promise (before-to_at_least j i (acceptor_of history a).promise l ((acceptor_is c es a).bound i x)) low
 
     settled_same : (v : Value) → IsSettled (reverse history) j s v → u ≡ v
     settled_same v x =
@@ -104,10 +110,12 @@ module _ (c : Cluster) (es : List Event) where
         differ : Noop ≡ Batch [] → ⊥
         differ e = cc
 
-  open_proposed : (i : Round) (cw end : ℕ) → IsFinished c es i cw end → (j : Round) (s : ℕ) (v : Value) → is_before j i ≡ true → cw ≤ s → CanBeChosen c history j s v
+  open_proposed : (i : Round) (cw end : ℕ) → IsFinished c es i cw end → (j : Round) (s : ℕ) (v : Value) → is_before j i ≡ true → cw ≤ s
+      → CanBeChosen c history j s v
       → (s < end) × IsProposed (run c es).sent i s v
   open_proposed i cw end finish j s v l from h = ⊎_elim
-      (λ k. let x = (finished_round c es i cw end finish).filled s from k in (k, subst (λ u. IsProposed (run c es).sent i s u) (sym (open_agrees c es i j s x.0 v l x.1 h)) x.1))
+      (λ k. let x = (finished_round c es i cw end finish).filled s from k in
+      (k, subst (λ u. IsProposed (run c es).sent i s u) (sym (open_agrees c es i j s x.0 v l x.1 h)) x.1))
       (λ k. absurd (not_all_safe j s v h i l (λ u. (finished_round c es i cw end finish).free s u k)))
       (cases_lt s end)
 

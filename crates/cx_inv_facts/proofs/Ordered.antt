@@ -27,8 +27,12 @@ module _ (history : List KeptRecord) (sent : List Letter) (states : RoleId → S
   one_more : (r : Record) → IsNext history me r → Each LaterOfOne (entry_by me r ∷ history)
   one_more r next = (λ k m e. is_later history me r next k.what (subst (λ (a : RoleId). Member (entry_by a k.what) history) e m), h)
 
-  in_order : {V : Type 0} (make : V → State) (o : Outcome V) (r : Option Record) → o.kept ≡ r → AllNext history me r → Lands Ordered history sent states me make o
-  in_order make o None e next = record { whole = subst (λ (x : Option Record). Each LaterOfOne (with_record me x history)) (sym e) h; cut = λ r p. absurd (none_some r (sym e ∙ p)) }
+  in_order : {V : Type 0} (make : V → State) (o : Outcome V) (r : Option Record) → o.kept ≡ r → AllNext history me r
+      → Lands Ordered history sent states me make o
+  in_order make o None e next = record {
+    whole = subst (λ (x : Option Record). Each LaterOfOne (with_record me x history)) (sym e) h;
+    cut = λ r p. absurd (none_some r (sym e ∙ p));
+  }
     where
       none_some : (r : Record) → None ≡ Some r → ⊥
       none_some r p = cc
@@ -48,15 +52,23 @@ ordered_laws c = record {
   stop = λ history sent states me h. h;
   wake = λ history sent states me h down. h;
   ask = λ history sent states e allowed facts h. h;
-  batcher = λ history sent states b v i facts h is given. calm history sent states h (role kind.Batcher b) BatcherIn _ tt (batcher_kinds c (role kind.Batcher b) refl v i);
-  leader = λ history sent states l v i facts h is given. in_order history sent states h (role kind.Leader l) LeaderIn _ _ refl (leader_next c history sent states facts l v i);
-  proxy = λ history sent states p v i facts h is given. calm history sent states h (role kind.Proxy p) ProxyIn _ tt (proxy_kinds c (role kind.Proxy p) refl v i);
-  acceptor = λ history sent states a i facts h is given. in_order history sent states h (role kind.Acceptor a) plain _ _ refl (acceptor_next c history sent states facts a i);
-  matchmaker = λ history sent states m i facts h is given. in_order history sent states h (role kind.Matchmaker m) plain _ _ refl (matchmaker_next c history sent states facts m i);
+  batcher = λ history sent states b v i facts h is given.
+      calm history sent states h (role kind.Batcher b) BatcherIn _ tt (batcher_kinds c (role kind.Batcher b) refl v i);
+  leader = λ history sent states l v i facts h is given.
+      in_order history sent states h (role kind.Leader l) LeaderIn _ _ refl (leader_next c history sent states facts l v i);
+  proxy = λ history sent states p v i facts h is given.
+      calm history sent states h (role kind.Proxy p) ProxyIn _ tt (proxy_kinds c (role kind.Proxy p) refl v i);
+  acceptor = λ history sent states a i facts h is given.
+      in_order history sent states h (role kind.Acceptor a) plain _ _ refl (acceptor_next c history sent states facts a i);
+  matchmaker = λ history sent states m i facts h is given.
+      in_order history sent states h (role kind.Matchmaker m) plain _ _ refl (matchmaker_next c history sent states facts m i);
   replica = λ history sent states p v i facts h is given.
-      calm history sent states h (role kind.Replica p) ReplicaIn _ tt (replica_kinds c (role kind.Replica p) refl (durable_of replica_rules (role kind.Replica p) history) v i);
-  unbatcher = λ history sent states u i facts h is given. calm history sent states h (role kind.Unbatcher u) plain _ tt (unbatcher_kinds c (role kind.Unbatcher u) refl i);
-  reader = λ history sent states r v i facts h is given. calm history sent states h (role kind.Reader r) ReaderIn _ tt (reader_kinds c (role kind.Reader r) refl v i);
+      calm history sent states h (role kind.Replica p) ReplicaIn _ tt
+      (replica_kinds c (role kind.Replica p) refl (durable_of replica_rules (role kind.Replica p) history) v i);
+  unbatcher = λ history sent states u i facts h is given.
+      calm history sent states h (role kind.Unbatcher u) plain _ tt (unbatcher_kinds c (role kind.Unbatcher u) refl i);
+  reader = λ history sent states r v i facts h is given.
+      calm history sent states h (role kind.Reader r) ReaderIn _ tt (reader_kinds c (role kind.Reader r) refl v i);
 }
 
 pub ordered : (c : Cluster) (es : List Event) → HoldsIn Ordered (run c es)

@@ -69,7 +69,8 @@ module _ (w : World) (P : Change → Type 0)
 
   pub by_event : (e : Event) → P (change w e)
   by_event (event.Write command batcher) =
-      let t : Token = record { client = command.client; seq = command.seq } in asked (event.Write command batcher) t (is_stale t (event.Write command batcher) w.events)
+      let t : Token = record { client = command.client; seq = command.seq } in asked (event.Write command batcher) t
+      (is_stale t (event.Write command batcher) w.events)
   by_event (event.Read client seq reader replica key) =
       let t : Token = record { client = client; seq = seq } in
       asked (event.Read client seq reader replica key) t (is_stale t (event.Read client seq reader replica key) w.events)
@@ -91,10 +92,12 @@ pub record IsStill {V : Type 0} (me : RoleId) (fresh : V) (roles : List (Option 
 module _ {D V : Type 0} (rules : Rules D V) (c : Cluster) (me : RoleId) (history : List KeptRecord) (roles : List (Option V)) where
   -- who runs after one role was set
 
-  set_cases : (running after : Option V) → slice_get roles me.index ≡ Some running → (l : ℕ) (v : V) → slice_get (slice_set roles me.index after) l ≡ Some (Some v)
+  set_cases : (running after : Option V) → slice_get roles me.index ≡ Some running → (l : ℕ) (v : V)
+      → slice_get (slice_set roles me.index after) l ≡ Some (Some v)
       → ((l ≡ me.index) × (after ≡ Some v)) ⊎ ((l ≡ me.index → ⊥) × (slice_get roles l ≡ Some (Some v)))
   set_cases running after e l v f = ⊎_elim
-      (λ p. inl (p, same_Some after (Some v) (sym (get_set_same roles me.index running after e) ∙ subst (λ k. slice_get (slice_set roles me.index after) k ≡ Some (Some v)) p f)))
+      (λ p. inl (p, same_Some after (Some v) (sym (get_set_same roles me.index running after e) ∙ subst
+      (λ k. slice_get (slice_set roles me.index after) k ≡ Some (Some v)) p f)))
       (λ d. inr (d, sym (get_set_other roles me.index l after d) ∙ f))
       (cases_eq l me.index)
 
@@ -147,7 +150,8 @@ module _ {D V : Type 0} (rules : Rules D V) (c : Cluster) (me : RoleId) (history
           → P (turn_done me roles (turn rules c me (durable_part rules me history) x running))
       acted (Give i cut) a None e = still _ (stays why.Down None None e (λ p. cc) (λ v p. inr p))
       acted (Give i cut) a (Some v) e =
-          cut_turns cut (rules.row c me (durable_part rules me history) v i) ((rules.row c me (durable_part rules me history) v i).kept) v e (rows v i cut e a)
+          cut_turns cut (rules.row c me (durable_part rules me history) v i) ((rules.row c me (durable_part rules me history) v i).kept) v e
+          (rows v i cut e a)
       acted Stop a None e = still _ (stays why.Down None None e (λ p. cc) (λ v p. inr p))
       acted Stop a (Some v) e = still _ (stopped why.Crashed None (Some v) e (λ p. cc))
       acted Wake a None e = still _ (stays why.Opened None (Some (rules.fresh c)) e (λ p. cc) (λ v p. inl (sym (same_Some (rules.fresh c) v p))))
