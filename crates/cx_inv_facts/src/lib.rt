@@ -1,6 +1,7 @@
 //! The facts from which the hard property follows, as they are published: each holds at every moment of every run.
 //!
-//! Stands on the model, on how properties of runs are proved, and on agreement, whose inductive facts say most of them. What is
+//! Stands on the model, on how properties of runs are proved, on agreement, whose inductive facts say most of them, and, for those on
+//! watermarks and on reads, on cx_inv_held and cx_inv_read. What is
 //! added here: roles keep their records in order, and which first phases were done.
 #![tactic(auto)]
 
