@@ -1,5 +1,5 @@
 -- The next slot of the chosen prefix.
-use Rattle.std.proofs.Common.{◌≡◌, ℕ, suc, ◌+◌, ◌-◌, ◌<◌, ◌∷◌, List, Some, arith, refl}
+use Rattle.std.proofs.Common.{◌≡◌, ℕ, suc, ◌+◌, ◌-◌, ◌<◌, [], ◌∷◌, List, None, Some, arith, refl}
 use Rattle.cx_base.specs.declared.command.Value.{Value}
 use Rattle.cx_model.specs.Chosen.{chosen_at, prefix_from}
 use Rattle.cx_msg.specs.declared.input.KeptRecord.{KeptRecord}
@@ -7,4 +7,8 @@ use Rattle.cx_msg.specs.declared.input.KeptRecord.{KeptRecord}
 pub prefix_step : (history : List KeptRecord) (slot count : ℕ) (v : Value) → slot < count → chosen_at history slot ≡ Some v
     → prefix_from history slot (count - slot) ≡ v ∷ prefix_from history (slot + 1) (count - (slot + 1))
 prefix_step history slot count v below chosen =
+    let e : count - slot ≡ suc (count - (slot + 1)) = omega arith in rw (e, chosen) refl
+
+pub prefix_end : (history : List KeptRecord) (slot count : ℕ) → slot < count → chosen_at history slot ≡ None → prefix_from history slot (count - slot) ≡ []
+prefix_end history slot count below chosen =
     let e : count - slot ≡ suc (count - (slot + 1)) = omega arith in rw (e, chosen) refl

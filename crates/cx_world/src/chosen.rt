@@ -1,6 +1,6 @@
 //! What is chosen, computed from the kept votes and rounds alone.
 
-ghost use Rattle.std.specs.Prelude.{◌≡◌, ◌<◌, ◌&&◌, IfOk, None};
+ghost use Rattle.std.specs.Prelude.{◌≡◌, ◌<◌, ◌&&◌, ◌++◌, IfOk, OnOk, None};
 ghost use Rattle.std.specs.List.{list_all, list_any};
 ghost use Rattle.std.specs.Option.{option_map};
 ghost use Rattle.cx_base.specs.Lists.{below};
@@ -10,6 +10,7 @@ ghost use Rattle.cx_grid.specs.Quorum.{column_of};
 ghost use Rattle.cx_model.specs.Chosen.{is_vote, has_vote, is_chosen_in, is_chosen_by, is_chosen, chosen_vote, chosen_at, chosen_prefix};
 ghost use Rattle.cx_msg.specs.declared.input.KeptRecord.{KeptRecord};
 
+use crate::sorted::{rounds, votes_by_slot};
 use cx_base::{Duplicate, Grid, Kind, NoMemory, RoleId, Round, Value, Values, same_value};
 use cx_grid::meet;
 use cx_msg::{KeptRecord, Record};
@@ -111,14 +112,36 @@ fn chosen_at(kept: &[KeptRecord], at: u64) -> Option<&Value>
     None
 }
 
+// The value chosen in a slot by the rounds and the slot's votes, which are used up.
+fn chosen_among(
+    alloc: Global,
+    rounds: &mut Vec<KeptRecord>,
+    votes: &mut Vec<KeptRecord>,
+    at: u64,
+) -> Result<Option<Value>, NoMemory>
+    ensures chosen { IfOk result (λ chosen. chosen ≡ chosen_at (rounds.old.items ++ votes.old.items) at) }
+    ensures rounds { OnOk result (rounds.new.items ≡ rounds.old.items) }
+{
+    let count = rounds.len();
+    rounds.append(votes)?;
+    let chosen = match chosen_at(rounds, at) {
+        Some(value) => Some(value.copy(alloc)?),
+        None => None,
+    };
+    rounds.truncate(count);
+    Ok(chosen)
+}
+
 /// The values chosen in slot 0, 1 and so on, up to the first slot without one.
 pub fn chosen_prefix(alloc: Global, kept: &[KeptRecord]) -> Result<Values, NoMemory>
     ensures { IfOk result (λ values. values ≡ chosen_prefix kept.now) }
 {
+    let mut rounds = rounds(alloc, kept)?;
+    let mut votes = votes_by_slot(alloc, kept)?;
     let mut values = Vec::new(alloc);
     for slot in 0..kept.len() {
-        match chosen_at(kept, slot as u64) {
-            Some(value) => values.push(value.copy(alloc)?)?,
+        match chosen_among(alloc, &mut rounds, &mut votes[slot], slot as u64)? {
+            Some(value) => values.push(value)?,
             None => return Ok(Values::from_vec(values)),
         }
     }

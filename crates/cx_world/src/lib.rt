@@ -11,6 +11,7 @@ mod counts;
 mod folded;
 mod history;
 mod seat;
+mod sorted;
 mod stale;
 mod world;
 

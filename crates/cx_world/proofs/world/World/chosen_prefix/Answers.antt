@@ -1,4 +1,4 @@
-use Rattle.std.proofs.Common.{◌≡◌, false, List, ap, sym, ◌∙◌}
+use Rattle.std.proofs.Common.{◌≡◌, List, ap, sym, ◌∙◌}
 use Rattle.cx_base.specs.declared.command.Value.{Value}
 use Rattle.cx_model.specs.Chosen.{chosen_prefix}
 use Rattle.cx_model.specs.World.{World}
