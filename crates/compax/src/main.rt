@@ -2,7 +2,8 @@
 //! are made from a seed. What comes of the run goes to standard output.
 //!
 //! Stands on cx_replay. Its theorem is the contract of `top`: Done only with the whole text of the run that was asked for on
-//! the sink, and every other status exactly by its cause.
+//! the sink, and every other status exactly by its cause; and the run is lawful: no slot has two chosen values, each replica
+//! holds the beginning of one command list, every answer is that list's, and reads are fresh.
 #![tactic(auto)]
 
 ghost use Rattle.std.specs.Prelude.{IfErr};

@@ -2,7 +2,8 @@
 //!
 //! Stands on the world, the grammar of schedules and the text of runs; the program stands on it. Its theorems are the contracts
 //! of `replay` and `run_gen`: what was written is the trace and the summary of the input's own run, or the short summary of the
-//! run of a seed's events, or it says why it stopped. `replay` names the first bad line, behind the trace of those before it.
+//! run of a seed's events, or it says why it stopped; and the run is lawful. `replay` names the first bad line, behind the trace of
+//! those before it.
 #![tactic(auto)]
 
 mod generating;
