@@ -1,0 +1,5 @@
+pub mod Crash
+pub mod Gates
+pub mod Payloads
+pub mod Reading
+pub mod Breaks

@@ -1,0 +1,4 @@
+pub mod Found
+pub mod Image
+pub mod Journal
+pub mod Payload

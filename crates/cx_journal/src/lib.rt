@@ -1,0 +1,10 @@
+//! The journal of a role: its records on a disk, which outlive a crash at any moment.
+//!
+//! Stands on disks, on the records of cx_msg and on keepers; the node stands on it.
+#![tactic(auto)]
+
+mod image;
+mod payload;
+mod split;
+
+pub use image::{Found, found_in};
