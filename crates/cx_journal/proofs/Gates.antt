@@ -6,10 +6,13 @@ use Rattle.cx_msg.specs.declared.kept.Record.{Record}
 use Rattle.cx_msg.specs.Records.{spelling}
 use Rattle.std.specs.Prelude.{Option}
 use Rattle.cx_journal.specs.Payload.{payloads, is_kept_by, all_kept_by}
-use Rattle.cx_journal.specs.Journal.{frame, frames, gates_from}
+use Rattle.cx_journal.specs.Journal.{body, frame, frames, gates_from}
 
 pub length-frame : (p : List ℕ) → length (frame p) ≡ 5 + length p
 length-frame p = omega arith
+
+pub length-body : (p : List ℕ) → length (body p) ≡ 5 + length p
+length-body p = omega (arith, length-append p (0 ∷ []))
 
 pub gates-push : (at : ℕ) (ps : List (List ℕ)) (p : List ℕ) → gates_from at (ps ++ p ∷ []) ≡ gates_from at ps ++ (at + length (frames (ps ++ p ∷ []))) ∷ []
 gates-push at [] p =

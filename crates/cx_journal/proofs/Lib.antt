@@ -1,5 +1,10 @@
+pub mod Append
+pub mod Breaks
 pub mod Crash
 pub mod Gates
+pub mod Moments
 pub mod Payloads
 pub mod Reading
-pub mod Breaks
+pub mod RecordSizes
+pub mod Recoveries
+pub mod Spelled

@@ -49,7 +49,7 @@ kept_so k payload r tagged spelled fit =
     let tag : may_keep k (record_shape r).tag ≡ true = subst (λ n. may_keep k n ≡ true) (ap (λ p. slice_index p 0) spelled ∙ first_byte r) tagged in
     rw (fit, tag) refl
 
-both_so : (a b : Bool) → (a && b) ≡ true → (a ≡ true) × (b ≡ true)
+pub both_so : (a b : Bool) → (a && b) ≡ true → (a ≡ true) × (b ≡ true)
 both_so true true h = (refl, refl)
 both_so true false h = absurd cc
 both_so false true h = absurd cc

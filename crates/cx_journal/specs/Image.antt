@@ -49,3 +49,7 @@ image k bytes = if nat_lt 1 (length bytes) then image_at k (length bytes) 0 byte
 pub record IsBreak (k : Option Kind) (bytes : List ℕ) (at : ℕ) (byte : Option ℕ) : Type 0 where
   pub place : image k bytes ≡ Err at
   pub there : byte ≡ slice_get bytes at
+
+-- the same records or the same break, for each kind of role
+abbrev pub SameImage : List ℕ → List ℕ → Type 0
+SameImage bytes file = (k : Option Kind) → image k bytes ≡ image k file

@@ -1,6 +1,8 @@
 //! The records in the bytes of a journal.
-ghost use Rattle.std.specs.Prelude.{◌≡◌, ◌+◌, ◌<◌, ◌≤◌, ◌^◌, [], ◌∷◌, ◌++◌, length, true, Ok, IfOk, OnOk, IfErr, MatchResult};
+ghost use Rattle.std.specs.Prelude.{◌≡◌, ◌+◌, ◌<◌, ◌≤◌, ◌^◌, [], ◌∷◌, ◌++◌, length, true, Ok, Err, IfOk, OnOk, IfErr, MatchResult};
+ghost use Rattle.cx_keeper.specs.declared.keeper.OpenFault.TheVariants as fault;
 ghost use Rattle.cx_journal.specs.Found.{IsRead, IsStopAt, IsFound, IsFaultOf};
+ghost use Rattle.cx_journal.specs.Image.{image};
 ghost use Rattle.cx_msg.specs.Records.{spelling};
 ghost use Rattle.cx_journal.specs.Payload.{payload_read, is_kept_by};
 
@@ -109,14 +111,31 @@ fn records_in(alloc: Global, kind: Option<Kind>, bytes: &[u8]) -> Result<Found, 
     }
 }
 
+/// No records, behind one closed gate at the front.
+pub(crate) fn first_gate(alloc: Global) -> Result<Found, NoMemory>
+    ensures none { IfOk result (λ f. f.records.items ≡ []) }
+    ensures gates { IfOk result (λ f. f.gates.items ≡ 0 ∷ []) }
+    ensures gate { IfOk result (λ f. f.gate ≡ 0) }
+{
+    let mut gates = Vec::new(alloc);
+    push_gate(&mut gates, 0)?;
+    Ok(Found {
+        records: Vec::new(alloc),
+        gates,
+        gate: 0,
+    })
+}
+
 /// The records of at least two bytes, for a role of the kind or of any kind. `NotJournal` names the first break: a length out of
 /// 1..=32,768 at its first byte; a tag or a field that is bad, at its first byte; bytes that are left in a payload, at the
 /// first of them; the end where a length, a payload or a gate should be, with no byte.
-pub fn found_in(alloc: Global, kind: Option<Kind>, bytes: &[u8]) -> Result<Found, OpenFault>
+pub(crate) fn found_in(alloc: Global, kind: Option<Kind>, bytes: &[u8]) -> Result<Found, OpenFault>
     requires least { 2 ≤ length bytes.now }
     requires most { length bytes.now < 2 ^ 63 }
     ensures found { IfOk result (λ f. IsFound kind bytes.now f) }
+    ensures image { IfOk result (λ f. image kind bytes.now ≡ Ok f.records.items) }
     ensures broken { IfErr result (IsFaultOf kind bytes.now) }
+    ensures cause { result ≡ Err fault.Failed → ⊥ }
 {
     match records_in(alloc, kind, bytes) {
         Ok(found) => Ok(found),

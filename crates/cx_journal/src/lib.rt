@@ -3,8 +3,10 @@
 //! Stands on disks, on the records of cx_msg and on keepers; the node stands on it.
 #![tactic(auto)]
 
+mod adding;
 mod image;
 mod payload;
+mod recovery;
 mod split;
 
-pub use image::{Found, found_in};
+pub use image::Found;
