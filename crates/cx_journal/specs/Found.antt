@@ -34,3 +34,9 @@ abbrev pub IsFaultOf : Option Kind → List ℕ → OpenFault → Type 0
 IsFaultOf k bytes (fault.NotJournal at byte) = IsBreak k bytes at byte
 IsFaultOf k bytes fault.Failed = Unit {0}
 IsFaultOf k bytes fault.NoMemory = Unit {0}
+
+-- the outside failed, or memory was wanting
+abbrev pub IsOutside : OpenFault → Type 0
+IsOutside (fault.NotJournal at byte) = ⊥
+IsOutside fault.Failed = Unit {0}
+IsOutside fault.NoMemory = Unit {0}

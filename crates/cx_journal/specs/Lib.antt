@@ -2,3 +2,4 @@ pub mod Found
 pub mod Image
 pub mod Journal
 pub mod Payload
+pub mod State

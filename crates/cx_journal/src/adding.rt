@@ -1,5 +1,5 @@
 //! A record put behind the closed gate: its bytes first, then the gate, each with a sync of its own.
-ghost use Rattle.std.specs.Prelude.{◌≡◌, ◌+◌, ◌<◌, ◌≤◌, ◌++◌, [], ◌∷◌, max, is_some, IsTrue, List, ℕ, Some, length, IfOk, OnOk, IsErrOf};
+ghost use Rattle.std.specs.Prelude.{◌≡◌, ◌+◌, ◌<◌, ◌≤◌, ◌++◌, [], ◌∷◌, max, is_some, IsTrue, List, ℕ, Some, length, IfOk, IfErr, OnOk, IsErrOf};
 ghost use Rattle.cx_base.specs.Faults.{Rises};
 ghost use Rattle.cx_msg.specs.Records.{fits, spelling};
 ghost use Rattle.cx_disk.specs.Disk.{written, Torn, Only, LeavesOnly, HasCause};
@@ -78,4 +78,38 @@ pub(crate) fn append_at<D: Disk>(
         Err(_) => return Err(KeepFault::Failed),
     }
     Ok(gate + bytes.len() as u64)
+}
+
+/// The same, with the place of the next gate put behind the others.
+pub(crate) fn append_in<D: Disk>(
+    alloc: Global,
+    disk: &mut D,
+    gates: &mut Vec<u64>,
+    gate: u64,
+    what: &Record,
+) -> Result<u64, KeepFault>
+    requires gate { gate < D.size disk.old }
+    ensures kept { (payloads : List (List ℕ)) → IsAtRest D.seen D.may_leave disk.old gate payloads
+        → IfOk result (λ next. IsAtRest D.seen D.may_leave disk.new next (payloads ++ spelling what.now ∷ [])) }
+    ensures any_moment { (payloads : List (List ℕ)) → IsAtRest D.seen D.may_leave disk.old gate payloads
+        → LeavesOnly D.moment D.left_since disk.old disk.new (IsBeforeOrAfter payloads (spelling what.now)) }
+    ensures gates { IfOk result (λ next. gates.new.items ≡ gates.old.items ++ next ∷ []) }
+    ensures same_gates { IfErr result (λ _. gates.new.items ≡ gates.old.items) }
+    ensures gate { IfOk result (λ next. next < D.size disk.new) }
+    ensures tells { is_some (D.seen disk.new) ≡ is_some (D.seen disk.old) }
+    ensures later { D.faults disk.old ≤ D.faults disk.new }
+    ensures failed { IsErrOf result KeepFault.Failed → Rises (D.faults disk.old) (D.faults disk.new) }
+    ensures no_memory { IsErrOf result KeepFault.NoMemory → disk.new ≡ disk.old }
+{
+    match gates.reserve(1) {
+        Ok(()) => {}
+        Err(_) => return Err(KeepFault::NoMemory),
+    }
+    match append_at(alloc, disk, gate, what) {
+        Ok(next) => {
+            gates.push_reserved(next);
+            Ok(next)
+        }
+        Err(fault) => Err(fault),
+    }
 }

@@ -5,8 +5,10 @@
 
 mod adding;
 mod image;
+mod journal;
 mod payload;
 mod recovery;
 mod split;
 
 pub use image::Found;
+pub use journal::Journal;

@@ -48,6 +48,9 @@ pub(crate) fn read_disk<D: Disk>(
     ensures gates { IfOk result (λ f. f.gates.items ≡ gates_from 0 (payloads f.records.items)) }
     ensures broken { (file : List ℕ) → D.seen disk.old ≡ Some file → IfErr result (IsFaultOf kind file) }
 
+    // What a read gives keeps its image, also where the call fails.
+    ensures same { (file now : List ℕ) → D.seen disk.old ≡ Some file → D.seen disk.new ≡ Some now → SameImage now file }
+
     // A crash in the call leaves what one before it might have left, or bytes with the same image.
     ensures any_moment { (file : List ℕ) → D.seen disk.old ≡ Some file
         → LeavesOnly D.moment D.left_since disk.old disk.new (λ c. D.may_leave disk.old c ⊎ SameImage c file) }
