@@ -8,8 +8,10 @@
 mod disk;
 mod making;
 mod memory;
+mod telling;
 #[cfg(test)]
 mod tests;
 
 pub use disk::{Disk, Failed};
 pub use memory::{Call, MemDisk};
+pub use telling::TellingDisk;
