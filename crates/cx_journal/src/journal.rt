@@ -25,7 +25,7 @@ pub struct Journal<D: Disk> {
     disk: D,
     gates: Vec<u64>,
     gate: u64,
-    whole: bool,
+    pub(crate) whole: bool,
 }
 
 impl<D: Disk> Model for Journal<D> {

@@ -6,6 +6,7 @@
 mod adding;
 mod image;
 mod journal;
+mod keeping;
 mod payload;
 mod recovery;
 mod split;
