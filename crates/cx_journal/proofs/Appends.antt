@@ -62,12 +62,12 @@ module _ {D : Type 0} (seen : D → Option (List ℕ)) (may_leave : D → List �
           (λ told. new_rests (told_too (seen old.disk) (seen new) tells told))
           (λ told. one_more_fits (told_too (seen old.disk) (seen new) tells told))
           (λ told.
-              let was = told_too (seen old.disk) (seen new) tells told in
-              let rest = new_rests was in
-              let ps : payloads (before old ++ r ∷ []) ≡ payloads (before old) ++ spelling r ∷ [] = payloads-push (before old) r in
-              let place : next ≡ 0 + length (frames (payloads (before old) ++ spelling r ∷ [])) = omega (arith, rest.place, ap (λ qs. length (frames qs)) ps) in
-              more ∙ ap (λ gs. gs ++ next ∷ []) (ready.gates_are whole was) ∙ ap (λ (n : ℕ). gates_from 0 (payloads (before old)) ++ n ∷ []) place
-              ∙ sym (gates-push 0 (payloads (before old)) (spelling r)) ∙ ap (gates_from 0) (sym ps))
+          let was = told_too (seen old.disk) (seen new) tells told in
+          let rest = new_rests was in
+          let ps : payloads (before old ++ r ∷ []) ≡ payloads (before old) ++ spelling r ∷ [] = payloads-push (before old) r in
+          let place : next ≡ 0 + length (frames (payloads (before old) ++ spelling r ∷ [])) = omega (arith, rest.place, ap (λ qs. length (frames qs)) ps) in
+          more ∙ ap (λ gs. gs ++ next ∷ []) (ready.gates_are whole was) ∙ ap (λ (n : ℕ). gates_from 0 (payloads (before old)) ++ n ∷ []) place
+          ∙ sym (gates-push 0 (payloads (before old)) (spelling r)) ∙ ap (gates_from 0) (sym ps))
 
     -- after one that failed
     module _ (counts_now : (disk : D) (t : ℕ) (c : List ℕ) → t ≤ moment disk → may_leave disk c → left_since disk t c) (told_is_left : (disk : D) (file : List ℕ) → seen disk ≡ Some file → may_leave disk file)
@@ -85,5 +85,5 @@ module _ {D : Type 0} (seen : D → Option (List ℕ)) (may_leave : D → List �
       broken_so gates gate =
           broken_from seen may_leave size (record { disk = new; gates = gates; gate = gate; whole = false }) refl
           (λ file is.
-              let told : Tells old = told_too (seen old.disk) (seen new) tells (rw is refl) in
-              ⊎_elim (λ s. (before old, ready.fit told, s None (ready.fit told))) (λ s. (before old ++ r ∷ [], one_more_fits told, s None (one_more_fits told))) (either told file is))
+          let told : Tells old = told_too (seen old.disk) (seen new) tells (rw is refl) in
+          ⊎_elim (λ s. (before old, ready.fit told, s None (ready.fit told))) (λ s. (before old ++ r ∷ [], one_more_fits told, s None (one_more_fits told))) (either told file is))

@@ -29,12 +29,7 @@ pub struct Found {
 }
 
 /// The record of a payload that begins at a place.
-fn record_at(
-    alloc: Global,
-    kind: Option<Kind>,
-    payload: &[u8],
-    at: usize,
-) -> Result<Record, Stop>
+fn record_at(alloc: Global, kind: Option<Kind>, payload: &[u8], at: usize) -> Result<Record, Stop>
     requires some { 0 < length payload.now }
     requires most { at + length payload.now < 2 ^ 63 }
     ensures read { MatchResult result (λ r. payload_read kind payload.now ≡ Ok r) (IsStopAt at (payload_read kind payload.now)) }

@@ -13,3 +13,6 @@ mod split;
 
 pub use image::Found;
 pub use journal::Journal;
+
+#[cfg(test)]
+mod tests;

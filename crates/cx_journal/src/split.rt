@@ -67,7 +67,7 @@ pub(crate) fn first_record(
     ensures image { MatchResult result
         (λ o. MatchOption o (image_at kind (length left.now) at left.now ≡ Ok [])
         (λ s. image_at kind (length left.now) at left.now
-            ≡ with_first (at + 5) (payload_read kind s.payload.now) (image_at kind (length s.after.now) (at + (5 + length s.payload.now)) s.after.now)))
+        ≡ with_first (at + 5) (payload_read kind s.payload.now) (image_at kind (length s.after.now) (at + (5 + length s.payload.now)) s.after.now)))
         (λ e. image_at kind (length left.now) at left.now ≡ Err e) }
     ensures lengths { IfOk result (λ o. IfSome o (λ s. 5 + length s.payload.now + length s.after.now ≡ length left.now)) }
     ensures spelled { IfOk result (λ o. MatchOption o (StandsFor [] left.now) (λ s. left.now ≡ frame s.payload.now ++ s.after.now)) }
