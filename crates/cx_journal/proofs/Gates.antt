@@ -1,10 +1,10 @@
 -- Where the gates stand.
-use Rattle.std.proofs.Common.{◌≡◌, ℕ, ◌+◌, List, [], ◌∷◌, ◌++◌, length, map, refl, sym, ◌∙◌, ap, arith, length-append, true, false, Bool, ◌&&◌}
+use Rattle.std.proofs.Common.{◌≡◌, ℕ, zero, suc, ◌+◌, ◌<◌, take, List, [], ◌∷◌, ◌++◌, length, map, refl, sym, ◌∙◌, ap, arith, length-append, true, false, Bool, ◌&&◌}
 use Rattle.std.specs.List.{list_all}
 use Rattle.cx_base.specs.declared.role.Kind.{Kind}
 use Rattle.cx_msg.specs.declared.kept.Record.{Record}
 use Rattle.cx_msg.specs.Records.{spelling}
-use Rattle.std.specs.Prelude.{Option}
+use Rattle.std.specs.Prelude.{Option, slice_index}
 use Rattle.cx_journal.specs.Payload.{payloads, is_kept_by, all_kept_by}
 use Rattle.cx_journal.specs.Journal.{body, frame, frames, gates_from}
 
@@ -35,3 +35,11 @@ all_kept-push k (q ∷ rs) r all one =
     both_are : (a b : Bool) → (a && b) ≡ true → (a ≡ true) × (b ≡ true)
     both_are true b h = (refl, h)
     both_are false b h = absurd cc
+
+-- the place of each gate
+pub gate_at : (at i : ℕ) (rs : List Record) → i < length (gates_from at (payloads rs)) → slice_index (gates_from at (payloads rs)) i ≡ at + length (frames (payloads (take i rs)))
+gate_at at zero [] within = omega arith
+gate_at at (suc i) [] within = absurd (omega arith)
+gate_at at zero (r ∷ rs) within = omega arith
+gate_at at (suc i) (r ∷ rs) within =
+    gate_at (at + (5 + length (spelling r))) i rs (omega arith) ∙ omega (arith, length-append (frame (spelling r)) (frames (payloads (take i rs))))

@@ -1,6 +1,6 @@
 -- When a journal is ready.
-use Rattle.std.proofs.Common.{◌≡◌, ◌<◌, ◌⊎◌, inl, inr, ⊎_elim, ℕ, Bool, true, false, ◌&&◌, List, [], ◌∷◌, ◌++◌, length, Option, Some, None, Result, Ok, Err, refl, sym, ◌∙◌, ap, subst}
-use Rattle.std.specs.Prelude.{is_some}
+use Rattle.std.proofs.Common.{◌≡◌, ◌<◌, ◌⊎◌, inl, inr, ⊎_elim, ℕ, Bool, true, false, ◌&&◌, List, [], ◌∷◌, ◌++◌, length, Option, Some, None, Result, Ok, Err, refl, sym, ◌∙◌, ap, subst, arith, take}
+use Rattle.std.specs.Prelude.{is_some, slice_index}
 use Rattle.std.proofs.lemmas.Option.{same_Some}
 use Rattle.cx_base.specs.declared.role.Kind.{Kind}
 use Rattle.cx_msg.specs.declared.kept.Record.{Record}
@@ -9,7 +9,7 @@ use Rattle.cx_journal.specs.Payload.{may_keep, payloads, is_kept_by, all_kept_by
 use Rattle.cx_journal.specs.Journal.{frames, gates_from, StandsFor, IsAtRest, IsBeforeOrAfter}
 use Rattle.cx_journal.specs.Image.{Image, image, SameImage}
 use Rattle.cx_journal.specs.State.{JournalState, records_or_none, told_records, IsImageOf, IsReady}
-use Rattle.cx_journal.proofs.Gates.{gates-push, payloads-push, all_kept-push}
+use Rattle.cx_journal.proofs.Gates.{gates-push, payloads-push, all_kept-push, gate_at}
 use Rattle.cx_journal.proofs.Payloads.{both_so}
 use Rattle.cx_journal.proofs.Spelled.{image-StandsFor}
 
@@ -31,9 +31,19 @@ kept_by_any k (r ∷ rs) all =
 pub told_is : (o : Option (List ℕ)) (file : List ℕ) (records : List Record) → o ≡ Some file → image None file ≡ Ok records → told_records o ≡ records
 told_is o file records told read = ap told_records told ∙ ap records_or_none read
 
+-- bytes that stand for records have them as their image, for each kind that keeps them
+pub image_of : (records : List Record) (c : List ℕ) → StandsFor (payloads records) c → IsImageOf records c
+image_of records c stands k kept = image-StandsFor k records c kept stands
+
 module _ {D : Type 0} (seen : D → Option (List ℕ)) (may_leave : D → List ℕ → Type 0) (size : D → ℕ) where
   pub told_rest : (disk : D) (gate : ℕ) (records : List Record) → all_kept_by None records ≡ true → IsAtRest seen may_leave disk gate (payloads records) → told_records (seen disk) ≡ records
   told_rest disk gate records fit rest = rw rest.told (ap records_or_none (image-StandsFor None records rest.file fit rest.stands))
+
+  -- what a crash leaves of records that are on the disk
+  pub lasts_of : (disk : D) (gate : ℕ) (records : List Record) → all_kept_by None records ≡ true → IsAtRest seen may_leave disk gate (payloads records)
+      → (c : List ℕ) → may_leave disk c → IsImageOf (told_records (seen disk)) c
+  lasts_of disk gate records fit rest c left =
+      subst (λ rs. IsImageOf rs c) (sym (told_rest disk gate records fit rest)) (image_of records c (subst (λ f. StandsFor (payloads records) f) (sym (rest.durable c left)) rest.stands))
 
   -- a journal whose records are on the disk
   pub ready_from : (j : JournalState D) (records : List Record) → j.gate < size j.disk → (is_some (seen j.disk) ≡ true → IsAtRest seen may_leave j.disk j.gate (payloads records))
@@ -50,6 +60,14 @@ module _ {D : Type 0} (seen : D → Option (List ℕ)) (may_leave : D → List �
             let rest = rests told in
             ap (image None) (same_Some _ _ (sym is ∙ rest.told)) ∙ image-StandsFor None records rest.file (fit told) rest.stands ∙ ap Ok (sym (same told));
       }
+
+  -- where a gate stands
+  pub placed_at : (j : JournalState D) (i place : ℕ) → IsReady seen may_leave size j → i < length j.gates → place ≡ slice_index j.gates i
+      → j.whole ≡ true → is_some (seen j.disk) ≡ true → place ≡ length (frames (payloads (take i (told_records (seen j.disk)))))
+  placed_at j i place ready within got whole told =
+      let is = ready.gates_are whole told in
+      let there = got ∙ ap (λ gs. slice_index gs i) is ∙ gate_at 0 i (told_records (seen j.disk)) (subst (λ gs. i < length gs) is within) in
+      omega (arith, there)
 
   -- a journal that has to be read again
   pub broken_from : (j : JournalState D) → j.whole ≡ false
@@ -81,10 +99,6 @@ module _ {D : Type 0} (seen : D → Option (List ℕ)) (may_leave : D → List �
       go : (p : Option (List ℕ)) → seen new.disk ≡ p → told_records p ≡ told_records (seen old.disk)
       go None is = sym (none_so (seen old.disk) (sym tells ∙ ap is_some is))
       go (Some now) is = ap records_or_none (same_reads old new tells ready same now is)
-
--- bytes that stand for records have them as their image, for each kind that keeps them
-pub image_of : (records : List Record) (c : List ℕ) → StandsFor (payloads records) c → IsImageOf records c
-image_of records c stands k kept = image-StandsFor k records c kept stands
 
 pub before_or_after : (records : List Record) (r : Record) (c : List ℕ) → IsBeforeOrAfter (payloads records) (spelling r) c → IsImageOf records c ⊎ IsImageOf (records ++ r ∷ []) c
 before_or_after records r c which =

@@ -1,11 +1,12 @@
 //! A journal over a disk.
-ghost use Rattle.std.specs.Prelude.{◌≡◌, ◌⊎◌, ◌<◌, ◌≤◌, ◌++◌, [], ◌∷◌, true, is_some, IsTrue, List, ℕ, Some, None, Ok, length, slice_index, IfOk, OnOk, IfErr, IsErrOf, MatchResult};
+ghost use Rattle.std.specs.Prelude.{◌≡◌, ◌⊎◌, ◌<◌, ◌≤◌, ◌++◌, [], ◌∷◌, true, is_some, IsTrue, List, ℕ, Some, None, Ok, length, slice_index, take, IfOk, OnOk, IfErr, IsErrOf, MatchResult};
 ghost use Rattle.cx_base.specs.Faults.{Rises};
 ghost use Rattle.cx_msg.specs.Records.{fits};
 ghost use Rattle.cx_disk.specs.Disk.{LeavesOnly};
 ghost use Rattle.cx_keeper.specs.declared.keeper.OpenFault.TheVariants as fault;
 ghost use Rattle.cx_journal.specs.Image.{image, SameImage};
-ghost use Rattle.cx_journal.specs.Payload.{all_kept_by};
+ghost use Rattle.cx_journal.specs.Journal.{frames};
+ghost use Rattle.cx_journal.specs.Payload.{all_kept_by, payloads};
 ghost use Rattle.cx_journal.specs.Found.{IsFaultOf, IsOutside};
 ghost use Rattle.cx_journal.specs.State.{told_records, IsImageOf};
 
@@ -38,12 +39,20 @@ impl<D: Disk> Model for Journal<D> {
     ghost invariant = { λ j. IsReady D.seen D.may_leave D.size (record { disk = j.disk; gates = j.gates.items; gate = j.gate; whole = j.whole }) };
 }
 
+fn gate_of(gates: &[u64], index: usize) -> u64
+    requires { index < length gates.now }
+    ensures { result ≡ slice_index gates.now index }
+{
+    gates[index]
+}
+
 impl<D: Disk> Journal<D> {
     /// Reads the records of a role of this kind. `NotJournal` names the first break; `Failed` comes only where the disk's count
     /// rose. The disk is given back with the fault.
     pub fn open(alloc: Global, disk: D, kind: Kind) -> Result<Self, (OpenFault, D)>
         ensures opened { (file : List ℕ) → D.seen disk ≡ Some file → IfOk result (λ j. image (Some kind) file ≡ Ok (told_records (D.seen j.disk))) }
         ensures broken { (file : List ℕ) → D.seen disk ≡ Some file → IfErr result (λ e. IsFaultOf (Some kind) file e.0) }
+        ensures lasts { (file : List ℕ) → D.seen disk ≡ Some file → IfOk result (λ j. (c : List ℕ) → D.may_leave j.disk c → IsImageOf (told_records (D.seen j.disk)) c) }
         ensures whole { IfOk result (λ j. j.whole ≡ true) }
 
         // A crash in the call leaves what one before it might have left, or bytes with the same image.
@@ -138,8 +147,11 @@ impl<D: Disk> Journal<D> {
     /// The place of a record's gate, and of the closed gate at the number of records. It takes no memory.
     pub fn place(&self, index: usize) -> u64
         requires { index < length self.now.gates }
-        ensures { result ≡ slice_index self.now.gates index }
+        ensures gate { result ≡ slice_index self.now.gates index }
+
+        // The records before it take so many bytes.
+        ensures place { self.now.whole ≡ true → is_some (D.seen self.now.disk) ≡ true → result ≡ length (frames (payloads (take index (told_records (D.seen self.now.disk))))) }
     {
-        self.gates[index]
+        gate_of(&self.gates, index)
     }
 }

@@ -1,6 +1,6 @@
 use Rattle.std.proofs.Common.{rules, ◌≡◌, ◌∙◌, sym, ap}
 use Rattle.std.specs.Prelude.{Ok, is_some}
-use Rattle.cx_journal.proofs.Ready.{told_of, told_too, told_rest, kept_by_any, ready_from}
+use Rattle.cx_journal.proofs.Ready.{told_of, lasts_of, told_too, told_rest, kept_by_any, ready_from}
 use Rattle.cx_journal.proofs.journal.Journal.open.Goals as goal
 
 pub invariant_of-result : goal.invariant_of-result
@@ -13,3 +13,7 @@ pub returns-in-Ok-clause-opened : goal.returns-in-Ok-clause-opened
 returns-in-Ok-clause-opened g c = λ file told.
     c.in-Ok.ensures.found file told
     ∙ ap Ok (sym (told_rest g.D.Disk.seen g.D.Disk.may_leave g.D.Disk.size c.read_disk.new.disk c.in-Ok.found.gate c.in-Ok.found.records.items (kept_by_any c.args.kind c.in-Ok.found.records.items c.in-Ok.ensures.fit) (c.in-Ok.ensures.at_rest file told)))
+
+pub returns-in-Ok-clause-lasts : goal.returns-in-Ok-clause-lasts
+returns-in-Ok-clause-lasts g c = λ file told.
+    lasts_of g.D.Disk.seen g.D.Disk.may_leave g.D.Disk.size c.read_disk.new.disk c.in-Ok.found.gate c.in-Ok.found.records.items (kept_by_any c.args.kind c.in-Ok.found.records.items c.in-Ok.ensures.fit) (c.in-Ok.ensures.at_rest file told)
