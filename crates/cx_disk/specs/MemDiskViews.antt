@@ -1,5 +1,5 @@
 -- What a disk in memory shows to those who make one.
-use Rattle.std.specs.Prelude.{ℕ, List, Option, Some}
+use Rattle.std.specs.Prelude.{ℕ, List}
 use Rattle.cx_disk.specs.declared.memory.MemDisk.{MemDisk}
 use Rattle.cx_disk.specs.MemDisk.{MayLeave, state_after}
 

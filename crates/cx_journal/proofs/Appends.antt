@@ -1,13 +1,11 @@
 -- What an append does to a journal that is ready.
-use Rattle.std.proofs.Common.{◌≡◌, ◌+◌, ◌<◌, ◌≤◌, ◌⊎◌, inl, inr, ⊎_elim, ℕ, Bool, true, false, List, [], ◌∷◌, ◌++◌, length, Option, Some, None, Result, Ok, refl, sym, ◌∙◌, ap, subst, arith}
+use Rattle.std.proofs.Common.{◌≡◌, ◌+◌, ◌<◌, ◌≤◌, ◌⊎◌, inl, inr, ⊎_elim, ℕ, Bool, true, false, List, [], ◌∷◌, ◌++◌, length, Option, Some, None, refl, sym, ◌∙◌, ap, subst, arith}
 use Rattle.std.specs.Prelude.{is_some}
-use Rattle.std.proofs.lemmas.Option.{same_Some}
 use Rattle.cx_msg.specs.declared.kept.Record.{Record}
 use Rattle.cx_msg.specs.Records.{fits, spelling}
 use Rattle.cx_disk.specs.Disk.{LeavesOnly}
 use Rattle.cx_journal.specs.Payload.{payloads, is_kept_by, all_kept_by}
 use Rattle.cx_journal.specs.Journal.{frames, gates_from, StandsFor, IsAtRest, IsBeforeOrAfter}
-use Rattle.cx_journal.specs.Image.{image}
 use Rattle.cx_journal.specs.State.{JournalState, told_records, IsImageOf, IsReady}
 use Rattle.cx_journal.proofs.Gates.{gates-push, payloads-push, all_kept-push}
 use Rattle.cx_journal.proofs.Moments.{leaves_weaker, leaves_seen}

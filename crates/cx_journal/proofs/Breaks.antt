@@ -1,5 +1,5 @@
 -- What a break further on says of the whole.
-use Rattle.std.proofs.Common.{◌≡◌, ℕ, List, length, Option, Result, Ok, Err, ◌∙◌, ap}
+use Rattle.std.proofs.Common.{◌≡◌, ℕ, List, Option, Result, Err, ◌∙◌, ap}
 use Rattle.cx_base.specs.declared.role.Kind.{Kind}
 use Rattle.cx_msg.specs.declared.kept.Record.{Record}
 use Rattle.cx_journal.specs.Image.{Image, image, with_first, with_all}

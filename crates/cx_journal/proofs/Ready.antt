@@ -1,5 +1,5 @@
 -- When a journal is ready.
-use Rattle.std.proofs.Common.{◌≡◌, ◌<◌, ◌⊎◌, inl, inr, ⊎_elim, ℕ, Bool, true, false, ◌&&◌, List, [], ◌∷◌, ◌++◌, length, Option, Some, None, Result, Ok, Err, refl, sym, ◌∙◌, ap, subst, arith, take}
+use Rattle.std.proofs.Common.{◌≡◌, ◌<◌, ◌⊎◌, inl, inr, ⊎_elim, ℕ, true, false, List, [], ◌∷◌, ◌++◌, length, Option, Some, None, Ok, refl, sym, ◌∙◌, ap, subst, arith, take}
 use Rattle.std.specs.Prelude.{is_some, slice_index}
 use Rattle.std.proofs.lemmas.Option.{same_Some}
 use Rattle.cx_base.specs.declared.role.Kind.{Kind}
@@ -7,9 +7,9 @@ use Rattle.cx_msg.specs.declared.kept.Record.{Record}
 use Rattle.cx_msg.specs.Records.{record_shape, fits, spelling}
 use Rattle.cx_journal.specs.Payload.{may_keep, payloads, is_kept_by, all_kept_by}
 use Rattle.cx_journal.specs.Journal.{frames, gates_from, StandsFor, IsAtRest, IsBeforeOrAfter}
-use Rattle.cx_journal.specs.Image.{Image, image, SameImage}
+use Rattle.cx_journal.specs.Image.{image, SameImage}
 use Rattle.cx_journal.specs.State.{JournalState, records_or_none, told_records, IsImageOf, IsReady}
-use Rattle.cx_journal.proofs.Gates.{gates-push, payloads-push, all_kept-push, gate_at}
+use Rattle.cx_journal.proofs.Gates.{payloads-push, gate_at}
 use Rattle.cx_journal.proofs.Payloads.{both_so}
 use Rattle.cx_journal.proofs.Spelled.{image-StandsFor}
 

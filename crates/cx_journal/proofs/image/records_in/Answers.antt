@@ -1,5 +1,4 @@
-use Rattle.std.proofs.Common.{rules, ℕ, ◌≡◌, ◌+◌, [], ◌∷◌, ◌++◌, length, sym, ◌∙◌, ap, refl, arith}
-use Rattle.cx_msg.specs.Records.{spelling}
+use Rattle.std.proofs.Common.{ℕ, ◌≡◌, ◌+◌, [], ◌∷◌, ◌++◌, length, sym, ◌∙◌, ap, arith}
 use Rattle.cx_journal.specs.Payload.{payloads}
 use Rattle.cx_journal.specs.Image.{image_at, with_all, with_first}
 use Rattle.cx_journal.specs.Journal.{frames, gates_from}

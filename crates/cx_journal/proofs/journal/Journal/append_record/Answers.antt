@@ -1,4 +1,4 @@
-use Rattle.std.proofs.Common.{rules, ◌≡◌, true, sym, subst}
+use Rattle.std.proofs.Common.{◌≡◌, true, sym, subst}
 use Rattle.cx_journal.proofs.Appends.{AtAnyMoment, Kept, Lasts, LostOrKept, at_any_moment, kept_so, lasts_so, ready_so, lost_or_kept_so, broken_so}
 use Rattle.cx_journal.proofs.journal.Journal.append_record.Goals as goal
 

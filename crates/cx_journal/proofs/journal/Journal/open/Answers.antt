@@ -1,5 +1,5 @@
-use Rattle.std.proofs.Common.{rules, ◌≡◌, ◌∙◌, sym, ap}
-use Rattle.std.specs.Prelude.{Ok, is_some}
+use Rattle.std.proofs.Common.{◌∙◌, sym, ap}
+use Rattle.std.specs.Prelude.{Ok}
 use Rattle.cx_journal.proofs.Ready.{told_of, lasts_of, told_too, told_rest, kept_by_any, ready_from}
 use Rattle.cx_journal.proofs.journal.Journal.open.Goals as goal
 
