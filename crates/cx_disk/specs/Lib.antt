@@ -1,0 +1,4 @@
+pub mod Disk
+pub mod MemDisk
+pub mod MemDiskLaws
+pub mod MemDiskViews

@@ -1,0 +1,16 @@
+-- What a disk in memory shows to those who make one.
+use Rattle.std.specs.Prelude.{ℕ, List}
+use Rattle.cx_disk.specs.declared.memory.MemDisk.{MemDisk}
+use Rattle.cx_disk.specs.MemDisk.{MayLeave, state_after}
+
+-- what a read gives
+abbrev pub told_by : MemDisk → List ℕ
+told_by disk = disk.bytes.items
+
+-- what a crash may leave
+abbrev pub left_by : MemDisk → List ℕ → Type 0
+left_by disk = MayLeave (state_after disk.first.items disk.calls.items)
+
+-- how many calls have failed
+abbrev pub failed_of : MemDisk → ℕ
+failed_of disk = disk.faults

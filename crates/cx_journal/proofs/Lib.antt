@@ -1,0 +1,12 @@
+pub mod Append
+pub mod Appends
+pub mod Breaks
+pub mod Crash
+pub mod Gates
+pub mod Moments
+pub mod Payloads
+pub mod Reading
+pub mod Ready
+pub mod RecordSizes
+pub mod Recoveries
+pub mod Spelled

@@ -1,0 +1,49 @@
+use Rattle.std.proofs.Common.{ℕ, ◌≡◌, ◌+◌, [], ◌∷◌, ◌++◌, length, sym, ◌∙◌, ap, arith}
+use Rattle.cx_journal.specs.Payload.{payloads}
+use Rattle.cx_journal.specs.Image.{image_at, with_all, with_first}
+use Rattle.cx_journal.specs.Journal.{frames, gates_from}
+use Rattle.cx_journal.proofs.Crash.{frames-more, length-frames-more}
+use Rattle.cx_journal.proofs.Gates.{gates-push, payloads-push, all_kept-push}
+use Rattle.cx_journal.proofs.Reading.{image-long, with_all-push, with_all-Ok, with_all-Err}
+use Rattle.cx_journal.proofs.Breaks.{read_stop}
+use Rattle.cx_journal.proofs.image.records_in.Goals as goal
+
+pub returns-in-Ok-clause-image : goal.returns-in-Ok-clause-image
+returns-in-Ok-clause-image c =
+    let found = rw c.in-Ok-None.field-0-is at c.in-Ok-None.ensures.image in
+    image-long _ c.args.bytes.now c.requires.least ∙ c.reading.invariant.so_far ∙ ap (with_all c.reading.records.items) found ∙ with_all-Ok c.reading.records.items
+
+pub returns-in-Err-clause-image : goal.returns-in-Err-clause-image
+returns-in-Err-clause-image c =
+    image-long _ c.args.bytes.now c.requires.least ∙ c.reading.invariant.so_far ∙ ap (with_all c.reading.records.items) c.in-Err.ensures.image ∙ with_all-Err c.reading.records.items _
+
+pub returns-in-Err-record_at-clause-image : goal.returns-in-Err-record_at-clause-image
+returns-in-Err-record_at-clause-image c =
+    let found = rw c.in-Ok-Some.field-0-is at c.in-Ok-Some.ensures.image in
+    read_stop c.args.kind c.args.bytes.now c.reading.records.items (c.reading.at + 5) _ _ c.in-Err-record_at.stop
+    (image-long _ c.args.bytes.now c.requires.least ∙ c.reading.invariant.so_far ∙ ap (with_all c.reading.records.items) found) c.in-Err-record_at.ensures.read
+
+pub reading-preserved : goal.reading-preserved
+reading-preserved c =
+    let found = rw c.in-Ok-Some.field-0-is at c.in-Ok-Some.ensures.image in
+    let lengths = rw c.in-Ok-Some.field-0-is at c.in-Ok-Some.ensures.lengths in
+    let spelled = rw c.in-Ok-Some.field-0-is at c.in-Ok-Some.ensures.spelled in
+    let records = c.reading.records.items in
+    let r = c.in-Ok-record_at.what in
+    let payload = c.in-Ok-Some.split.payload.now in
+    let after = c.in-Ok-Some.split.after.now in
+    let more = image_at c.args.kind (length after) (c.reading.at + (5 + length payload)) after in
+    let pushed : c.push_found.new.records.items ≡ records ++ r ∷ [] = c.in-Ok-push_found.ensures.records in
+    let ps : payloads (records ++ r ∷ []) ≡ payloads records ++ payload ∷ [] = payloads-push records r ∙ ap (λ p. payloads records ++ p ∷ []) (sym c.in-Ok-record_at.ensures.spelled) in
+    let place : c.reading.at + (5 + length payload) ≡ length (frames (payloads records ++ payload ∷ [])) = length-frames-more (payloads records) payload c.reading.at c.reading.invariant.gate in
+    let counted : c.reading.at + (5 + length payload) ≡ 0 + length (frames (payloads records ++ payload ∷ [])) = omega (arith, place) in
+    rw (pushed, ps) (record {
+      place = omega (arith, lengths, c.reading.invariant.place);
+      so_far =
+          c.reading.invariant.so_far ∙ ap (with_all records) (found ∙ ap (λ x. with_first (c.reading.at + 5) x more) c.in-Ok-record_at.ensures.read) ∙ sym (with_all-push records r more);
+      spelled = c.reading.invariant.spelled ∙ frames-more (payloads records) payload c.reading.left.now after spelled;
+      gate = place;
+      gates = ap (λ l. l ++ (c.reading.at + (5 + length payload)) ∷ []) (c.in-Ok-push_found.ensures.gates ∙ c.reading.invariant.gates)
+          ∙ ap (λ (n : ℕ). gates_from 0 (payloads records) ++ n ∷ []) counted ∙ sym (gates-push 0 (payloads records) payload);
+      fit = all_kept-push c.args.kind records r c.reading.invariant.fit c.in-Ok-record_at.ensures.kept;
+    })

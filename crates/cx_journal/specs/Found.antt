@@ -1,0 +1,42 @@
+-- What was read of the bytes of a journal.
+use Rattle.std.specs.Prelude.{◌≡◌, ℕ, true, List, length, Option, Result, Ok, Err}
+use Rattle.cx_base.specs.declared.role.Kind.{Kind}
+use Rattle.cx_msg.specs.declared.kept.Record.{Record}
+use Rattle.cx_journal.specs.Payload.{payloads, all_kept_by}
+use Rattle.cx_journal.specs.Journal.{frames, gates_from, StandsFor}
+use Rattle.cx_journal.specs.Image.{Image, image, with_first, IsBreak}
+use Rattle.cx_journal.specs.declared.image.Found.{Found}
+use Rattle.cx_journal.specs.declared.image.Stop.{Stop}
+use Rattle.cx_journal.specs.declared.image.Stop.TheVariants as stop
+use Rattle.cx_keeper.specs.declared.keeper.OpenFault.{OpenFault}
+use Rattle.cx_keeper.specs.declared.keeper.OpenFault.TheVariants as fault
+
+-- the records stand in the bytes, each gate at its place
+pub record IsFound (k : Option Kind) (bytes : List ℕ) (found : Found) : Type 0 where
+  pub stands : StandsFor (payloads found.records.items) bytes
+  pub fit : all_kept_by k found.records.items ≡ true
+  pub gates : found.gates.items ≡ gates_from 0 (payloads found.records.items)
+  pub gate : found.gate ≡ length (frames (payloads found.records.items))
+
+-- what was read of two bytes or more
+abbrev pub IsRead : Option Kind → List ℕ → Result Found Stop → Type 0
+IsRead k bytes (Ok found) = image k bytes ≡ Ok found.records.items
+IsRead k bytes (Err (stop.Break at)) = image k bytes ≡ Err at
+IsRead k bytes (Err stop.NoMemory) = Unit {0}
+
+-- where a payload that begins at a place stops being a record
+abbrev pub IsStopAt : ℕ → Result Record ℕ → Stop → Type 0
+IsStopAt at read (stop.Break place) = (image : Image) → with_first at read image ≡ Err place
+IsStopAt at read stop.NoMemory = Unit {0}
+
+-- the fault is the first break of the bytes, or of the outside
+abbrev pub IsFaultOf : Option Kind → List ℕ → OpenFault → Type 0
+IsFaultOf k bytes (fault.NotJournal at byte) = IsBreak k bytes at byte
+IsFaultOf k bytes fault.Failed = Unit {0}
+IsFaultOf k bytes fault.NoMemory = Unit {0}
+
+-- the outside failed, or memory was wanting
+abbrev pub IsOutside : OpenFault → Type 0
+IsOutside (fault.NotJournal at byte) = ⊥
+IsOutside fault.Failed = Unit {0}
+IsOutside fault.NoMemory = Unit {0}

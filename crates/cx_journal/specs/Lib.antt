@@ -1,0 +1,5 @@
+pub mod Found
+pub mod Image
+pub mod Journal
+pub mod Payload
+pub mod State
