@@ -1,5 +1,8 @@
 -- A text that is written in parts.
-use Rattle.std.proofs.Common.{◌≡◌, ◌≤◌, ℕ, ◌+◌, List, ◌++◌, length, take, drop, take-append-drop, Option, sym, ap, ◌∙◌, subst, append_assoc, inl, inr, arith}
+use Rattle.std.proofs.Common.{◌≡◌, ◌≤◌, ◌<◌, ℕ, zero, suc, ◌+◌, List, [], ◌∷◌, ◌++◌, length, get_or, map, take, drop, take-append-drop, Option, sym, ap, ◌∙◌, subst, append_assoc, inl, inr, refl, arith}
+use Rattle.std.specs.List.{concat}
+use Rattle.std.proofs.lemmas.List.{append-nil, map_more}
+use Rattle.std.proofs.lemmas.List.Folds.{concat-append}
 use Rattle.std.proofs.Math.Seq.{take-append_seam, take-append-add}
 use Rattle.std.specs.Io.KnownBytes.{Appends}
 use Rattle.std.proofs.KnownBytes.{Appends-trans}
@@ -25,3 +28,41 @@ says_more a b c m n k text more first still (inl rest) = inl (Appends-trans a b 
 says_more a b c m n k text more first still (inr (part, rises)) =
     let taken = take-append-add text more part.0 in
     inr ((length text + part.0, subst (Appends a c) (sym taken) (Appends-trans a b c text (take part.0 more) first part.1)), subst (λ j. Rises j k) still rises)
+
+-- ---- a list of parts
+
+module _ {X : Type 0} (text : X → List ℕ) where
+  concat_more : (parts : List X) (i : ℕ) (d : X) → i < length parts
+      → concat (map text (take (i + 1) parts)) ≡ concat (map text (take i parts)) ++ text (get_or parts i d)
+  concat_more parts i d lt =
+      ap concat (map_more text parts i d lt) ∙ concat-append (map text (take i parts)) (text (get_or parts i d) ∷ [])
+      ∙ ap (λ more. concat (map text (take i parts)) ++ more) (append-nil (text (get_or parts i d)))
+
+  concat_at : (parts : List X) (i : ℕ) (d : X) → i < length parts
+      → concat (map text (take i parts)) ++ (text (get_or parts i d) ++ concat (map text (drop (suc i) parts))) ≡ concat (map text parts)
+  concat_at [] i d lt = absurd (omega arith)
+  concat_at (part ∷ parts) zero d lt = refl
+  concat_at (part ∷ parts) (suc i) d lt =
+      append_assoc (text part) (concat (map text (take i parts))) (text (get_or parts i d) ++ concat (map text (drop (suc i) parts)))
+      ∙ ap (λ more. text part ++ more) (concat_at parts i d (omega arith))
+
+  -- the parts before a place were written, and the one there
+  pub parts_more : (a b c : Option (List ℕ)) (parts : List X) (i : ℕ) (d : X) → i < length parts → Appends a b (concat (map text (take i parts)))
+      → Appends b c (text (get_or parts i d)) → Appends a c (concat (map text (take (i + 1) parts)))
+  parts_more a b c parts i d lt first more = subst (Appends a c) (sym (concat_more parts i d lt)) (Appends-trans a b c _ _ first more)
+
+  -- the parts before a place were written, and a part of the one there
+  pub parts_end : (a b c : Option (List ℕ)) (m n k : ℕ) (parts : List X) (i : ℕ) (d : X) → i < length parts → Appends a b (concat (map text (take i parts)))
+      → n ≡ m → AppendsPart b c (text (get_or parts i d)) → Rises n k → Says a c m k (concat (map text parts))
+  parts_end a b c m n k parts i d lt first still part rises =
+      subst (Says a c m k) (concat_at parts i d lt)
+      (says_more a b c m n k _ _ first still (says_part b c n k (text (get_or parts i d)) (concat (map text (drop (suc i) parts))) part rises))
+
+-- ---- a role's text among parts
+
+pub role_parts : (kind colon index rest : List ℕ) → kind ++ (colon ++ (index ++ rest)) ≡ ((kind ++ colon) ++ index) ++ rest
+role_parts kind colon index rest = sym (append_assoc (kind ++ colon) index rest ∙ append_assoc kind colon (index ++ rest))
+
+pub place_parts : (kind colon index at place end : List ℕ) → kind ++ (colon ++ (index ++ (at ++ (place ++ end)))) ≡ (((((kind ++ colon) ++ index) ++ at) ++ place) ++ end)
+place_parts kind colon index at place end =
+    role_parts kind colon index (at ++ (place ++ end)) ∙ role_parts ((kind ++ colon) ++ index) at place end

@@ -1,7 +1,9 @@
 -- What words say that are written out, whatever the program is called.
 use Rattle.std.proofs.Common.{◌≡◌, refl, ℕ, List, [], ◌∷◌, codes, Some, None}
 use Rattle.clap.proofs.OnLiterals.{clap_on_literals}
-use Rattle.compax.specs.declared.words.Invocation.TheVariants.{Replay, Generate}
+use Rattle.cx_base.specs.declared.role.Kind.TheVariants.{Batcher, Client}
+use Rattle.cx_base.specs.Role.{role}
+use Rattle.compax.specs.declared.words.Invocation.TheVariants.{Replay, Generate, Node}
 use Rattle.compax.specs.Words.{said}
 
 pub replay_said : (program : List ℕ) → said (program ∷ codes "replay" ∷ []) ≡ Some Replay
@@ -31,3 +33,27 @@ nothing_said program = refl
 pub help_said : (program : List ℕ) → said (program ∷ codes "--help" ∷ []) ≡ None
 unfolding said clap_on_literals
 help_said program = refl
+
+pub node_said : (program : List ℕ) → said (program ∷ codes "node" ∷ codes "client:0" ∷ []) ≡ Some (Node 1000000 (role Client 0 ∷ []))
+unfolding said clap_on_literals
+node_said program = refl
+
+pub turns_said : (program : List ℕ) → said (program ∷ codes "node" ∷ codes "--turns" ∷ codes "75" ∷ codes "client:0" ∷ codes "batcher:0" ∷ []) ≡ Some (Node 75 (role Client 0 ∷ role Batcher 0 ∷ []))
+unfolding said clap_on_literals
+turns_said program = refl
+
+pub no_turn_said : (program : List ℕ) → said (program ∷ codes "node" ∷ codes "--turns" ∷ codes "0" ∷ codes "client:0" ∷ []) ≡ None
+unfolding said clap_on_literals
+no_turn_said program = refl
+
+pub no_role_said : (program : List ℕ) → said (program ∷ codes "node" ∷ []) ≡ None
+unfolding said clap_on_literals
+no_role_said program = refl
+
+pub twice_said : (program : List ℕ) → said (program ∷ codes "node" ∷ codes "client:0" ∷ codes "client:0" ∷ []) ≡ None
+unfolding said clap_on_literals
+twice_said program = refl
+
+pub misspelt_said : (program : List ℕ) → said (program ∷ codes "node" ∷ codes "claent:0" ∷ []) ≡ None
+unfolding said clap_on_literals
+misspelt_said program = refl

@@ -1,3 +1,4 @@
 pub mod Answer
 pub mod Line
+pub mod Roles
 pub mod Words

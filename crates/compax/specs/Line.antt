@@ -15,16 +15,3 @@ line_of (StoreFault role) = codes "store failed: " ++ role_text role ++ codes "\
 line_of Turns = codes "turns ended\n"
 line_of NoMemory = codes "no memory\n"
 line_of (BadStore role at) = codes "bad store: " ++ role_text role ++ codes " at " ++ decimal at ++ codes "\n"
-
--- the statuses that the program can end with so far
-abbrev pub Comes : Status → Type 0
-Comes Done = Unit {0}
-Comes BadWords = Unit {0}
-Comes (BadInput line) = Unit {0}
-Comes ReadFault = Unit {0}
-Comes WriteFault = Unit {0}
-Comes LinkFault = ⊥
-Comes (StoreFault role) = ⊥
-Comes Turns = ⊥
-Comes NoMemory = Unit {0}
-Comes (BadStore role at) = ⊥

@@ -3,13 +3,17 @@ use Rattle.std.specs.Prelude.{◌≡◌, ℕ, List, [], ◌∷◌, codes, pos, B
 use Rattle.std.specs.Str.{bytes_eq}
 use Rattle.std.specs.Str.Parse.{digits_value, without_leading_plus}
 use Rattle.clap.specs.ValueTests.{is_unsigned_in}
-use Rattle.clap.specs.Words.{App, Kinds, Row, Rule, Text, fault_of, new_app, new_rule, one_of, subcommand_of, subcommand_rows_of, with_rule, with_subcommand}
+use Rattle.clap.specs.Lexer.{usize_max}
+use Rattle.clap.specs.Words.{App, Kinds, Row, Rule, Text, all_of, fault_of, new_app, new_rule, one_of, subcommand_of, subcommand_rows_of, with_rule, with_subcommand}
 use Rattle.clap.specs.declared.builder.value_parser.ValueParser.TheVariants as parser
 use Rattle.clap.specs.declared.parser.matches.ArgMatches.{ArgMatches}
+use Rattle.cx_base.specs.declared.role.RoleId.{RoleId}
 use Rattle.compax.specs.declared.words.Invocation.{Invocation}
-use Rattle.compax.specs.declared.words.Invocation.TheVariants.{Replay, Generate}
+use Rattle.compax.specs.declared.words.Invocation.TheVariants.{Replay, Generate, Node}
+use Rattle.compax.specs.Roles.{roles_of}
 
--- ---- the command: `replay`, or `gen` with a number of 64 bits and one of 16, both required
+-- ---- the command: `replay`; `gen` with a number of 64 bits and one of 16, both required; or `node` with a number of turns, which has
+-- a default, and behind it one role or more
 
 abbrev pub most_seed : ℕ
 most_seed = 18446744073709551615
@@ -23,17 +27,30 @@ seed_rule = record (new_rule (codes "SEED")) { required = true; parser = Some (p
 abbrev pub count_rule : Rule
 count_rule = record (new_rule (codes "COUNT")) { required = true; parser = Some (parser.Signed (pos 0) (pos most_count)) }
 
+-- `--turns N`, N a number of 32 bits from 1 to 1,000,000,000
+abbrev pub turns_rule : Rule
+turns_rule = record (new_rule (codes "turns")) { long = Some (codes "turns"); defaults = codes "1000000" ∷ []; parser = Some (parser.Signed (pos 1) (pos 1000000000)) }
+
+abbrev pub most_u32 : ℕ
+most_u32 = 4294967295
+
+abbrev pub roles_rule : Rule
+roles_rule = record (new_rule (codes "ROLE")) { required = true; range = Some (record { start_inclusive = 1; end_inclusive = usize_max }) }
+
 abbrev pub replay : App
 replay = new_app (codes "replay")
 
 abbrev pub generate : App
 generate = with_rule (with_rule (new_app (codes "gen")) seed_rule) count_rule
 
+abbrev pub node : App
+node = with_rule (with_rule (new_app (codes "node")) turns_rule) roles_rule
+
 abbrev pub requires_subcommand : App → App
 requires_subcommand a = record a { top = record a.top { subcommand_required = true } }
 
 abbrev pub command : App
-command = with_subcommand (with_subcommand (requires_subcommand (new_app (codes "compax"))) replay.top) generate.top
+command = with_subcommand (with_subcommand (with_subcommand (requires_subcommand (new_app (codes "compax"))) replay.top) generate.top) node.top
 
 -- ---- what the words say
 
@@ -48,11 +65,19 @@ number_at most id rows = option_and_then (number_of most) (one_of id rows)
 abbrev pub generated : List Row → Option Invocation
 generated rows = option_and_then (λ seed. option_map (Generate seed) (number_at most_count (codes "COUNT") rows)) (number_at most_seed (codes "SEED") rows)
 
+-- the roles under an id
+abbrev pub roles_at : Text → List Row → Option (List RoleId)
+roles_at id rows = option_and_then roles_of (all_of id rows)
+
+abbrev pub hosted : List Row → Option Invocation
+hosted rows = option_and_then (λ turns. option_map (Node turns) (roles_at (codes "ROLE") rows)) (number_at most_u32 (codes "turns") rows)
+
 -- what a subcommand asks for, by its name and its values
 abbrev pub asked_by : Text × List Row → Option Invocation
 asked_by met =
     if bytes_eq met.0 (codes "replay") then Some Replay
     else if bytes_eq met.0 (codes "gen") then generated met.1
+    else if bytes_eq met.0 (codes "node") then hosted met.1
     else None
 
 -- there is no kind of error

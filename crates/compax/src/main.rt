@@ -1,13 +1,11 @@
-//! The program: `compax replay` replays a recorded schedule, from standard input, and `compax gen SEED COUNT` runs events that
-//! are made from a seed. What comes of the run goes to standard output.
+//! The program: `compax replay` replays a recorded schedule, from standard input; `compax gen SEED COUNT` runs events that
+//! are made from a seed; `compax node ROLE..` hosts roles over UDP and files. What comes of the run goes to standard output.
 //!
-//! Stands on cx_replay. Its theorem is the contract of `top`: Done only with the whole text of the run that was asked for on
-//! the sink, and every other status exactly by its cause; and the run is lawful: no slot has two chosen values, each replica
-//! holds the beginning of one command list, every answer is that list's, and reads are fresh.
+//! Stands on cx_replay and cx_node. Its theorem is the contract of `top`: Done only with the whole text of the run that was asked
+//! for on the sink, and every other status exactly by its cause. The run of a schedule is lawful: no slot has two chosen values,
+//! each replica holds the beginning of one command list, every answer is that list's, and reads are fresh. A node binds, sends
+//! and keeps what the run of its roles says.
 #![tactic(auto)]
-
-ghost use Rattle.std.specs.Prelude.{IfErr};
-ghost use Rattle.compax.specs.Line.{Comes};
 
 #[cfg(test)]
 mod generated;
@@ -17,11 +15,16 @@ mod later_rounds;
 mod limits;
 mod line;
 #[cfg(test)]
+mod node_tests;
+#[cfg(test)]
+mod outside_tests;
+#[cfg(test)]
 mod one_round;
 #[cfg(test)]
 mod pieces;
 #[cfg(test)]
 mod refusals;
+mod roles;
 #[cfg(test)]
 mod shipped;
 #[cfg(test)]
@@ -33,17 +36,16 @@ mod worked;
 
 use crate::line::write_line;
 use crate::top::top;
-use cx_base::Status;
-use cx_edge::{ReaderSource, WriterSink};
+use cx_base::{Kind, NoMemory, RoleId, Status};
+use cx_edge::{FileDepot, ReaderSource, Sink, UdpLink, WriterSink};
+use std::alloc::Global;
 use std::env;
 use std::io::ErrorKind;
 use std::process::ExitCode;
 
 // The words, the first of which is the program's name. Where they cannot be had, since one of them is no text or memory is
 // wanting, the status that `top` would tell.
-fn arguments(rt: &HostRuntime) -> Result<Vec<String>, Status>
-    ensures { IfErr result Comes }
-{
+fn arguments(rt: &HostRuntime) -> Result<Vec<String>, Status> {
     match env::args(rt) {
         Ok(args) => args
             .collect::<Vec<String>>(rt.alloc())
@@ -51,6 +53,45 @@ fn arguments(rt: &HostRuntime) -> Result<Vec<String>, Status>
         Err(error) if error.kind() == ErrorKind::OutOfMemory => Err(Status::NoMemory),
         Err(_) => Err(Status::BadWords),
     }
+}
+
+// How many roles with stores a cluster may have, by their kinds.
+const STORED: [(Kind, u16); 4] = [
+    (Kind::Leader, 8),
+    (Kind::Acceptor, 64),
+    (Kind::Matchmaker, 7),
+    (Kind::Replica, 8),
+];
+
+/// More roles than a process may host.
+const SOCKETS: usize = 256;
+
+// All roles with stores that a cluster may have.
+fn stored_roles(alloc: Global) -> Result<Vec<RoleId>, NoMemory> {
+    let mut roles = Vec::new(alloc);
+    for (kind, count) in &STORED {
+        for index in 0..*count {
+            roles.push(RoleId::new(*kind, index))?;
+        }
+    }
+    Ok(roles)
+}
+
+// Does what the words say, over sockets, files, and the standard streams.
+fn run<E: Sink>(rt: &HostRuntime, words: &[String], err: &mut E) -> Result<Status, NoMemory> {
+    let mut link = UdpLink::new(rt.alloc(), rt, SOCKETS)?;
+    let mut depot = FileDepot::new(rt.alloc(), rt, &stored_roles(rt.alloc())?)?;
+    let mut input = ReaderSource::new(rt.stdin());
+    let mut out = WriterSink::new(rt.stdout());
+    Ok(top(
+        rt.alloc(),
+        words,
+        &mut input,
+        &mut out,
+        err,
+        &mut link,
+        &mut depot,
+    ))
 }
 
 fn main(rt: HostRuntime) -> ExitCode {
@@ -62,8 +103,11 @@ fn main(rt: HostRuntime) -> ExitCode {
             return ExitCode::from(status.exit());
         }
     };
-    let mut input = ReaderSource::new(rt.stdin());
-    let mut out = WriterSink::new(rt.stdout());
-    let status = top(rt.alloc(), &words, &mut input, &mut out, &mut err);
-    ExitCode::from(status.exit())
+    match run(&rt, &words, &mut err) {
+        Ok(status) => ExitCode::from(status.exit()),
+        Err(NoMemory) => {
+            write_line(&mut err, &Status::NoMemory);
+            ExitCode::from(Status::NoMemory.exit())
+        }
+    }
 }

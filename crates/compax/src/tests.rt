@@ -5,12 +5,12 @@ use crate::top::top;
 use crate::words::{Invocation, said};
 use crate::worked::{REPLAY, Run};
 use crate::{generated, later_rounds, one_round, refusals};
-use cx_base::Status;
-use cx_edge::{MemSink, MemSource};
+use cx_base::{Kind, RoleId, Status};
+use cx_edge::{LinkFailing, LinkRoom, MemDepot, MemLink, MemSink, MemSource};
 use std::alloc::Global;
 use std::test::Fail;
 
-fn owned(alloc: Global, words: &[&str]) -> Result<Vec<String>, Fail> {
+pub fn owned(alloc: Global, words: &[&str]) -> Result<Vec<String>, Fail> {
     let mut owned = Vec::new(alloc);
     for word in words {
         owned.push(String::from_str(alloc, word)?)?;
@@ -34,6 +34,22 @@ pub struct Outcome {
     pub err: MemSink,
 }
 
+// A link that has room for nothing.
+fn no_link(alloc: Global) -> Result<MemLink, Fail> {
+    let room = LinkRoom {
+        binds: 0,
+        takes: 0,
+        sends: 0,
+        bytes: 0,
+    };
+    let failing = LinkFailing {
+        binds: Vec::new(alloc),
+        sends: Vec::new(alloc),
+        takes: Vec::new(alloc),
+    };
+    Ok(MemLink::new(alloc, room, failing, &[])?)
+}
+
 // Hands the program words, an input, and the numbers of the reads and writes that fail.
 pub fn run_program(
     alloc: Global,
@@ -46,7 +62,11 @@ pub fn run_program(
     let mut input = MemSource::new(input, failing_reads);
     let mut out = MemSink::new(alloc, 20_000, failing_writes)?;
     let mut err = MemSink::new(alloc, 100, Vec::new(alloc))?;
-    let status = top(alloc, &words, &mut input, &mut out, &mut err);
+    let mut link = no_link(alloc)?;
+    let mut depot = MemDepot::new(alloc, Vec::new(alloc), 0, Vec::new(alloc))?;
+    let status = top(
+        alloc, &words, &mut input, &mut out, &mut err, &mut link, &mut depot,
+    );
     Ok(Outcome { status, out, err })
 }
 
@@ -135,44 +155,152 @@ fn generates_the_same_again(rt: HostRuntime) -> Result<(), Fail> {
     Ok(())
 }
 
+// What words ask for.
+#[derive(Clone, Copy)]
+enum Asked {
+    Nothing,
+    Replay,
+    Generate {
+        seed: u64,
+        count: u16,
+    },
+    Node {
+        turns: u32,
+        roles: &'static [RoleId],
+    },
+}
+
 // The words, and what they ask for.
-const WORDS: [(&[&str], Option<Invocation>); 16] = [
-    (&["compax", "replay"], Some(Invocation::Replay)),
-    (&["x", "replay"], Some(Invocation::Replay)),
+const WORDS: [(&[&str], Asked); 16] = [
+    (&["compax", "replay"], Asked::Replay),
+    (&["x", "replay"], Asked::Replay),
     (
         &["compax", "gen", "7", "1"],
-        Some(Invocation::Generate { seed: 7, count: 1 }),
+        Asked::Generate { seed: 7, count: 1 },
     ),
     (
         &["compax", "gen", "18446744073709551615", "65535"],
-        Some(Invocation::Generate {
+        Asked::Generate {
             seed: u64::MAX,
             count: 65_535,
-        }),
+        },
     ),
     (
         &["compax", "gen", "+007", "0001"],
-        Some(Invocation::Generate { seed: 7, count: 1 }),
+        Asked::Generate { seed: 7, count: 1 },
     ),
-    (&[], None),
-    (&["compax"], None),
-    (&["compax", "other"], None),
-    (&["compax", "help"], None),
-    (&["compax", "--version"], None),
-    (&["compax", "replay", "--help"], None),
-    (&["compax", "replay", "x"], None),
-    (&["compax", "gen", "7"], None),
-    (&["compax", "gen", "7", "65536"], None),
-    (&["compax", "gen", "18446744073709551616", "1"], None),
-    (&["compax", "gen", "7", "-0"], None),
+    (&[], Asked::Nothing),
+    (&["compax"], Asked::Nothing),
+    (&["compax", "other"], Asked::Nothing),
+    (&["compax", "help"], Asked::Nothing),
+    (&["compax", "--version"], Asked::Nothing),
+    (&["compax", "replay", "--help"], Asked::Nothing),
+    (&["compax", "replay", "x"], Asked::Nothing),
+    (&["compax", "gen", "7"], Asked::Nothing),
+    (&["compax", "gen", "7", "65536"], Asked::Nothing),
+    (
+        &["compax", "gen", "18446744073709551616", "1"],
+        Asked::Nothing,
+    ),
+    (&["compax", "gen", "7", "-0"], Asked::Nothing),
 ];
+
+const CLIENT: RoleId = RoleId {
+    kind: Kind::Client,
+    index: 0,
+};
+
+const LAST_MATCHMAKER: RoleId = RoleId {
+    kind: Kind::Matchmaker,
+    index: 65_535,
+};
+
+// The words of nodes, and what they ask for.
+const NODES: [(&[&str], Asked); 10] = [
+    (
+        &["compax", "node", "client:0"],
+        Asked::Node {
+            turns: 1_000_000,
+            roles: &[CLIENT],
+        },
+    ),
+    (
+        &[
+            "compax",
+            "node",
+            "--turns=1000000000",
+            "match:0065535",
+            "client:0",
+        ],
+        Asked::Node {
+            turns: 1_000_000_000,
+            roles: &[LAST_MATCHMAKER, CLIENT],
+        },
+    ),
+    (
+        &["compax", "node", "client:0", "--turns", "1"],
+        Asked::Node {
+            turns: 1,
+            roles: &[CLIENT],
+        },
+    ),
+    (&["compax", "node", "--turns", "1"], Asked::Nothing),
+    (
+        &["compax", "node", "--turns", "1000000001", "client:0"],
+        Asked::Nothing,
+    ),
+    (&["compax", "node", "client:0", "client:00"], Asked::Nothing),
+    (&["compax", "node", "client:65536"], Asked::Nothing),
+    (&["compax", "node", "client:+1"], Asked::Nothing),
+    (&["compax", "node", "client:"], Asked::Nothing),
+    (&["compax", "node", "client"], Asked::Nothing),
+];
+
+// Whether this is what is asked for.
+fn is_asked(said: &Option<Invocation>, wanted: Asked) -> bool {
+    match said {
+        None => matches!(wanted, Asked::Nothing),
+        Some(Invocation::Replay) => matches!(wanted, Asked::Replay),
+        Some(
+            Invocation::Generate {
+                seed: said_seed,
+                count: said_count,
+            },
+        ) => match wanted {
+            Asked::Generate { seed, count } => seed == *said_seed && count == *said_count,
+            _ => false,
+        },
+        Some(
+            Invocation::Node {
+                turns: said_turns,
+                roles: said_roles,
+            },
+        ) => match wanted {
+            Asked::Node { turns, roles } => turns == *said_turns && roles == said_roles.as_slice(),
+            _ => false,
+        },
+    }
+}
+
+// Whether words ask for this.
+fn asks(alloc: Global, words: &[&str], wanted: Asked) -> Result<bool, Fail> {
+    let owned = owned(alloc, words)?;
+    let said = said(alloc, &owned)?;
+    Ok(is_asked(&said, wanted))
+}
 
 #[test]
 fn reads_the_words(rt: HostRuntime) -> Result<(), Fail> {
-    let alloc = rt.alloc();
     for (words, wanted) in &WORDS {
-        let owned = owned(alloc, words)?;
-        assert_eq!(rt; said(alloc, &owned)?, *wanted);
+        assert!(rt; asks(rt.alloc(), words, *wanted)?);
+    }
+    Ok(())
+}
+
+#[test]
+fn reads_the_words_of_a_node(rt: HostRuntime) -> Result<(), Fail> {
+    for (words, wanted) in &NODES {
+        assert!(rt; asks(rt.alloc(), words, *wanted)?);
     }
     Ok(())
 }

@@ -1,23 +1,34 @@
 //! All that the program does, over what it is handed.
 
-ghost use Rattle.std.specs.Prelude.{map, string_bytes};
+ghost use Rattle.std.specs.Prelude.{◌≡◌, [], map, string_bytes};
 ghost use Rattle.cx_edge.specs.Sink.{Says};
+ghost use Rattle.cx_node.specs.Serving.{outside};
 ghost use Rattle.compax.specs.Answer.{Answered, IsLawfulAnswer};
-ghost use Rattle.compax.specs.Line.{Comes, line_of};
+ghost use Rattle.compax.specs.Line.{line_of};
 ghost use Rattle.compax.specs.Words.{said};
 
 use crate::line::write_line;
 use crate::words::{Invocation, said};
 use cx_base::Status;
-use cx_edge::{Sink, Source};
+use cx_edge::{Depot, Link, Sink, Source};
+use cx_node::serve;
 use cx_replay::{replay, run_gen};
 use std::alloc::{AllocError, Global};
 
 // Does what the words say.
-fn answer<S: Source, W: Sink>(alloc: Global, words: &[String], input: &mut S, out: &mut W) -> Status
-    ensures answered { Answered (said (map string_bytes words.now)) (S.left input.old) (S.left input.new) (S.faults input.old) (S.faults input.new)
-        (W.taken out.old) (W.taken out.new) (W.faults out.old) (W.faults out.new) result }
-    ensures comes { Comes result }
+fn answer<S: Source, W: Sink, L: Link, D: Depot>(
+    alloc: Global,
+    words: &[String],
+    input: &mut S,
+    out: &mut W,
+    link: &mut L,
+    depot: &mut D,
+) -> Status
+    requires lent { D.out depot.old ≡ [] }
+    ensures answered { Answered (said (map string_bytes words.now))
+        (outside (S.left input.old) (S.faults input.old) (L.told link.old) (L.faults link.old) (W.taken out.old) (W.faults out.old) (D.tells depot.old) (D.held depot.old) (D.faults depot.old))
+        (outside (S.left input.new) (S.faults input.new) (L.told link.new) (L.faults link.new) (W.taken out.new) (W.faults out.new) (D.tells depot.new) (D.held depot.new) (D.faults depot.new)) result }
+    ensures given_back { D.out depot.new ≡ [] }
 {
     match said(alloc, words) {
         Ok(Some(Invocation::Replay)) => replay(alloc, input, out),
@@ -27,6 +38,15 @@ fn answer<S: Source, W: Sink>(alloc: Global, words: &[String], input: &mut S, ou
             u64::from(count),
             out,
         ),
+        Ok(Some(Invocation::Node { turns, roles })) => serve(
+            alloc,
+            roles.as_slice(),
+            turns,
+            input,
+            link,
+            depot,
+            out,
+        ),
         Ok(None) => Status::BadWords,
         Err(AllocError) => Status::NoMemory,
     }
@@ -34,25 +54,31 @@ fn answer<S: Source, W: Sink>(alloc: Global, words: &[String], input: &mut S, ou
 
 /// Does what the words say, the first of which is the program's name: `replay` reads a schedule from the source, and writes the
 /// trace and the summary of its run to `out`; `gen SEED COUNT` runs so many events that are made from a seed, and writes a
-/// short summary. The line of the status goes to `err`, whose failing never changes the status.
+/// short summary; `node --turns N ROLE..` hosts these roles over the link and the depot, with the requests of the source, and
+/// writes the answers. The line of the status goes to `err`, whose failing never changes the status.
 ///
-/// `BadWords` comes exactly where the words say neither, and then nothing is read or written. Every other status is the
-/// command's own, and want of memory. The run is lawful: no slot has two chosen values, each replica's values begin one
-/// command list, every answer is that list's, and reads are fresh.
-pub fn top<S: Source, W: Sink, E: Sink>(
+/// `BadWords` comes exactly where the words say none of these, and then nothing is read or written, and where a role of a node
+/// isn't in the cluster of its header. Every other status is the command's own, and want of memory. The run of a schedule is
+/// lawful: no slot has two chosen values, each replica's values begin one command list, every answer is that list's, and reads
+/// are fresh. The link must have no role bound, and the depot no store out; it has none out at the end.
+pub fn top<S: Source, W: Sink, E: Sink, L: Link, D: Depot>(
     alloc: Global,
     words: &[String],
     input: &mut S,
     out: &mut W,
     err: &mut E,
+    link: &mut L,
+    depot: &mut D,
 ) -> Status
-    ensures answered { Answered (said (map string_bytes words.now)) (S.left input.old) (S.left input.new) (S.faults input.old) (S.faults input.new)
-        (W.taken out.old) (W.taken out.new) (W.faults out.old) (W.faults out.new) result }
+    requires lent { D.out depot.old ≡ [] }
+    ensures answered { Answered (said (map string_bytes words.now))
+        (outside (S.left input.old) (S.faults input.old) (L.told link.old) (L.faults link.old) (W.taken out.old) (W.faults out.old) (D.tells depot.old) (D.held depot.old) (D.faults depot.old))
+        (outside (S.left input.new) (S.faults input.new) (L.told link.new) (L.faults link.new) (W.taken out.new) (W.faults out.new) (D.tells depot.new) (D.held depot.new) (D.faults depot.new)) result }
+    ensures given_back { D.out depot.new ≡ [] }
     ensures lawful { IsLawfulAnswer (said (map string_bytes words.now)) (S.left input.old) (S.left input.new) }
-    ensures comes { Comes result }
     ensures line { Says (E.taken err.old) (E.taken err.new) (E.faults err.old) (E.faults err.new) (line_of result) }
 {
-    let status = answer(alloc, words, input, out);
+    let status = answer(alloc, words, input, out, link, depot);
     write_line(err, &status);
     status
 }

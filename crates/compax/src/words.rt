@@ -3,20 +3,25 @@
 ghost use Rattle.std.specs.Prelude.{◌≡◌, ◌∷◌, ℕ, List, [], IfOk, None, Some, false, map, codes, string_bytes};
 ghost use Rattle.clap.specs.Words.{app_of, found_of, rows_of, rule_of};
 ghost use Rattle.clap.specs.declared.builder.command.Command.TheViews.{out-Command};
-ghost use Rattle.compax.specs.declared.words.Invocation.TheVariants.{Generate as Gen, Replay};
-ghost use Rattle.compax.specs.Words.{IsMatch, asked_by, command, count_rule, generate, generated, most_count, most_seed, number_at, said, seed_rule};
+ghost use Rattle.cx_base.specs.declared.role.Kind.TheVariants.{Batcher, Client};
+ghost use Rattle.cx_base.specs.Role.{role};
+ghost use Rattle.compax.specs.declared.words.Invocation.TheVariants.{Generate as Gen, Node as Host, Replay};
+ghost use Rattle.compax.specs.Words.{IsMatch, asked_by, command, count_rule, generate, generated, hosted, most_count, most_seed, most_u32, node, number_at, roles_at, roles_rule, said, seed_rule, turns_rule};
 
+use crate::roles::Roles;
 use clap::error::ErrorKind;
 use clap::{Arg, ArgMatches, Command, value_parser};
 use std::alloc::{AllocError, Global};
 
 /// What a command line asks for.
-#[derive(Clone, Copy, Debug, PartialEq, Eq)]
+#[derive(Debug, Drop)]
 pub enum Invocation {
     /// To replay a schedule: `replay`.
     Replay,
     /// To run so many events that are made from a seed: `gen SEED COUNT`.
     Generate { seed: u64, count: u16 },
+    /// To host these roles for so many turns at most: `node --turns N ROLE..`.
+    Node { turns: u32, roles: Roles },
 }
 
 fn seed<'a>(alloc: Global) -> Arg<'a>
@@ -37,6 +42,23 @@ fn count<'a>(alloc: Global) -> Arg<'a>
         .value_parser(value_parser!(u16))
 }
 
+fn turns<'a>(alloc: Global) -> Arg<'a>
+    ensures rule { rule_of result ≡ turns_rule }
+    ensures local { result.global ≡ false }
+{
+    Arg::new(alloc, "turns")
+        .long("turns")
+        .default_value("1000000")
+        .value_parser(value_parser!(u32).range(1..=1_000_000_000))
+}
+
+fn roles<'a>(alloc: Global) -> Arg<'a>
+    ensures rule { rule_of result ≡ roles_rule }
+    ensures local { result.global ≡ false }
+{
+    Arg::new(alloc, "ROLE").required(true).num_args(1..)
+}
+
 fn generate<'a>(alloc: Global) -> Result<Command<'a>, AllocError>
     ensures app { IfOk result (λ c. app_of c ≡ generate) }
     ensures local { IfOk result (λ c. (out-Command c).has_globals ≡ false) }
@@ -46,13 +68,23 @@ fn generate<'a>(alloc: Global) -> Result<Command<'a>, AllocError>
         .arg(count(alloc))
 }
 
+fn node<'a>(alloc: Global) -> Result<Command<'a>, AllocError>
+    ensures app { IfOk result (λ c. app_of c ≡ node) }
+    ensures local { IfOk result (λ c. (out-Command c).has_globals ≡ false) }
+{
+    Command::new(alloc, "node")
+        .arg(turns(alloc))?
+        .arg(roles(alloc))
+}
+
 fn command<'a>(alloc: Global) -> Result<Command<'a>, AllocError>
     ensures { IfOk result (λ c. app_of c ≡ command) }
 {
     Command::new(alloc, "compax")
         .subcommand_required(true)
         .subcommand(Command::new(alloc, "replay"))?
-        .subcommand(generate(alloc)?)
+        .subcommand(generate(alloc)?)?
+        .subcommand(node(alloc)?)
 }
 
 fn seed_given(matches: &ArgMatches) -> Option<u64>
@@ -77,16 +109,43 @@ fn generated(matches: &ArgMatches) -> Option<Invocation>
     }
 }
 
+fn turns_given(matches: &ArgMatches) -> Option<u32>
+    ensures { result ≡ number_at most_u32 (codes "turns") (rows_of (found_of matches.now)) }
+{
+    matches.get_one::<u32>("turns")
+}
+
+fn roles_given(alloc: Global, matches: &ArgMatches) -> Result<Option<Roles>, AllocError>
+    ensures { IfOk result (λ roles. roles ≡ roles_at (codes "ROLE") (rows_of (found_of matches.now))) }
+{
+    match matches.get_raw("ROLE") {
+        Some(words) => Roles::named(alloc, words),
+        None => Ok(None),
+    }
+}
+
+// What the values of `node` ask for.
+fn hosted(alloc: Global, matches: &ArgMatches) -> Result<Option<Invocation>, AllocError>
+    ensures { IfOk result (λ invocation. invocation ≡ hosted (rows_of (found_of matches.now))) }
+{
+    match (turns_given(matches), roles_given(alloc, matches)?) {
+        (Some(turns), Some(roles)) => Ok(Some(Invocation::Node { turns, roles })),
+        _ => Ok(None),
+    }
+}
+
 // What a subcommand asks for by its values.
-fn asked_by(name: &str, given: &ArgMatches) -> Option<Invocation>
-    ensures { result ≡ asked_by (name.now, rows_of (found_of given.now)) }
+fn asked_by(alloc: Global, name: &str, given: &ArgMatches) -> Result<Option<Invocation>, AllocError>
+    ensures { IfOk result (λ invocation. invocation ≡ asked_by (name.now, rows_of (found_of given.now))) }
 {
     if name == "replay" {
-        Some(Invocation::Replay)
+        Ok(Some(Invocation::Replay))
     } else if name == "gen" {
-        generated(given)
+        Ok(generated(given))
+    } else if name == "node" {
+        hosted(alloc, given)
     } else {
-        None
+        Ok(None)
     }
 }
 
@@ -104,7 +163,8 @@ fn matched<'a>(alloc: Global, words: &'a [String]) -> Result<Option<ArgMatches<'
 }
 
 /// What the words ask for, the first of which is the program's name. None exactly where they give a fault: another
-/// subcommand or none, a value that is missing, out of its range or one too many, and where they ask for help.
+/// subcommand or none, a value that is missing, out of its range or one too many, a word that names no role, a role that is named
+/// twice, and where they ask for help.
 pub fn said(alloc: Global, words: &[String]) -> Result<Option<Invocation>, AllocError>
     ensures { IfOk result (λ invocation. invocation ≡ said (map string_bytes words.now)) }
 {
@@ -112,13 +172,13 @@ pub fn said(alloc: Global, words: &[String]) -> Result<Option<Invocation>, Alloc
         return Ok(None);
     };
     match matches.subcommand() {
-        Some((name, given)) => Ok(asked_by(name, given)),
+        Some((name, given)) => asked_by(alloc, name, given),
         None => Ok(None),
     }
 }
 
 /// What words say that are written out, whatever the program is called: a law of the definition.
-#[tactic(auto, using(crate::proofs::Spoken::replay_said, crate::proofs::Spoken::least_said, crate::proofs::Spoken::most_said, crate::proofs::Spoken::seed_above, crate::proofs::Spoken::count_above, crate::proofs::Spoken::nothing_said, crate::proofs::Spoken::help_said))]
+#[tactic(auto, using(crate::proofs::Spoken::replay_said, crate::proofs::Spoken::least_said, crate::proofs::Spoken::most_said, crate::proofs::Spoken::seed_above, crate::proofs::Spoken::count_above, crate::proofs::Spoken::nothing_said, crate::proofs::Spoken::help_said, crate::proofs::Spoken::node_said, crate::proofs::Spoken::turns_said, crate::proofs::Spoken::no_turn_said, crate::proofs::Spoken::no_role_said, crate::proofs::Spoken::twice_said, crate::proofs::Spoken::misspelt_said))]
 pub fn said_of_words_written_out()
     ensures replay { (program : List ℕ) → said (program ∷ codes "replay" ∷ []) ≡ Some Replay }
     ensures least { (program : List ℕ) → said (program ∷ codes "gen" ∷ codes "0" ∷ codes "0" ∷ []) ≡ Some (Gen 0 0) }
@@ -127,4 +187,10 @@ pub fn said_of_words_written_out()
     ensures count_above { (program : List ℕ) → said (program ∷ codes "gen" ∷ codes "0" ∷ codes "65536" ∷ []) ≡ None }
     ensures nothing { (program : List ℕ) → said (program ∷ []) ≡ None }
     ensures help { (program : List ℕ) → said (program ∷ codes "--help" ∷ []) ≡ None }
+    ensures node { (program : List ℕ) → said (program ∷ codes "node" ∷ codes "client:0" ∷ []) ≡ Some (Host 1000000 (role Client 0 ∷ [])) }
+    ensures turns { (program : List ℕ) → said (program ∷ codes "node" ∷ codes "--turns" ∷ codes "75" ∷ codes "client:0" ∷ codes "batcher:0" ∷ []) ≡ Some (Host 75 (role Client 0 ∷ role Batcher 0 ∷ [])) }
+    ensures no_turn { (program : List ℕ) → said (program ∷ codes "node" ∷ codes "--turns" ∷ codes "0" ∷ codes "client:0" ∷ []) ≡ None }
+    ensures no_role { (program : List ℕ) → said (program ∷ codes "node" ∷ []) ≡ None }
+    ensures twice { (program : List ℕ) → said (program ∷ codes "node" ∷ codes "client:0" ∷ codes "client:0" ∷ []) ≡ None }
+    ensures misspelt { (program : List ℕ) → said (program ∷ codes "node" ∷ codes "claent:0" ∷ []) ≡ None }
 {}

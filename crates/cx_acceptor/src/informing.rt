@@ -8,12 +8,11 @@ ghost use Rattle.cx_field.specs.Fields as field;
 ghost use Rattle.cx_role.specs.Role.{Replies, Steps, StaysAt, FailsAt};
 
 use crate::Acceptor;
-use crate::keeping::keep;
 use cx_base::{NoMemory, RoleId, Round, Why};
 use cx_field::Token;
 use cx_keeper::Keeper;
 use cx_msg::{Record, informed, pre_read_ack};
-use cx_role::{Outbox, StepFault};
+use cx_role::{Outbox, StepFault, keep};
 
 impl Acceptor {
     /// A leader that retires earlier rounds tells how many slots enough replicas hold; what is kept of it is the greatest
@@ -33,6 +32,7 @@ impl Acceptor {
         requires mark { IsTrue (field.mark.fits mark) }
         ensures ok { IfOk result (λ why. Steps K.append_gives acceptor_rules self.old (inform_row self.old.me self.old.durable from round mark) why keeper.old keeper.new self.new out.new.list) }
         ensures no_memory { IsErrOf result StepFault.NoMemory → StaysAt K.kept self.old self.new keeper.old keeper.new out.new.list }
+        ensures told { K.tells keeper.new ≡ K.tells keeper.old }
         ensures failed { IsErrOf result StepFault.Failed → FailsAt K.append_gives (inform_row self.old.me self.old.durable from round mark) keeper.old keeper.new self.new out.new.list }
     {
         if round.is_before(&self.promise) {

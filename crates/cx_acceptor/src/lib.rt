@@ -7,7 +7,6 @@
 
 mod acceptor;
 mod informing;
-mod keeping;
 mod promising;
 mod records;
 #[cfg(test)]

@@ -9,12 +9,11 @@ ghost use Rattle.cx_field.specs.Fields as field;
 ghost use Rattle.cx_role.specs.Role.{Steps, StaysAt, FailsAt};
 
 use crate::Acceptor;
-use crate::keeping::keep;
 use cx_base::{Few, NoMemory, RoleId, Round, Why, copy_all};
 use cx_field::Votes;
 use cx_keeper::Keeper;
 use cx_msg::{Record, nack, phase1b};
-use cx_role::{Outbox, StepFault};
+use cx_role::{Outbox, StepFault, keep};
 
 impl Acceptor {
     /// A leader asks to promise its round, and for the votes from the watermark on; they are told once the promise is kept
@@ -32,6 +31,7 @@ impl Acceptor {
         requires round { IsTrue (field.round.fits round) }
         ensures ok { IfOk result (λ why. Steps K.append_gives acceptor_rules self.old (phase1a_row self.old.me self.old.durable from round) why keeper.old keeper.new self.new out.new.list) }
         ensures no_memory { IsErrOf result StepFault.NoMemory → StaysAt K.kept self.old self.new keeper.old keeper.new out.new.list }
+        ensures told { K.tells keeper.new ≡ K.tells keeper.old }
         ensures failed { IsErrOf result StepFault.Failed → FailsAt K.append_gives (phase1a_row self.old.me self.old.durable from round) keeper.old keeper.new self.new out.new.list }
     {
         if round.is_before(&self.promise) {

@@ -9,13 +9,12 @@ ghost use Rattle.cx_field.specs.Fields.{in_window};
 ghost use Rattle.cx_role.specs.Role.{Steps, StaysAt, FailsAt};
 
 use crate::Acceptor;
-use crate::keeping::keep;
 use crate::votes::{has_vote, keep_from, place};
 use cx_base::{Duplicate, RoleId, Round, Value, Why};
 use cx_field::Vote;
 use cx_keeper::Keeper;
 use cx_msg::{Record, phase2b};
-use cx_role::{Outbox, StepFault};
+use cx_role::{Outbox, StepFault, keep};
 
 impl Acceptor {
     /// A proxy leader asks for a vote: in a round below the promised one the round's leader is told, else the vote is kept
@@ -40,6 +39,7 @@ impl Acceptor {
         requires value { IsTrue (field.value.fits value.now) }
         ensures ok { IfOk result (λ why. Steps K.append_gives acceptor_rules self.old (phase2a_row self.old.me self.old.durable from round slot cw value.now) why keeper.old keeper.new self.new out.new.list) }
         ensures no_memory { IsErrOf result StepFault.NoMemory → StaysAt K.kept self.old self.new keeper.old keeper.new out.new.list }
+        ensures told { K.tells keeper.new ≡ K.tells keeper.old }
         ensures failed { IsErrOf result StepFault.Failed → FailsAt K.append_gives (phase2a_row self.old.me self.old.durable from round slot cw value.now) keeper.old keeper.new self.new out.new.list }
     {
         if round.is_before(&self.promise) {

@@ -1,5 +1,6 @@
 -- What a disk in memory has held, call by call.
-use Rattle.std.specs.Prelude.{◌≡◌, ℕ, ◌≤◌, nat_le, List, [], ◌∷◌, ◌++◌, length, take, fold, if◌then◌else◌}
+use Rattle.std.specs.Prelude.{◌≡◌, ℕ, ◌+◌, ◌≤◌, nat_le, Bool, true, List, [], ◌∷◌, ◌++◌, length, map, take, slice_range, replicate, fold, if◌then◌else◌}
+use Rattle.std.specs.List.{list_all}
 use Rattle.cx_disk.specs.Disk.{written, Torn, Cut}
 use Rattle.cx_disk.specs.declared.memory.Call.{Call}
 use Rattle.cx_disk.specs.declared.memory.Call.TheVariants as call
@@ -30,20 +31,65 @@ MayLeave state c = Reaches state.synced state.steps c
 abbrev pub stepped : State → List ℕ → Step → State
 stepped state seen step = record { seen = seen; synced = state.synced; steps = state.steps ++ step ∷ [] }
 
-abbrev pub after : State → Call → State
-after state (call.Write at bytes) = stepped state (if nat_le at (length state.seen) then written at bytes.items state.seen else state.seen) (write at (length bytes.items))
-after state (call.WriteFailed at len) = stepped state state.seen (write at len)
-after state (call.Cut at) = stepped state (take at state.seen) (cut at)
-after state (call.CutFailed at) = stepped state state.seen (cut at)
-after state call.Sync = record { seen = state.seen; synced = state.seen; steps = [] }
+-- a call that changed what a crash may leave, with the bytes that it wrote
+pub data Note : Type 0 where
+  made_write : ℕ → List ℕ → Note
+  failed_write : ℕ → ℕ → Note
+  made_cut : ℕ → Note
+  failed_cut : ℕ → Note
+  made_sync : Note
+
+abbrev pub after : State → Note → State
+after state (made_write at bytes) = stepped state (if nat_le at (length state.seen) then written at bytes state.seen else state.seen) (write at (length bytes))
+after state (failed_write at len) = stepped state state.seen (write at len)
+after state (made_cut at) = stepped state (take at state.seen) (cut at)
+after state (failed_cut at) = stepped state state.seen (cut at)
+after state made_sync = record { seen = state.seen; synced = state.seen; steps = [] }
 
 abbrev pub opened : List ℕ → State
 opened file = record { seen = file; synced = file; steps = [] }
 
 -- the state after the calls
-abbrev pub state_after : List ℕ → List Call → State
-state_after first calls = fold after (opened first) calls
+abbrev pub state_after : List ℕ → List Note → State
+state_after first notes = fold after (opened first) notes
 
 -- what a crash since call t might have left
-abbrev pub LeftSince : List ℕ → List Call → ℕ → List ℕ → Type 0
-LeftSince first calls t c = (k : ℕ) × (t ≤ k) × (k ≤ length calls) × MayLeave (state_after first (take k calls)) c
+abbrev pub LeftSince : List ℕ → List Note → ℕ → List ℕ → Type 0
+LeftSince first notes t c = (k : ℕ) × (t ≤ k) × (k ≤ length notes) × MayLeave (state_after first (take k notes)) c
+
+-- a call that was noted, where these are the bytes that all writes have written, one behind the other
+abbrev pub noted : List ℕ → Call → Note
+noted bytes (call.Write at from len) = made_write at (slice_range bytes from (from + len))
+noted bytes (call.WriteFailed at len) = failed_write at len
+noted bytes (call.Cut at) = made_cut at
+noted bytes (call.CutFailed at) = failed_cut at
+noted bytes call.Sync = made_sync
+
+abbrev pub notes : List ℕ → List Call → List Note
+notes bytes calls = map (λ (c : Call). noted bytes c) calls
+
+-- whether the bytes of a noted call are among the first n
+abbrev pub is_within : ℕ → Call → Bool
+is_within n (call.Write at from len) = nat_le (from + len) n
+is_within n (call.WriteFailed at len) = true
+is_within n (call.Cut at) = true
+is_within n (call.CutFailed at) = true
+is_within n call.Sync = true
+
+abbrev pub all_within : ℕ → List Call → Bool
+all_within n calls = list_all (λ (c : Call). is_within n c) calls
+
+-- the bytes with 0xff in n places, where these begin in them or at their end
+abbrev pub fill : ℕ → ℕ → List ℕ → List ℕ
+fill at n file = if nat_le at (length file) then written at (replicate n 255) file else file
+
+-- what was synced last, with each range that was written since then filled, and cut as it was cut
+abbrev pub fill_after : List ℕ → List ℕ → Call → List ℕ
+fill_after synced file (call.Write at from len) = fill at len file
+fill_after synced file (call.WriteFailed at len) = fill at len file
+fill_after synced file (call.Cut at) = take at file
+fill_after synced file (call.CutFailed at) = file
+fill_after synced file call.Sync = synced
+
+abbrev pub filled : List ℕ → List Call → List ℕ
+filled synced calls = fold (fill_after synced) synced calls

@@ -6,9 +6,7 @@ use Rattle.std.proofs.lemmas.List.{take_all, take_at, drop_at, length-take-le, l
 use Rattle.std.specs.declared.alloc.Global.{Global}
 use borrow.Author.Tests.{leb-true}
 use Rattle.cx_disk.specs.Disk.{written, Torn, Cut, Elapses, Follows}
-use Rattle.cx_disk.specs.declared.memory.Call.{Call}
-use Rattle.cx_disk.specs.declared.memory.Call.TheVariants as call
-use Rattle.cx_disk.specs.MemDisk.{Step, write, cut, Steps, State, Reaches, MayLeave, stepped, after, opened, state_after, LeftSince}
+use Rattle.cx_disk.specs.MemDisk.{Step, write, cut, Steps, State, Reaches, MayLeave, Note, made_write, failed_write, made_cut, failed_cut, made_sync, stepped, after, opened, state_after, LeftSince}
 
 -- one step more, at the end
 pub reaches-snoc : (from : List ℕ) (steps : List Step) (s : Step) (d c : List ℕ) → Reaches from steps d → Steps s d c → Reaches from (steps ++ s ∷ []) c
@@ -30,7 +28,7 @@ take-take at file = elim (cases_lt at (length file)) [
   | inr past ↦ let all : take at file ≡ file = take_all at file past in ap (λ l. take (length l) file) all ∙ take_all (length file) file (omega arith) ∙ sym all
 ]
 
-torn-written : (at : ℕ) (bytes file : List ℕ) → at ≤ length file → Torn at (length bytes) file (written at bytes file)
+pub torn-written : (at : ℕ) (bytes file : List ℕ) → at ≤ length file → Torn at (length bytes) file (written at bytes file)
 torn-written at bytes file within =
     let rest = drop (at + length bytes) file in
     let front : length (take at file) ≡ at = length-take-le at file within in
@@ -45,46 +43,46 @@ torn-written at bytes file within =
 pub cut-same : (at : ℕ) (file : List ℕ) → Cut at file file
 cut-same at file = record { no_shorter = omega arith; front = take_all (length file) file (omega arith) }
 
-cut-done : (at : ℕ) (file : List ℕ) → Cut at file (take at file)
+pub cut-done : (at : ℕ) (file : List ℕ) → Cut at file (take at file)
 cut-done at file = record { no_shorter = omega (arith, length-take at file); front = take-take at file }
 
 -- a call takes what is seen along
-after-seen : (state : State) (c : Call) → MayLeave state state.seen → MayLeave (after state c) (after state c).seen
-after-seen state (call.Write at bytes) left =
+after-seen : (state : State) (c : Note) → MayLeave state state.seen → MayLeave (after state c) (after state c).seen
+after-seen state (made_write at bytes) left =
     elim (cases_Bool (nat_le at (length state.seen))) [
-      | inl within ↦ rw within (reaches-snoc state.synced state.steps (write at (length bytes.items)) state.seen _ left (torn-written at bytes.items state.seen (leb-true _ _ within)))
-      | inr past ↦ rw past (reaches-snoc state.synced state.steps (write at (length bytes.items)) state.seen state.seen left (torn-same at (length bytes.items) state.seen))
+      | inl within ↦ rw within (reaches-snoc state.synced state.steps (write at (length bytes)) state.seen _ left (torn-written at bytes state.seen (leb-true _ _ within)))
+      | inr past ↦ rw past (reaches-snoc state.synced state.steps (write at (length bytes)) state.seen state.seen left (torn-same at (length bytes) state.seen))
     ]
-after-seen state (call.WriteFailed at len) left = reaches-snoc state.synced state.steps (write at len) state.seen state.seen left (torn-same at len state.seen)
-after-seen state (call.Cut at) left = reaches-snoc state.synced state.steps (cut at) state.seen _ left (cut-done at state.seen)
-after-seen state (call.CutFailed at) left = reaches-snoc state.synced state.steps (cut at) state.seen state.seen left (cut-same at state.seen)
-after-seen state call.Sync left = refl
+after-seen state (failed_write at len) left = reaches-snoc state.synced state.steps (write at len) state.seen state.seen left (torn-same at len state.seen)
+after-seen state (made_cut at) left = reaches-snoc state.synced state.steps (cut at) state.seen _ left (cut-done at state.seen)
+after-seen state (failed_cut at) left = reaches-snoc state.synced state.steps (cut at) state.seen state.seen left (cut-same at state.seen)
+after-seen state made_sync left = refl
 
-pub seen_is_left : (first : List ℕ) (calls : List Call) → MayLeave (state_after first calls) (state_after first calls).seen
+pub seen_is_left : (first : List ℕ) (calls : List Note) → MayLeave (state_after first calls) (state_after first calls).seen
 seen_is_left first calls = go (opened first) calls refl
   where
-    go : (state : State) (cs : List Call) → MayLeave state state.seen → MayLeave (fold after state cs) (fold after state cs).seen
+    go : (state : State) (cs : List Note) → MayLeave state state.seen → MayLeave (fold after state cs) (fold after state cs).seen
     go state [] left = left
     go state (c ∷ cs) left = go (after state c) cs (after-seen state c left)
 
-pub left_now : (first : List ℕ) (calls : List Call) (t : ℕ) (c : List ℕ) → t ≤ length calls → MayLeave (state_after first calls) c → LeftSince first calls t c
+pub left_now : (first : List ℕ) (calls : List Note) (t : ℕ) (c : List ℕ) → t ≤ length calls → MayLeave (state_after first calls) c → LeftSince first calls t c
 left_now first calls t c le now = (length calls, le, omega arith, subst (λ cs. MayLeave (state_after first cs) c) (sym (take_all (length calls) calls (omega arith))) now)
 
-pub left_only_now : (first : List ℕ) (calls : List Call) (c : List ℕ) → LeftSince first calls (length calls) c → MayLeave (state_after first calls) c
+pub left_only_now : (first : List ℕ) (calls : List Note) (c : List ℕ) → LeftSince first calls (length calls) c → MayLeave (state_after first calls) c
 left_only_now first calls c left = subst (λ cs. MayLeave (state_after first cs) c) (take_all left.0 calls left.1) left.3
 
 -- the state after one call more
-pub state_after-more : (first : List ℕ) (calls : List Call) (c : Call) → state_after first (calls ++ c ∷ []) ≡ after (state_after first calls) c
+pub state_after-more : (first : List ℕ) (calls : List Note) (c : Note) → state_after first (calls ++ c ∷ []) ≡ after (state_after first calls) c
 state_after-more first calls c = go (opened first) calls
   where
-    go : (state : State) (cs : List Call) → fold after state (cs ++ c ∷ []) ≡ after (fold after state cs) c
+    go : (state : State) (cs : List Note) → fold after state (cs ++ c ∷ []) ≡ after (fold after state cs) c
     go state [] = refl
     go state (d ∷ cs) = go (after state d) cs
 
-take-more : (k : ℕ) (calls : List Call) (c : Call) → k ≤ length calls → take k (calls ++ c ∷ []) ≡ take k calls
+take-more : (k : ℕ) (calls : List Note) (c : Note) → k ≤ length calls → take k (calls ++ c ∷ []) ≡ take k calls
 take-more k calls c le = take-append-le k calls (c ∷ []) le
 
-pub elapses-more : (first : List ℕ) (calls : List Call) (x : Call) → Elapses (length calls) (length (calls ++ x ∷ [])) (LeftSince first calls) (LeftSince first (calls ++ x ∷ [])) (MayLeave (state_after first (calls ++ x ∷ [])))
+pub elapses-more : (first : List ℕ) (calls : List Note) (x : Note) → Elapses (length calls) (length (calls ++ x ∷ [])) (LeftSince first calls) (LeftSince first (calls ++ x ∷ [])) (MayLeave (state_after first (calls ++ x ∷ [])))
 elapses-more first calls x = record {
   later = omega (arith, length-append calls (x ∷ []));
   nothing_else = λ t c le left. elim (cases_lt (length calls) left.0) [
@@ -94,7 +92,7 @@ elapses-more first calls x = record {
   keeps = λ t c le left. (left.0, left.1, omega (arith, left.2, length-append calls (x ∷ [])), subst (λ cs. MayLeave (state_after first cs) c) (sym (take-more left.0 calls x left.2)) left.3);
 }
 
-pub elapses-same : (first : List ℕ) (calls : List Call) → Elapses (length calls) (length calls) (LeftSince first calls) (LeftSince first calls) (MayLeave (state_after first calls))
+pub elapses-same : (first : List ℕ) (calls : List Note) → Elapses (length calls) (length calls) (LeftSince first calls) (LeftSince first calls) (MayLeave (state_after first calls))
 elapses-same first calls = record { later = omega arith; nothing_else = λ t c le left. inl left; keeps = λ t c le left. left }
 
 pub vec_small : (v : Vec ℕ Global) → length v.items < 2 ^ 63
@@ -102,21 +100,21 @@ vec_small v = omega (arith, v.ok.0, v.ok.1, v.small)
 
 -- ---- the clauses on a crash
 
-pub torn_more : (first : List ℕ) (calls : List Call) (x : Call) (at n : ℕ) (seen : List ℕ) → after (state_after first calls) x ≡ stepped (state_after first calls) seen (write at n)
+pub torn_more : (first : List ℕ) (calls : List Note) (x : Note) (at n : ℕ) (seen : List ℕ) → after (state_after first calls) x ≡ stepped (state_after first calls) seen (write at n)
     → Follows (Torn at n) (MayLeave (state_after first calls)) (MayLeave (state_after first (calls ++ x ∷ [])))
 torn_more first calls x at n seen is = λ c left. reaches-split _ _ (write at n) c (subst (λ s. MayLeave s c) (state_after-more first calls x ∙ is) left)
 
-pub cut_more : (first : List ℕ) (calls : List Call) (x : Call) (at : ℕ) (seen : List ℕ) → after (state_after first calls) x ≡ stepped (state_after first calls) seen (cut at)
+pub cut_more : (first : List ℕ) (calls : List Note) (x : Note) (at : ℕ) (seen : List ℕ) → after (state_after first calls) x ≡ stepped (state_after first calls) seen (cut at)
     → Follows (Cut at) (MayLeave (state_after first calls)) (MayLeave (state_after first (calls ++ x ∷ [])))
 cut_more first calls x at seen is = λ c left. reaches-split _ _ (cut at) c (subst (λ s. MayLeave s c) (state_after-more first calls x ∙ is) left)
 
-pub synced_more : (first : List ℕ) (calls : List Call) (c : List ℕ) → MayLeave (state_after first (calls ++ call.Sync ∷ [])) c → c ≡ (state_after first calls).seen
-synced_more first calls c left = subst (λ s. MayLeave s c) (state_after-more first calls call.Sync) left
+pub synced_more : (first : List ℕ) (calls : List Note) (c : List ℕ) → MayLeave (state_after first (calls ++ made_sync ∷ [])) c → c ≡ (state_after first calls).seen
+synced_more first calls c left = subst (λ s. MayLeave s c) (state_after-more first calls made_sync) left
 
 -- ---- the same, of a call that was noted or for which no room was left
 
-module _ (first : List ℕ) (calls now : List Call) (x : Call) (b : Bool) (added : b ≡ true → now ≡ calls ++ x ∷ []) (same : b ≡ false → now ≡ calls) where
-  by_case : (P : List Call → Type 0) → P (calls ++ x ∷ []) → P calls → P now
+module _ (first : List ℕ) (calls now : List Note) (x : Note) (b : Bool) (added : b ≡ true → now ≡ calls ++ x ∷ []) (same : b ≡ false → now ≡ calls) where
+  by_case : (P : List Note → Type 0) → P (calls ++ x ∷ []) → P calls → P now
   by_case P more less = elim (cases_Bool b) [ inl yes_noted ↦ subst P (sym (added yes_noted)) more | inr not_noted ↦ subst P (sym (same not_noted)) less ]
 
   pub torn_noted : (at n : ℕ) (seen : List ℕ) → after (state_after first calls) x ≡ stepped (state_after first calls) seen (write at n) → Follows (Torn at n) (MayLeave (state_after first calls)) (MayLeave (state_after first now))
@@ -130,13 +128,13 @@ module _ (first : List ℕ) (calls now : List Call) (x : Call) (b : Bool) (added
   pub elapses_noted : Elapses (length calls) (length now) (LeftSince first calls) (LeftSince first now) (MayLeave (state_after first now))
   elapses_noted = by_case (λ cs. Elapses (length calls) (length cs) (LeftSince first calls) (LeftSince first cs) (MayLeave (state_after first cs))) (elapses-more first calls x) (elapses-same first calls)
 
-  pub write_noted : (at n : ℕ) (kept : Vec ℕ Global) → x ≡ call.Write at kept → length kept.items ≡ n → Follows (Torn at n) (MayLeave (state_after first calls)) (MayLeave (state_after first now))
-  write_noted at n kept is long =
+  pub write_noted : (at : ℕ) (bytes : List ℕ) → x ≡ made_write at bytes → Follows (Torn at (length bytes)) (MayLeave (state_after first calls)) (MayLeave (state_after first now))
+  write_noted at bytes is =
       let state = state_after first calls in
-      let seen = if nat_le at (length state.seen) then written at kept.items state.seen else state.seen in
-      torn_noted at n seen (ap (after state) is ∙ ap (λ m. stepped state seen (write at m)) long)
+      let seen = if nat_le at (length state.seen) then written at bytes state.seen else state.seen in
+      torn_noted at (length bytes) seen (ap (after state) is)
 
-  pub sync_noted : x ≡ call.Sync → (c : List ℕ) → MayLeave (state_after first now) c → MayLeave (state_after first calls) c
+  pub sync_noted : x ≡ made_sync → (c : List ℕ) → MayLeave (state_after first now) c → MayLeave (state_after first calls) c
   sync_noted is =
       by_case (λ cs. (c : List ℕ) → MayLeave (state_after first cs) c → MayLeave (state_after first calls) c)
       (λ c left. subst (MayLeave (state_after first calls)) (sym (synced_more first calls c (subst (λ y. MayLeave (state_after first (calls ++ y ∷ [])) c) is left))) (seen_is_left first calls)) (λ c left. left)

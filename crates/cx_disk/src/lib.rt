@@ -5,13 +5,14 @@
 //! moment inside a call.
 #![tactic(auto)]
 
+mod crash;
 mod disk;
 mod making;
 mod memory;
-mod telling;
 #[cfg(test)]
 mod tests;
 
+pub use crash::Unsynced;
 pub use disk::{Disk, Failed};
+pub use making::Room;
 pub use memory::{Call, MemDisk};
-pub use telling::TellingDisk;

@@ -1,20 +1,20 @@
 //! A disk in memory: some of its calls fail, and a crash may tear what was not synced.
-ghost use Rattle.std.specs.Prelude.{◌≡◌, ◌≤◌, ◌++◌, [], ◌∷◌, Some, true, false, length, IfOk};
+ghost use Rattle.std.specs.Prelude.{◌≡◌, ◌+◌, ◌≤◌, ◌++◌, [], ◌∷◌, Some, true, false, length, vec_capacity};
 ghost use Rattle.std.proofs.Common.{sym, ap, subst, ◌∙◌};
 ghost use Rattle.std.proofs.lemmas.Option.{same_Some};
 ghost use Rattle.cx_disk.specs.Disk.{written};
-ghost use Rattle.cx_disk.specs.MemDisk.{state_after, MayLeave, LeftSince};
+ghost use Rattle.cx_disk.specs.MemDisk.{state_after, MayLeave, LeftSince, noted, notes, made_write, made_sync, is_within, all_within};
 ghost use Rattle.cx_disk.specs.MemDiskLaws.{seen_is_left, left_now, left_only_now, vec_small};
 
 use crate::{Disk, Failed};
 use cx_base::Faults;
-use std::alloc::{AllocError, Global};
 
 /// A call that changed what a crash may leave.
-#[derive(Debug, Drop)]
+#[derive(Clone, Copy, Debug)]
 pub enum Call {
-    Write { at: u64, bytes: Vec<u8> },
-    WriteFailed { at: u64, len: u64 },
+    /// Its bytes stand at this place among those that all writes have written.
+    Write { at: u64, from: usize, len: usize },
+    WriteFailed { at: u64, len: usize },
     Cut { at: u64 },
     CutFailed { at: u64 },
     Sync,
@@ -22,15 +22,18 @@ pub enum Call {
 
 #[derive(Drop)]
 pub struct MemDisk {
-    pub(crate) alloc: Global,
     pub(crate) first: Vec<u8>,
+    pub(crate) written: Vec<u8>,
     pub(crate) calls: Vec<Call>,
     pub(crate) bytes: Vec<u8>,
+    pub(crate) synced: Vec<u8>,
     pub(crate) fails: Vec<u64>,
     pub(crate) stop: Option<u64>,
     pub(crate) made: u64,
     pub(crate) faults: Faults,
-    ghost tells: { bytes.items ≡ (state_after first.items calls.items).seen },
+    ghost within: { all_within (length written.items) calls.items ≡ true },
+    ghost tells: { bytes.items ≡ (state_after first.items (notes written.items calls.items)).seen },
+    ghost keeps: { synced.items ≡ (state_after first.items (notes written.items calls.items)).synced },
 }
 
 /// Whether the disk makes no call any more from this one on.
@@ -41,36 +44,84 @@ fn is_stopped(stop: Option<u64>, call: u64) -> bool {
     }
 }
 
-fn overwritten(alloc: Global, old: &[u8], at: usize, bytes: &[u8]) -> Result<Vec<u8>, AllocError>
-    requires { at ≤ length old.now }
-    ensures { IfOk result (λ v. v.items ≡ written at bytes.now old.now) }
+/// Writes over what is there and past the end, in room that was taken before.
+pub(crate) fn write_over(file: &mut Vec<u8>, at: usize, bytes: &[u8])
+    requires place { at ≤ length file.old.items }
+    requires room { at + length bytes.now ≤ vec_capacity file.old }
+    ensures { file.new.items ≡ written at bytes.now file.old.items }
 {
-    let mut new = old[..at].to_vec(alloc)?;
-    new.extend_from_slice(bytes)?;
-    if bytes.len() < old.len() - at {
-        new.extend_from_slice(&old[at + bytes.len()..])?;
+    if bytes.len() <= file.len() - at {
+        file[at..at + bytes.len()].copy_from_slice(bytes);
+    } else {
+        file.truncate(at);
+        file.extend_from_slice(bytes).unwrap();
     }
-    Ok(new)
 }
 
-fn noted(calls: &mut Vec<Call>, call: Call) -> bool
-    ensures added { result ≡ true → calls.new.items ≡ calls.old.items ++ call ∷ [] }
-    ensures same { result ≡ false → calls.new.items ≡ calls.old.items }
+/// Notes a call, where there is room for a note.
+fn note(written: &[u8], calls: &mut Vec<Call>, call: Call) -> bool
+    requires call { is_within (length written.now) call ≡ true }
+    requires calls { all_within (length written.now) calls.old.items ≡ true }
+    ensures added { result ≡ true → notes written.now calls.new.items ≡ notes written.now calls.old.items ++ noted written.now call ∷ [] }
+    ensures same { result ≡ false → notes written.now calls.new.items ≡ notes written.now calls.old.items }
+    ensures within { all_within (length written.now) calls.new.items ≡ true }
 {
-    match calls.push(call) {
-        Ok(()) => true,
-        Err(_) => false,
+    if calls.len() == calls.capacity() {
+        return false;
     }
+    calls.push_reserved(call);
+    true
+}
+
+fn append(written: &mut Vec<u8>, bytes: &[u8])
+    requires { length written.old.items + length bytes.now ≤ vec_capacity written.old }
+    ensures { written.new.items ≡ written.old.items ++ bytes.now }
+{
+    written.extend_from_slice(bytes).unwrap();
+}
+
+/// Notes a write and its bytes, where there is room for both.
+fn note_write(written: &mut Vec<u8>, calls: &mut Vec<Call>, at: u64, bytes: &[u8]) -> bool
+    requires { all_within (length written.old.items) calls.old.items ≡ true }
+    ensures added { result ≡ true → notes written.new.items calls.new.items ≡ notes written.old.items calls.old.items ++ made_write at bytes.now ∷ [] }
+    ensures same { result ≡ false → notes written.new.items calls.new.items ≡ notes written.old.items calls.old.items }
+    ensures within { all_within (length written.new.items) calls.new.items ≡ true }
+{
+    if written.capacity() - written.len() < bytes.len() || calls.len() == calls.capacity() {
+        return false;
+    }
+    let from = written.len();
+    let len = bytes.len();
+    append(written, bytes);
+    calls.push_reserved(Call::Write { at, from, len });
+    true
+}
+
+/// Notes a sync, and what a read gives as what was synced last, where there is room for both.
+fn note_sync(written: &[u8], calls: &mut Vec<Call>, bytes: &[u8], synced: &mut Vec<u8>) -> bool
+    requires { all_within (length written.now) calls.old.items ≡ true }
+    ensures added { result ≡ true → notes written.now calls.new.items ≡ notes written.now calls.old.items ++ made_sync ∷ [] }
+    ensures synced { result ≡ true → synced.new.items ≡ bytes.now }
+    ensures same { result ≡ false → notes written.now calls.new.items ≡ notes written.now calls.old.items }
+    ensures same_synced { result ≡ false → synced.new.items ≡ synced.old.items }
+    ensures within { all_within (length written.now) calls.new.items ≡ true }
+{
+    if synced.capacity() < bytes.len() || !note(written, calls, Call::Sync) {
+        return false;
+    }
+    synced.clear();
+    synced.extend_from_slice(bytes).unwrap();
+    true
 }
 
 impl Disk for MemDisk {
     ghost seen = { λ m. Some m.bytes.items };
 
-    ghost may_leave = { λ m. MayLeave (state_after m.first.items m.calls.items) };
+    ghost may_leave = { λ m. MayLeave (state_after m.first.items (notes m.written.items m.calls.items)) };
 
-    ghost moment = { λ m. length m.calls.items };
+    ghost moment = { λ m. length (notes m.written.items m.calls.items) };
 
-    ghost left_since = { λ m. LeftSince m.first.items m.calls.items };
+    ghost left_since = { λ m. LeftSince m.first.items (notes m.written.items m.calls.items) };
 
     ghost faults = { λ m. m.faults };
 
@@ -78,13 +129,13 @@ impl Disk for MemDisk {
 
     ghost told_size = { λ m file told. ap length (sym (same_Some _ _ told)) };
 
-    ghost told_is_left = { λ m file told. subst (MayLeave (state_after m.first.items m.calls.items)) (sym m.tells ∙ same_Some _ _ told) (seen_is_left m.first.items m.calls.items) };
+    ghost told_is_left = { λ m file told. subst (MayLeave (state_after m.first.items (notes m.written.items m.calls.items))) (sym m.tells ∙ same_Some _ _ told) (seen_is_left m.first.items (notes m.written.items m.calls.items)) };
 
     ghost size_fits = { λ m. vec_small m.bytes };
 
-    ghost counts_now = { λ m t c le now. left_now m.first.items m.calls.items t c le now };
+    ghost counts_now = { λ m t c le now. left_now m.first.items (notes m.written.items m.calls.items) t c le now };
 
-    ghost only_now = { λ m c left. left_only_now m.first.items m.calls.items c left };
+    ghost only_now = { λ m c left. left_only_now m.first.items (notes m.written.items m.calls.items) c left };
 
     fn len(&self) -> u64 {
         self.bytes.len() as u64
@@ -116,30 +167,25 @@ impl Disk for MemDisk {
         }
         let fails = self.fails.contains(&call);
         if fails {
-            let len = bytes.len() as u64;
-            noted(&mut self.calls, Call::WriteFailed { at, len });
+            let len = bytes.len();
+            note(
+                &self.written,
+                &mut self.calls,
+                Call::WriteFailed { at, len },
+            );
             self.faults.add();
             return Err(Failed);
         }
-        let new = match overwritten(self.alloc, &self.bytes, at as usize, bytes) {
-            Ok(new) => new,
-            Err(_) => {
-                self.faults.add();
-                return Err(Failed);
-            }
-        };
-        let kept = match bytes.to_vec(self.alloc) {
-            Ok(kept) => kept,
-            Err(_) => {
-                self.faults.add();
-                return Err(Failed);
-            }
-        };
-        if !noted(&mut self.calls, Call::Write { at, bytes: kept }) {
+        let place = at as usize;
+        if self.bytes.capacity() < place + bytes.len() {
             self.faults.add();
             return Err(Failed);
         }
-        self.bytes = new;
+        if !note_write(&mut self.written, &mut self.calls, at, bytes) {
+            self.faults.add();
+            return Err(Failed);
+        }
+        write_over(&mut self.bytes, place, bytes);
         Ok(())
     }
 
@@ -152,11 +198,11 @@ impl Disk for MemDisk {
         }
         let fails = self.fails.contains(&call);
         if fails {
-            noted(&mut self.calls, Call::CutFailed { at });
+            note(&self.written, &mut self.calls, Call::CutFailed { at });
             self.faults.add();
             return Err(Failed);
         }
-        if !noted(&mut self.calls, Call::Cut { at }) {
+        if !note(&self.written, &mut self.calls, Call::Cut { at }) {
             self.faults.add();
             return Err(Failed);
         }
@@ -172,7 +218,16 @@ impl Disk for MemDisk {
             return Err(Failed);
         }
         let fails = self.fails.contains(&call);
-        if fails || !noted(&mut self.calls, Call::Sync) {
+        if fails {
+            self.faults.add();
+            return Err(Failed);
+        }
+        if !note_sync(
+            &self.written,
+            &mut self.calls,
+            &self.bytes,
+            &mut self.synced,
+        ) {
             self.faults.add();
             return Err(Failed);
         }

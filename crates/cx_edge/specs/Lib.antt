@@ -1,4 +1,15 @@
+pub mod Depot
+pub mod Desk
+pub mod FileDepot
+pub mod FileDisk
+pub mod Held
+pub mod Link
+pub mod MemDepot
+pub mod MemLink
 pub mod Memory
+pub mod Notes
 pub mod Outside
 pub mod Sink
+pub mod Slot
 pub mod Source
+pub mod UdpLink

@@ -14,7 +14,7 @@ use cx_base::{Faults, NoMemory};
 use std::alloc::Global;
 use std::marker::Model;
 
-fn is_failing(failing: &[u64], call: u64) -> bool
+pub(crate) fn is_failing(failing: &[u64], call: u64) -> bool
     ensures { result ≡ is_in call failing.now }
 {
     failing.iter().any(|number| *number == call)

@@ -1,3 +1,4 @@
+pub mod Appends
 pub mod Found
 pub mod Image
 pub mod Journal

@@ -1,7 +1,7 @@
 //! A record put behind the closed gate: its bytes first, then the gate, each with a sync of its own.
-ghost use Rattle.std.specs.Prelude.{◌≡◌, ◌+◌, ◌<◌, ◌≤◌, ◌++◌, [], ◌∷◌, max, is_some, IsTrue, List, ℕ, Some, length, IfOk, IfErr, OnOk, IsErrOf};
+ghost use Rattle.std.specs.Prelude.{◌≡◌, ◌+◌, ◌<◌, ◌≤◌, ◌++◌, [], ◌∷◌, max, is_some, List, ℕ, Some, length, IfOk, IfErr, OnOk, IsErrOf};
 ghost use Rattle.cx_base.specs.Faults.{Rises};
-ghost use Rattle.cx_msg.specs.Records.{fits, spelling};
+ghost use Rattle.cx_msg.specs.Records.{spelling};
 ghost use Rattle.cx_disk.specs.Disk.{written, Torn, Only, LeavesOnly, HasCause};
 ghost use Rattle.cx_journal.specs.Journal.{body, IsAtRest, IsBeforeOrAfter};
 

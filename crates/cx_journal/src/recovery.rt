@@ -1,5 +1,5 @@
 //! The records on a disk that a crash may have left.
-ghost use Rattle.std.specs.Prelude.{◌≡◌, ◌⊎◌, ◌<◌, ◌≤◌, ◌^◌, true, is_some, List, ℕ, Some, Ok, length, IfOk, OnOk, IfErr, IsErrOf};
+ghost use Rattle.std.specs.Prelude.{◌≡◌, ◌⊎◌, ◌<◌, ◌≤◌, true, is_some, List, ℕ, Some, Ok, length, IfOk, OnOk, IfErr, IsErrOf};
 ghost use Rattle.cx_base.specs.Faults.{Rises};
 ghost use Rattle.cx_disk.specs.Disk.{Elapses, HasCause, LeavesOnly};
 ghost use Rattle.cx_journal.specs.Journal.{gates_from, IsAtRest};

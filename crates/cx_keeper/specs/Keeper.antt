@@ -1,5 +1,5 @@
 -- What an append does to the list of records and to the count of faults.
-use Rattle.std.specs.Prelude.{◌≡◌, ◌⊎◌, ◌≤◌, ℕ, Bool, List, [], ◌∷◌, ◌++◌, Result, Ok, Err}
+use Rattle.std.specs.Prelude.{◌≡◌, ◌⊎◌, ◌≤◌, ℕ, Bool, true, List, [], ◌∷◌, ◌++◌, Result, Ok, Err}
 use Rattle.std.specs.List.{list_all}
 use Rattle.cx_base.specs.Faults.{Rises}
 use Rattle.cx_msg.specs.declared.kept.Record.{Record}
@@ -11,10 +11,12 @@ use Rattle.cx_keeper.specs.declared.keeper.KeepFault.TheVariants.{Failed, NoMemo
 abbrev pub all_fit : List Record → Bool
 all_fit records = list_all (λ (r : Record). fits r) records
 
--- Ok: the list and the record. Failed: only where the count rose, the list or the list and the record. No memory: the list.
-pub record IsAppend {K : Type 0} (kept : K → List Record) (faults : K → ℕ) (old : K) (r : Record) (answer : Result (Unit {0}) KeepFault) (new : K) : Type 0 where
-  pub ok : answer ≡ Ok tt → kept new ≡ kept old ++ r ∷ []
+-- Ok: the list and the record, where the keeper tells what it keeps. Failed: only where the count rose, the list or the list
+-- and the record. No memory: the list.
+pub record IsAppend {K : Type 0} (tells : K → Bool) (kept : K → List Record) (faults : K → ℕ) (old : K) (r : Record) (answer : Result (Unit {0}) KeepFault) (new : K) : Type 0 where
+  pub ok : answer ≡ Ok tt → tells old ≡ true → kept new ≡ kept old ++ r ∷ []
   pub failed : answer ≡ Err Failed → (kept new ≡ kept old) ⊎ (kept new ≡ kept old ++ r ∷ [])
   pub cause : answer ≡ Err Failed → Rises (faults old) (faults new)
   pub no_memory : answer ≡ Err NoMemory → kept new ≡ kept old
+  pub told : tells new ≡ tells old
   pub later : faults old ≤ faults new

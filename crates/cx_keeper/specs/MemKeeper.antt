@@ -1,6 +1,6 @@
 -- What a keeper in memory does.
-use Rattle.std.specs.Prelude.{◌≡◌, ℕ, List, [], ◌∷◌, ◌++◌, Result, Ok, Err}
-use Rattle.std.proofs.Common.{inl, inr, arith, ap}
+use Rattle.std.specs.Prelude.{◌≡◌, ℕ, Bool, true, List, [], ◌∷◌, ◌++◌, Result, Ok, Err}
+use Rattle.std.proofs.Common.{refl, inl, inr, arith, ap}
 use Rattle.cx_base.specs.Faults.{one_more, one_more_rises, one_more_later}
 use Rattle.cx_msg.specs.declared.kept.Record.{Record}
 use Rattle.cx_base.specs.declared.event.Cut.{Cut}
@@ -27,6 +27,10 @@ mem_append_gives old r (Ok u) new = (old.cut ≡ Whole) × (new ≡ record old {
 mem_append_gives old r (Err Failed) new = cut_short old.cut old r new
 mem_append_gives old r (Err NoMemory) new = new ≡ old
 
+-- a keeper in memory always tells what it keeps
+abbrev pub tells_of : MemKeeperState → Bool
+tells_of k = true
+
 abbrev pub kept_of : MemKeeperState → List Record
 kept_of k = k.kept
 
@@ -36,20 +40,20 @@ cut_of k = k.cut
 abbrev pub faults_of : MemKeeperState → ℕ
 faults_of k = k.faults
 
-cut_short_is : (cut : Cut) (old : MemKeeperState) (r : Record) (new : MemKeeperState) → cut_short cut old r new → IsAppend kept_of faults_of old r (Err Failed) new
+cut_short_is : (cut : Cut) (old : MemKeeperState) (r : Record) (new : MemKeeperState) → cut_short cut old r new → IsAppend tells_of kept_of faults_of old r (Err Failed) new
 cut_short_is Whole old r new h = absurd h
 cut_short_is Torn old r new h =
     let e = ap faults_of h in
-    record { ok = λ e. cc; failed = λ _. inl (ap kept_of h); cause = λ _. rw e (one_more_rises old.faults); no_memory = λ e. cc; later = rw e (one_more_later old.faults) }
+    record { ok = λ e. cc; failed = λ _. inl (ap kept_of h); cause = λ _. rw e (one_more_rises old.faults); no_memory = λ e. cc; told = refl; later = rw e (one_more_later old.faults) }
 cut_short_is Kept old r new h =
     let e = ap faults_of h in
-    record { ok = λ e. cc; failed = λ _. inr (ap kept_of h); cause = λ _. rw e (one_more_rises old.faults); no_memory = λ e. cc; later = rw e (one_more_later old.faults) }
+    record { ok = λ e. cc; failed = λ _. inr (ap kept_of h); cause = λ _. rw e (one_more_rises old.faults); no_memory = λ e. cc; told = refl; later = rw e (one_more_later old.faults) }
 
-pub mem_append_is : (old : MemKeeperState) (r : Record) (answer : Result (Unit {0}) KeepFault) (new : MemKeeperState) → mem_append_gives old r answer new → IsAppend kept_of faults_of old r answer new
+pub mem_append_is : (old : MemKeeperState) (r : Record) (answer : Result (Unit {0}) KeepFault) (new : MemKeeperState) → mem_append_gives old r answer new → IsAppend tells_of kept_of faults_of old r answer new
 mem_append_is old r (Ok u) new h =
     let e = ap faults_of h.1 in
-    record { ok = λ _. ap kept_of h.1; failed = λ e. cc; cause = λ e. cc; no_memory = λ e. cc; later = omega arith }
+    record { ok = λ _ _. ap kept_of h.1; failed = λ e. cc; cause = λ e. cc; no_memory = λ e. cc; told = refl; later = omega arith }
 mem_append_is old r (Err Failed) new h = cut_short_is old.cut old r new h
 mem_append_is old r (Err NoMemory) new h =
     let e = ap faults_of h in
-    record { ok = λ e. cc; failed = λ e. cc; cause = λ e. cc; no_memory = λ _. ap kept_of h; later = omega arith }
+    record { ok = λ e. cc; failed = λ e. cc; cause = λ e. cc; no_memory = λ _. ap kept_of h; told = refl; later = omega arith }

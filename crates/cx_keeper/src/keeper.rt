@@ -1,6 +1,6 @@
 //! A keeper of records, and why it may refuse.
 
-ghost use Rattle.std.specs.Prelude.{◌≡◌, ◌≤◌, ℕ, List, Result, IfOk, IsTrue, Err};
+ghost use Rattle.std.specs.Prelude.{◌≡◌, ◌≤◌, ℕ, Bool, true, List, Result, IfOk, IsTrue, Err};
 ghost use Rattle.cx_base.specs.Faults.{Rises};
 ghost use Rattle.cx_msg.specs.declared.kept.Record.{Record};
 ghost use Rattle.cx_msg.specs.Records.{fits};
@@ -70,7 +70,10 @@ impl From<NoMemory> for OpenFault {
 
 /// A list of records that outlives a crash. A crash inside an append keeps or loses that one record.
 pub trait Keeper {
-    /// The records that it keeps.
+    /// Whether it tells what it keeps. A keeper over a file of the operating system doesn't.
+    ghost tells: { Self → Bool };
+
+    /// The records that it keeps, where it tells them.
     ghost kept: { Self → List Record };
 
     /// How often it has failed.
@@ -82,15 +85,17 @@ pub trait Keeper {
     /// Adds a record at the end. After `Failed` only `recover` may follow.
     fn append(&mut self, what: &Record) -> Result<(), KeepFault>
         requires { IsTrue (fits what.now) }
-        ensures { append_gives self.old what.now result self.new };
+        ensures gives { append_gives self.old what.now result self.new }
+        ensures told { tells self.new ≡ tells self.old };
 
     /// Reads the records again. `Failed` only where the count of faults rose.
     fn recover(&mut self) -> Result<Vec<Record>, OpenFault>
-        ensures list { IfOk result (λ records. records.items ≡ kept self.old) }
+        ensures list { IfOk result (λ records. tells self.old ≡ true → records.items ≡ kept self.old) }
         ensures ranges { IfOk result (λ records. IsTrue (all_fit records.items)) }
         ensures same { kept self.new ≡ kept self.old }
+        ensures told { tells self.new ≡ tells self.old }
         ensures cause { result ≡ Err open_fault.Failed → Rises (faults self.old) (faults self.new) }
         ensures later { faults self.old ≤ faults self.new };
 
-    ghost append_is: { (old : Self) (r : Record) (answer : Result (Unit {0}) KeepFault) (new : Self) → append_gives old r answer new → IsAppend kept faults old r answer new };
+    ghost append_is: { (old : Self) (r : Record) (answer : Result (Unit {0}) KeepFault) (new : Self) → append_gives old r answer new → IsAppend tells kept faults old r answer new };
 }

@@ -1,7 +1,7 @@
 //! A keeper in memory.
 
 ghost use Rattle.std.specs.Prelude.{◌≡◌, ◌≤◌, ◌+◌, [], IfOk, length, drop, option_to_list};
-ghost use Rattle.cx_keeper.specs.MemKeeper.{kept_of, faults_of, mem_append_gives, mem_append_is};
+ghost use Rattle.cx_keeper.specs.MemKeeper.{tells_of, kept_of, faults_of, mem_append_gives, mem_append_is};
 
 use crate::{KeepFault, Keeper, OpenFault};
 use cx_base::{Cut, Duplicate, Faults, NoMemory, copy_all};
@@ -71,6 +71,8 @@ impl MemKeeper {
 }
 
 impl Keeper for MemKeeper {
+    ghost tells = { tells_of };
+
     ghost kept = { kept_of };
 
     ghost faults = { faults_of };

@@ -16,16 +16,9 @@ use Rattle.cx_leader.specs.Proposing.{IsSlot, IsProposal, IsProposing, planned, 
 
 -- ---- a value at the next slot
 
-none_by : (b : Bool) (n : ℕ) → None ≡ (if b then None else Some n) → b ≡ true
-none_by true n h = refl
-none_by false n h = cc
-
 some_by : (b : Bool) (s n : ℕ) → Some s ≡ (if b then None else Some n) → (b ≡ false) × (s ≡ n)
 some_by true s n h = cc
 some_by false s n h = (refl, cc)
-
-pub none_free : (w : Window) → None ≡ free_slot w → is_used_up w ≡ true
-none_free w h = none_by (is_used_up w) w.next h
 
 pub some_free : (w : Window) (s : ℕ) → Some s ≡ free_slot w → (is_used_up w ≡ false) × (s ≡ w.next)
 some_free w s h = some_by (is_used_up w) s w.next h

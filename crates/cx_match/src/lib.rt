@@ -6,7 +6,6 @@
 #![tactic(auto)]
 
 mod entries;
-mod keeping;
 mod matchmaker;
 mod records;
 mod rows;

@@ -9,12 +9,11 @@ ghost use Rattle.cx_role.specs.Role.{Replies, Steps, StaysAt, FailsAt};
 
 use crate::Matchmaker;
 use crate::entries::{earlier, has_entry, has_later, last_round, retire, told};
-use crate::keeping::keep;
 use cx_base::{Grid, NoMemory, RoleId, Round, Why};
 use cx_field::{Entry, Token};
 use cx_keeper::Keeper;
 use cx_msg::{Record, garbage_b, match_b, match_nack, match_read_ack};
-use cx_role::{Outbox, StepFault};
+use cx_role::{Outbox, StepFault, keep};
 
 impl Matchmaker {
     /// A leader asks that a round be recorded, and for the earlier rounds and their grids. A round below the watermark, one
@@ -34,6 +33,7 @@ impl Matchmaker {
         requires grid { IsTrue (field.grid.fits grid) }
         ensures ok { IfOk result (λ why. Steps K.append_gives matchmaker_rules self.old (match_a_row self.old.me self.old.durable from round grid) why keeper.old keeper.new self.new out.new.list) }
         ensures no_memory { IsErrOf result StepFault.NoMemory → StaysAt K.kept self.old self.new keeper.old keeper.new out.new.list }
+        ensures told { K.tells keeper.new ≡ K.tells keeper.old }
         ensures failed { IsErrOf result StepFault.Failed → FailsAt K.append_gives (match_a_row self.old.me self.old.durable from round grid) keeper.old keeper.new self.new out.new.list }
     {
         if round.is_before(&self.watermark) {
@@ -85,6 +85,7 @@ impl Matchmaker {
         requires grid { IsTrue (field.grid.fits grid) }
         ensures ok { IfOk result (λ why. Steps K.append_gives matchmaker_rules self.old (garbage_a_row self.old.me self.old.durable from round grid) why keeper.old keeper.new self.new out.new.list) }
         ensures no_memory { IsErrOf result StepFault.NoMemory → StaysAt K.kept self.old self.new keeper.old keeper.new out.new.list }
+        ensures told { K.tells keeper.new ≡ K.tells keeper.old }
         ensures failed { IsErrOf result StepFault.Failed → FailsAt K.append_gives (garbage_a_row self.old.me self.old.durable from round grid) keeper.old keeper.new self.new out.new.list }
     {
         out.room(1)?;

@@ -13,10 +13,6 @@ use Rattle.cx_model.specs.Plan.{greatest_cw, end_told, votes_told, greater_vote,
 use Rattle.cx_phase1.specs.Planned.{IsPlan}
 use Rattle.cx_phase1.specs.Sound.{IsVote, IsPromise}
 
-greatest_low : (low : ℕ) (ps : List Promised) → low ≤ greatest_cw low ps
-greatest_low low [] = omega arith
-greatest_low low (p ∷ ps) = omega (arith, greatest_low low ps)
-
 greatest_high : (low : ℕ) (ps : List Promised) → low ≤ 2 ^ 40 → All IsPromise ps → greatest_cw low ps ≤ 2 ^ 40
 greatest_high low [] le all = le
 greatest_high low (p ∷ ps) le all = omega (arith, (All-head IsPromise p ps all).cw, greatest_high low ps le (All-tail IsPromise p ps all))

@@ -5,10 +5,12 @@
 //! leaves everything as it was, and a failed append sends nothing.
 #![tactic(auto)]
 
+mod keeping;
 mod names;
 mod outbox;
 mod role;
 
-pub use names::{is_for, names_grid, names_round, names_value};
+pub use keeping::keep;
+pub use names::{count_of, is_for, names_grid, names_role, names_round, names_value};
 pub use outbox::{MAX_SENDS, Outbox};
 pub use role::{Role, StepFault, WakeFault};

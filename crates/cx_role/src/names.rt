@@ -13,7 +13,8 @@ use cx_base::{Answered, Cluster, Command, Grid, Kind, RoleId, Round, Value};
 use cx_field::{Entry, Token, Vote};
 use cx_msg::{Datagram, Msg};
 
-fn count_of(cluster: &Cluster, kind: Kind) -> u16
+/// How many roles of a kind the cluster has. It takes no memory.
+pub fn count_of(cluster: &Cluster, kind: Kind) -> u16
     ensures { result ≡ count_of cluster.now kind }
 {
     match kind {
@@ -29,7 +30,8 @@ fn count_of(cluster: &Cluster, kind: Kind) -> u16
     }
 }
 
-fn names_role(cluster: &Cluster, role: RoleId) -> bool
+/// Whether a role is one of the cluster's. It takes no memory.
+pub fn names_role(cluster: &Cluster, role: RoleId) -> bool
     ensures { result ≡ names_role cluster.now role }
 {
     role.index < count_of(cluster, role.kind)

@@ -1,5 +1,5 @@
 -- What whole lines spell stays as other bytes come behind them.
-use Rattle.std.proofs.Common.{◌≡◌, ◌<◌, ◌+◌, ◌++◌, ℕ, Bool, true, false, List, [], ◌∷◌, length, map, refl, sym, ap, ◌∙◌, append_assoc, append-nil, arith, nat_lt, if◌then◌else◌, Option, Some, None, option_map, option_to_list, Result, Ok, Err}
+use Rattle.std.proofs.Common.{◌≡◌, ◌<◌, ◌+◌, ◌++◌, ℕ, Bool, true, false, List, [], ◌∷◌, length, map, refl, sym, ap, ◌∙◌, subst, append_assoc, append-nil, arith, nat_lt, if◌then◌else◌, Option, Some, None, option_map, option_to_list, Result, Ok, Err}
 use Rattle.std.specs.Str.Lines.{strip_carriage_return}
 use Rattle.std.proofs.lemmas.Bool.{cond_both}
 use Rattle.std.proofs.lemmas.Bool.Decides.{nat_tests}
@@ -20,15 +20,15 @@ pub record SpelledOn (s all : Spelled) : Type 0 where
   pub more : List Event
   pub events : all.events ≡ s.events ++ more
 
-stays : (s : Spelled) → SpelledOn s s
+pub stays : (s : Spelled) → SpelledOn s s
 stays s = record { bad = λ line e. refl; more = []; events = sym (append-nil s.events) }
 
-on_test : (test : Bool) (n : ℕ) (s all : Spelled) → SpelledOn s all
+pub on_test : (test : Bool) (n : ℕ) (s all : Spelled) → SpelledOn s all
     → SpelledOn (if test then record { events = []; bad = Some n } else s) (if test then record { events = []; bad = Some n } else all)
 on_test true n s all on = stays (record { events = []; bad = Some n })
 on_test false n s all on = on
 
-on_line : (n : ℕ) (r : Result (Option Event) LineFault) (s all : Spelled) → SpelledOn s all → SpelledOn (with_line n r s) (with_line n r all)
+pub on_line : (n : ℕ) (r : Result (Option Event) LineFault) (s all : Spelled) → SpelledOn s all → SpelledOn (with_line n r s) (with_line n r all)
 on_line n (Err fault) s all on = stays (record { events = []; bad = Some n })
 on_line n (Ok event) s all on = record {
   bad = λ line e. ap (with_line n (Ok event)) (on.bad line e);
@@ -43,7 +43,7 @@ on_lines c n (l ∷ ls) before behind on =
     on_test (nat_lt 65535 n) n _ _ (on_line n (line_event c l) _ _ (on_lines c (n + 1) ls before behind on))
 
 -- a long line is bad, whatever follows
-long_line : (c : Cluster) (l : List ℕ) → 1024 < length l → line_event c l ≡ Err Long
+pub long_line : (c : Cluster) (l : List ℕ) → 1024 < length l → line_event c l ≡ Err Long
 unfolding line_event
 long_line c l long =
     let test : nat_lt 1024 (length l) ≡ true = grind (arith, nat_tests) in
@@ -62,17 +62,21 @@ pub some_byte : (last : List ℕ) → 0 < length (strip_carriage_return last) �
 some_byte [] some = absurd (omega arith)
 some_byte (b ∷ last) some = omega arith
 
-last_on : (c : Cluster) (last more : List ℕ) → IsFree last → (m : ℕ) → SpelledOn (spelled_from c m (lines_of (overlong 1024 last))) (spelled_from c m (lines_of (last ++ more)))
-last_on c last more free m =
-    cond_both (nat_lt 1024 (length (strip_carriage_return last))) last [] (λ l. SpelledOn (spelled_from c m (lines_of l)) (spelled_from c m (lines_of (last ++ more))))
+-- a line that isn't ended counts where it is too long, and then it is bad, whatever follows
+pub last_on : (spell : List (List ℕ) → Spelled) (n : ℕ) → spell [] ≡ record { events = []; bad = None }
+    → ((l : List ℕ) (ls : List (List ℕ)) → 1024 < length l → spell (l ∷ ls) ≡ record { events = []; bad = Some n })
+    → (last more : List ℕ) → IsFree last → SpelledOn (spell (lines_of (overlong 1024 last))) (spell (lines_of (last ++ more)))
+last_on spell n empty long_is_bad last more free =
+    cond_both (nat_lt 1024 (length (strip_carriage_return last))) last [] (λ l. SpelledOn (spell (lines_of l)) (spell (lines_of (last ++ more))))
     (λ e.
     let long : 1024 < length (strip_carriage_return last) = grind (arith, nat_tests) in
     let some = some_byte last (omega (arith, long)) in
     let first = first_line_of last more free some in
-    let begun = ap (spelled_from c m) (lines_of_unended last free some) ∙ spelled_long c m (strip_carriage_return last) [] long in
-    let all = ap (spelled_from c m) first.is ∙ spelled_long c m first.line first.lines (omega (arith, long, first.longer)) in
-    rw (begun, all) (stays (record { events = []; bad = Some m })))
-    (λ e. record { bad = λ line h. cc; more = (spelled_from c m (lines_of (last ++ more))).events; events = refl })
+    let begun : spell (lines_of last) ≡ record { events = []; bad = Some n } = ap spell (lines_of_unended last free some) ∙ long_is_bad (strip_carriage_return last) [] long in
+    let all : spell (lines_of (last ++ more)) ≡ record { events = []; bad = Some n } = rw first.is (long_is_bad first.line first.lines (omega (arith, long, first.longer))) in
+    rw (begun, all) (stays (record { events = []; bad = Some n })))
+    (λ e. subst (λ s. SpelledOn s (spell (lines_of (last ++ more)))) (sym empty)
+    (record { bad = λ line h. cc; more = (spell (lines_of (last ++ more))).events; events = refl }))
 
 -- what the lines behind a header spell goes on
 pub schedule_on : (c : Cluster) (ls : List (List ℕ)) (last more : List ℕ) → AreFree ls → IsFree last
@@ -80,7 +84,8 @@ pub schedule_on : (c : Cluster) (ls : List (List ℕ)) (last more : List ℕ) �
 unfolding schedule_of
 schedule_on c ls last more free last_free =
     rw (lines_of_text ls (overlong 1024 last) free, lines_of_text ls (last ++ more) free)
-    (on_lines c 1 (map strip_carriage_return ls) (lines_of (overlong 1024 last)) (lines_of (last ++ more)) (last_on c last more last_free))
+    (on_lines c 1 (map strip_carriage_return ls) (lines_of (overlong 1024 last)) (lines_of (last ++ more))
+    (λ m. last_on (spelled_from c m) m refl (spelled_long c m) last more last_free))
 
 -- the header in whole lines, and what stands behind it as other bytes come behind
 abbrev pub header_on : Option (List ℕ × List (List ℕ)) → List (List ℕ) → List ℕ → Option (List ℕ × List (List ℕ))

@@ -4,9 +4,12 @@ pub mod Feeds
 pub mod Generated
 pub mod GoesOn
 pub mod Headers
+pub mod Inputs
 pub mod Lengths
 pub mod Members
 pub mod Parts
+pub mod RequestsGoOn
+pub mod Rising
 pub mod Schedules
 pub mod Splitting
 pub mod Takes

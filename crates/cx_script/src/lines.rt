@@ -31,6 +31,13 @@ impl Model for Schedule {
 }
 
 impl Schedule {
+    /// What was read.
+    pub fn new(events: Vec<Event>, bad: Option<u64>) -> Self
+        ensures { result ≡ record { events = events.items; bad = bad } }
+    {
+        Schedule { events, bad }
+    }
+
     /// The events, in the order of their lines.
     pub fn events(&self) -> &[Event]
         ensures { result.now ≡ self.now.events }
@@ -69,7 +76,8 @@ pub fn first_line(bytes: &[u8]) -> Option<(&[u8], &[u8])>
     Some((without_return(part), or_empty(behind)))
 }
 
-fn keep<T: Copy + Drop>(list: &mut Vec<T>, value: &Option<T>) -> Result<(), NoMemory>
+/// Puts a value behind a list, if there is one.
+pub fn keep<T: Copy + Drop>(list: &mut Vec<T>, value: &Option<T>) -> Result<(), NoMemory>
     ensures { OnOk result (list.new.items ≡ list.old.items ++ option_to_list value.now) }
 {
     if let Some(value) = value {

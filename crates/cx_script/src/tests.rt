@@ -1,6 +1,8 @@
 //! Lines, schedules and headers round the edges of the form, and the events of a seed.
 
-use crate::{Gen, LineFault, gen_cluster, line, read_schedule, split_header};
+use crate::{
+    Gen, LineFault, gen_cluster, line, read_requests, read_schedule, script, split_header,
+};
 use cx_base::{Command, Cut, Event, Grid, Key, Kind, NoMemory, Op, Order, RoleId, Text};
 use std::alloc::Global;
 use std::test::Fail;
@@ -190,6 +192,40 @@ fn counts_lines(rt: HostRuntime) -> Result<(), Fail> {
         let bytes = repeated(alloc, head, part, count)?;
         let schedule = read_schedule(alloc, &cluster, &bytes)?;
         assert_eq!(rt; (schedule.events().len(), schedule.bad()), wanted);
+    }
+    Ok(())
+}
+
+// How many requests, the first bad line, and how many requests of client 0.
+#[test]
+fn reads_requests(rt: HostRuntime) -> Result<(), Fail> {
+    let alloc = rt.alloc();
+    let cluster = gen_cluster();
+    for (text, wanted) in [
+        ("# c\n\nwrite client:0 1 batcher:0 put a 1", (1, None, 1)),
+        (
+            "write client:0 2 batcher:0 put a 1\nwrite client:0 2 batcher:0 put a 1\n",
+            (1, Some(2), 1),
+        ),
+        (
+            "read client:0 2 reader:0 replica:1 a\nwrite client:0 1 batcher:0 del a\n",
+            (1, Some(2), 1),
+        ),
+        (
+            "write client:0 2 batcher:0 del a\nread client:1 1 reader:0 replica:0 a\nread client:0 3 reader:0 replica:0 a",
+            (3, None, 2),
+        ),
+        (
+            "read client:1 7 reader:0 replica:0 a\ndeliver 0\n",
+            (1, Some(2), 0),
+        ),
+    ] {
+        let schedule = read_requests(alloc, &cluster, text.as_bytes())?;
+        let own = script(alloc, 0, schedule.events())?;
+        assert_eq!(rt;
+            (schedule.events().len(), schedule.bad(), own.len()),
+            wanted
+        );
     }
     Ok(())
 }

@@ -9,8 +9,9 @@ use cx_base::NoMemory;
 use cx_msg::{Datagram, Msg, body_into};
 use std::alloc::Global;
 
-// What a message tells the client that gets it.
-fn put_told(text: &mut Vec<u8>, client: u16, msg: &Msg) -> Result<(), NoMemory>
+/// Appends what a message tells the client that gets it: the line of an answer, and nothing of another kind. An `Err` may
+/// append a part.
+pub fn put_told(text: &mut Vec<u8>, client: u16, msg: &Msg) -> Result<(), NoMemory>
     ensures { OnOk result (text.new.items ≡ text.old.items ++ told_text client msg.now) }
 {
     match msg {

@@ -12,7 +12,7 @@ mod put;
 mod replies;
 mod summary;
 
-pub use datagrams::{datagram_into, datagrams_into};
+pub use datagrams::{datagram_into, datagrams_into, put_told};
 pub use effect::Effect;
 pub use events::event_into;
 pub use summary::{Folded, summary_into};

@@ -1,5 +1,6 @@
-use Rattle.std.proofs.Common.{◌∙◌, map, string_bytes}
+use Rattle.std.proofs.Common.{◌≡◌, map, string_bytes, subst, IfOk, Option}
 use Rattle.compax.proofs.Matching.{said-fault, said-met, said-missing}
+use Rattle.compax.specs.declared.words.Invocation.{Invocation}
 use Rattle.compax.proofs.words.said.Goals as goal
 
 pub returns-in_default : goal.returns-in_default
@@ -8,7 +9,9 @@ returns-in_default c = said-fault (map string_bytes c.args.words.now) (rw c.in_d
 pub returns-in-Some-subcommand : goal.returns-in-Some-subcommand
 returns-in-Some-subcommand c =
     let matched = rw c.in-Some.is at c.in_ok-matches.ensures in
-    c.asked_by.ensures ∙ said-met (map string_bytes c.args.words.now) c.in-Some.matches _ _ matched c.in-Some-subcommand.ensures.name c.in-Some-subcommand.ensures.rows
+    subst (λ (asked : Option Invocation). IfOk c.asked_by.result (λ invocation. invocation ≡ asked))
+    (said-met (map string_bytes c.args.words.now) c.in-Some.matches _ _ matched c.in-Some-subcommand.ensures.name c.in-Some-subcommand.ensures.rows)
+    c.asked_by.ensures
 
 pub returns : goal.returns
 returns c =

@@ -1,0 +1,10 @@
+use Rattle.std.proofs.Common.{◌≡◌, map, take}
+use Rattle.std.specs.Io.KnownBytes.{Appends}
+use Rattle.std.specs.List.{concat}
+use Rattle.compax.proofs.line.write_parts.Given as goal
+
+abbrev pub invariant-loop-part : goal.invariant-loop-part
+invariant-loop-part g l = record {
+  bytes : Appends (g.E.Sink.taken l.fn.err) (g.E.Sink.taken l.err) (concat (map (λ part. part.now) (take l.part-index l.parts)));
+  still : g.E.Sink.faults l.err ≡ g.E.Sink.faults l.fn.err;
+}

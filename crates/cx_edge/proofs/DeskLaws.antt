@@ -1,0 +1,133 @@
+-- What a count does to the counts of all roles, and changes at a place that was found.
+use Rattle.std.proofs.Common.{map, ◌≡◌, ◌≤◌, ◌<◌, ℕ, zero, suc, Bool, true, false, ◌==◌, ◌&&◌, if◌then◌else◌, List, [], ◌∷◌, arith, refl, sym, ap, ◌∙◌, inl, inr, length, None, Some, cond, nat_lt, slice_index_or, slice_set}
+use Rattle.std.specs.List.{position, position_or_len, remove}
+use Rattle.std.proofs.lemmas.Bool.{cases_Bool}
+use Rattle.std.proofs.lemmas.Bool.Decides.{nat_tests}
+use Rattle.cx_base.specs.declared.role.RoleId.{RoleId}
+use Rattle.cx_base.specs.declared.role.Kind.{Kind}
+use Rattle.cx_base.specs.declared.role.Kind.TheVariants.{Client, Batcher, Leader, Proxy, Acceptor, Matchmaker, Replica, Unbatcher, Reader}
+use Rattle.cx_base.specs.Faults.{Rises}
+use Rattle.cx_base.specs.Role.{same_role, code_of, kind_of}
+use Rattle.cx_edge.specs.declared.rows.CountRow.{CountRow}
+use Rattle.cx_edge.specs.Depot.{without, first_faults}
+use Rattle.cx_edge.specs.Desk.{plus, of_role, no_faults, count_of, counted}
+
+same_number : (i j : ℕ) → (i == j) ≡ true → i ≡ j
+same_number i j h = grind (arith, nat_tests)
+
+and_both : (a b : Bool) → (a && b) ≡ true → (a ≡ true) × (b ≡ true)
+and_both true b h = (refl, h)
+and_both false b h = cc
+
+kind_back : (k : Kind) → kind_of (code_of k) ≡ k
+kind_back Client = refl
+kind_back Batcher = refl
+kind_back Leader = refl
+kind_back Proxy = refl
+kind_back Acceptor = refl
+kind_back Matchmaker = refl
+kind_back Replica = refl
+kind_back Unbatcher = refl
+kind_back Reader = refl
+
+pub same_role-true : (a b : RoleId) → same_role a b ≡ true → a ≡ b
+same_role-true a b h =
+    let p = and_both (code_of a.kind == code_of b.kind) (a.index == b.index) h in
+    let kinds : a.kind ≡ b.kind = sym (kind_back a.kind) ∙ ap kind_of (same_number (code_of a.kind) (code_of b.kind) p.0) ∙ kind_back b.kind in
+    let indexes = same_number a.index b.index p.1 in
+    λ i. record { kind = kinds i; index = indexes i }
+
+number_itself : (i : ℕ) → (i == i) ≡ true
+number_itself i = grind (arith, nat_tests)
+
+pub same_role-itself : (a : RoleId) → same_role a a ≡ true
+same_role-itself a = rw (number_itself (code_of a.kind), number_itself a.index) refl
+
+plus_later : (a b : ℕ) → a ≤ plus a b
+plus_later a b = omega arith
+
+plus_rises : (a b : ℕ) → 0 < b → Rises a (plus a b)
+plus_rises a b some = grind arith
+
+plus_none : (a : ℕ) → plus a 0 ≡ a
+plus_none a = omega arith
+
+pub count_first : (role : RoleId) (roles : List RoleId) → count_of role (map no_faults roles) ≡ first_faults role roles
+count_first role [] = refl
+count_first role (r ∷ rest) = elim (cases_Bool (same_role role r)) [
+  | inl is ↦ rw is refl
+  | inr other ↦ rw other (count_first role rest)
+]
+
+pub count_later : (role : RoleId) (n : ℕ) (rows : List CountRow) → count_of role rows ≤ count_of role (counted role n rows)
+count_later role n [] = omega arith
+count_later role n (row ∷ rest) = elim (cases_Bool (of_role role row)) [
+  | inl is ↦ rw (is, is) (plus_later row.count n)
+  | inr other ↦ rw (other, other) (count_later role n rest)
+]
+
+pub count_rises : (role : RoleId) (n : ℕ) (rows : List CountRow) → 0 < n → Rises (count_of role rows) (count_of role (counted role n rows))
+count_rises role n [] some = inr (omega arith)
+count_rises role n (row ∷ rest) some = elim (cases_Bool (of_role role row)) [
+  | inl is ↦ rw (is, is) (plus_rises row.count n some)
+  | inr other ↦ rw (other, other) (count_rises role n rest some)
+]
+
+pub count_none : (who role : RoleId) (rows : List CountRow) → count_of who (counted role 0 rows) ≡ count_of who rows
+count_none who role [] = refl
+count_none who role (row ∷ rest) = elim (cases_Bool (of_role role row)) [
+  | inl is ↦ rw (is, plus_none row.count) refl
+  | inr other ↦ rw other (ap (λ n. if of_role who row then row.count else n) (count_none who role rest))
+]
+
+pub count_other : (who role : RoleId) (n : ℕ) (rows : List CountRow) → (who ≡ role → ⊥) → count_of who (counted role n rows) ≡ count_of who rows
+count_other who role n [] other = refl
+count_other who role n (row ∷ rest) other = elim (cases_Bool (of_role role row)) [
+  | inl is ↦ elim (cases_Bool (of_role who row)) [
+    | inl both ↦ absurd (other (same_role-true who row.role both ∙ sym (same_role-true role row.role is)))
+    | inr not_who ↦ rw (is, not_who) refl
+  ]
+  | inr not_role ↦ rw not_role (ap (λ m. if of_role who row then row.count else m) (count_other who role n rest other))
+]
+
+pub counted_at : (role : RoleId) (n : ℕ) (rows : List CountRow) (i : ℕ) (d : CountRow) → i < length rows → of_role role (slice_index_or rows i d) ≡ true
+    → ((k : ℕ) → k < i → of_role role (slice_index_or rows k d) ≡ false)
+    → slice_set rows i (record (slice_index_or rows i d) { count = plus (slice_index_or rows i d).count n }) ≡ counted role n rows
+counted_at role n [] i d within at before = absurd (omega arith)
+counted_at role n (row ∷ rest) zero d within at before = rw at refl
+counted_at role n (row ∷ rest) (suc i) d within at before =
+    rw (before 0 (omega arith)) (ap (λ (rs : List CountRow). row ∷ rs) (counted_at role n rest i d (omega arith) at (λ k less. before (suc k) (omega arith))))
+
+pub without_at : (role : RoleId) (roles : List RoleId) (i : ℕ) (d : RoleId) → i < length roles → same_role role (slice_index_or roles i d) ≡ true
+    → ((k : ℕ) → k < i → same_role role (slice_index_or roles k d) ≡ false) → remove roles i ≡ without role roles
+without_at role [] i d within at before = absurd (omega arith)
+without_at role (r ∷ rest) zero d within at before = rw at refl
+without_at role (r ∷ rest) (suc i) d within at before =
+    rw (before 0 (omega arith)) (ap (λ (rs : List RoleId). r ∷ rs) (without_at role rest i d (omega arith) at (λ k less. before (suc k) (omega arith))))
+
+pub past_end : {T : Type 0} (p : T → Bool) (xs : List T) → position p xs ≡ None → length xs ≤ position_or_len p xs
+past_end p xs none = go (nat_lt (position_or_len p xs) (length xs)) refl none
+  where
+    go : (b : Bool) → nat_lt (position_or_len p xs) (length xs) ≡ b → (cond b (Some (position_or_len p xs)) None) ≡ None → length xs ≤ position_or_len p xs
+    go true e n = cc
+    go false e n = grind (arith, nat_tests)
+
+pub counted_nowhere : (role : RoleId) (n : ℕ) (rows : List CountRow) → position (of_role role) rows ≡ None → counted role n rows ≡ rows
+counted_nowhere role n rows none = go rows (past_end (of_role role) rows none)
+  where
+    go : (rs : List CountRow) → length rs ≤ position_or_len (of_role role) rs → counted role n rs ≡ rs
+    go [] past = refl
+    go (row ∷ rest) past = elim (cases_Bool (of_role role row)) [
+      | inl is ↦ absurd (omega (arith, rw is at past))
+      | inr other ↦ rw other (ap (λ (rs : List CountRow). row ∷ rs) (go rest (omega (arith, rw other at past))))
+    ]
+
+pub without_nowhere : (role : RoleId) (roles : List RoleId) → position (same_role role) roles ≡ None → without role roles ≡ roles
+without_nowhere role roles none = go roles (past_end (same_role role) roles none)
+  where
+    go : (rs : List RoleId) → length rs ≤ position_or_len (same_role role) rs → without role rs ≡ rs
+    go [] past = refl
+    go (r ∷ rest) past = elim (cases_Bool (same_role role r)) [
+      | inl is ↦ absurd (omega (arith, rw is at past))
+      | inr other ↦ rw other (ap (λ (rs : List RoleId). r ∷ rs) (go rest (omega (arith, rw other at past))))
+    ]

@@ -1,0 +1,5 @@
+mod DeskLaws
+mod FileLaws
+mod HeldLaws
+mod NotesLaws
+mod SlotLaws

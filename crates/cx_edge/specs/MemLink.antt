@@ -1,0 +1,31 @@
+-- A link in memory: what contracts see of it.
+use Rattle.std.specs.Prelude.{ℕ, Bool, if◌then◌else◌, List, [], map, Option, None, Some}
+use Rattle.cx_edge.specs.declared.mem_link.BindRow.{BindRow}
+use Rattle.cx_edge.specs.Link.{Bind, LinkHistory}
+use Rattle.cx_edge.specs.Notes.{NotesState}
+
+-- what it tells, and its counts
+pub record LinkState : Type 0 where
+  pub told : Option LinkHistory
+  pub faults : ℕ
+  pub losses : ℕ
+
+abbrev pub link_told : LinkState → Option LinkHistory
+link_told link = link.told
+
+abbrev pub link_faults : LinkState → ℕ
+link_faults link = link.faults
+
+abbrev pub link_losses : LinkState → ℕ
+link_losses link = link.losses
+
+abbrev pub bind_of : BindRow → Bind
+bind_of row = record { role = row.role; port = row.port }
+
+-- nothing was bound, taken or sent
+abbrev pub no_history : LinkHistory
+no_history = record { binds = []; taken = []; sent = [] }
+
+-- the histories, unless something was lost for want of room
+abbrev pub told_of : Bool → List BindRow → NotesState → Option LinkHistory
+told_of is_silent binds notes = if is_silent then None else Some (record { binds = map bind_of binds; taken = notes.taken; sent = notes.sent })

@@ -1,0 +1,132 @@
+//! Which stores are out, and how often each role was failed.
+
+ghost use Rattle.std.specs.Prelude.{◌≡◌, ◌<◌, ◌++◌, [], ◌∷◌, true, map, IfOk};
+ghost use Rattle.std.specs.List.{list_any, position};
+ghost use Rattle.cx_base.specs.Role.{same_role};
+ghost use Rattle.cx_edge.specs.Depot.{without};
+ghost use Rattle.cx_edge.specs.Desk.{of_role, no_faults, counted, plus};
+
+use crate::rows::CountRow;
+use cx_base::{NoMemory, RoleId};
+use std::alloc::Global;
+use std::marker::Model;
+
+/// Counts faults for each of its roles, and keeps a list of the roles whose stores are out.
+#[derive(Drop)]
+pub(crate) struct Desk {
+    counts: Vec<CountRow>,
+    out: Vec<RoleId>,
+}
+
+impl Model for Desk {
+    ghost use Rattle.std.specs.Prelude.{◌-◌, vec_len, vec_capacity};
+    ghost use Rattle.cx_edge.specs.Desk.{DeskState};
+
+    ghost Value = { DeskState };
+
+    ghost view = { λ d. record { counts = d.counts.items; out = d.out.items; room = vec_capacity d.out - vec_len d.out } };
+}
+
+fn row_of(rows: &[CountRow], role: RoleId) -> Option<usize>
+    ensures { result ≡ position (of_role role) rows.now }
+{
+    rows.iter().position(|row| role.is(row.role))
+}
+
+fn place_of(roles: &[RoleId], role: RoleId) -> Option<usize>
+    ensures { result ≡ position (same_role role) roles.now }
+{
+    roles.iter().position(|other| role.is(*other))
+}
+
+fn is_among(roles: &[RoleId], role: RoleId) -> bool
+    ensures { result ≡ list_any (same_role role) roles.now }
+{
+    roles.iter().any(|other| role.is(*other))
+}
+
+/// Adds to the count of a role, if it has one.
+fn count(rows: &mut Vec<CountRow>, role: RoleId, faults: u64)
+    ensures { rows.new.items ≡ counted role faults rows.old.items }
+{
+    match row_of(rows, role) {
+        Some(at) => rows[at] = added(rows[at], faults),
+        None => {}
+    }
+}
+
+fn added(row: CountRow, faults: u64) -> CountRow
+    ensures { result ≡ record row { count = plus row.count faults } }
+{
+    CountRow {
+        role: row.role,
+        count: row.count.saturating_add(faults),
+    }
+}
+
+/// Takes a role out of the list.
+fn remove(roles: &mut Vec<RoleId>, role: RoleId)
+    ensures { roles.new.items ≡ without role roles.old.items }
+{
+    match place_of(roles, role) {
+        Some(at) => {
+            roles.remove(at);
+        }
+        None => {}
+    }
+}
+
+impl Desk {
+    /// No store out, and no faults. All memory is taken here.
+    pub(crate) fn new(alloc: Global, roles: &[RoleId]) -> Result<Self, NoMemory>
+        ensures counts { IfOk result (λ desk. desk.counts ≡ map no_faults roles.now) }
+        ensures out { IfOk result (λ desk. desk.out ≡ []) }
+    {
+        let mut counts = Vec::with_capacity(alloc, roles.len())?;
+        for role in roles {
+            counts.push(CountRow {
+                role: *role,
+                count: 0,
+            })?;
+        }
+        Ok(Desk {
+            counts,
+            out: Vec::with_capacity(alloc, roles.len())?,
+        })
+    }
+
+    /// Whether it is one of the desk's roles, its store isn't out, and there is room to note that it is.
+    pub(crate) fn can_hand_out(&self, role: RoleId) -> bool
+        ensures { result ≡ true → 0 < self.now.room }
+    {
+        row_of(&self.counts, role).is_some()
+            && !is_among(&self.out, role)
+            && self.out.len() < self.out.capacity()
+    }
+
+    /// Notes that the store of the role is out.
+    pub(crate) fn hand_out(&mut self, role: RoleId)
+        requires { 0 < self.old.room }
+        ensures counts { self.new.counts ≡ self.old.counts }
+        ensures out { self.new.out ≡ self.old.out ++ role ∷ [] }
+    {
+        self.out.push_reserved(role);
+    }
+
+    /// Counts one fault of the role.
+    pub(crate) fn fail(&mut self, role: RoleId)
+        ensures counts { self.new.counts ≡ counted role 1 self.old.counts }
+        ensures out { self.new.out ≡ self.old.out }
+    {
+        count(&mut self.counts, role, 1);
+    }
+
+    /// Notes that the store of the role is back, and has failed so often.
+    pub(crate) fn take_back(&mut self, role: RoleId, faults: u64)
+        ensures counts { self.new.counts ≡ counted role faults self.old.counts }
+        ensures out { self.new.out ≡ without role self.old.out }
+    {
+        count(&mut self.counts, role, faults);
+        remove(&mut self.out, role);
+    }
+}

@@ -1,0 +1,131 @@
+//! A disk over a file of the operating system. What the file holds, no clause tells.
+
+ghost use Rattle.std.specs.Prelude.{◌≡◌, ◌<◌, ◌^◌, ℕ, None, IfOk, ⊤};
+
+use cx_disk::{Disk, Failed};
+use std::fs::{File, OpenOptions};
+use std::io;
+use std::os::unix::fs::FileExt;
+use std::rt::Files;
+
+/// Lengths from here on are refused.
+const TOO_LONG: u64 = 1 << 63;
+
+/// A file, whose length is kept from its opening on.
+#[derive(Drop)]
+pub struct FileDisk {
+    file: File,
+    size: u64,
+    faults: u64,
+    ghost fits: { size < 2 ^ 63 },
+}
+
+/// The file of this name with its length. It is made where it isn't there.
+fn opened<R: Files<File = File>>(files: &R, name: &str) -> io::Result<(File, u64)> {
+    let file = OpenOptions::new()
+        .read(true)
+        .write(true)
+        .create(true)
+        .open(files, name)?;
+    let size = file.metadata()?.len();
+    Ok((file, size))
+}
+
+impl FileDisk {
+    ghost use Rattle.cx_edge.specs.FileDisk.{faults_of};
+
+    /// The disk over the file of this name, which is made where it isn't there. It takes no memory. `Failed` where the file
+    /// can't be opened, or is of 2^63 bytes or more.
+    pub fn open<R: Files<File = File>>(files: &R, name: &str) -> Result<Self, Failed>
+        ensures { IfOk result (λ disk. faults_of disk ≡ 0) }
+    {
+        match opened(files, name) {
+            Ok((file, size)) if size < TOO_LONG => Ok(FileDisk {
+                file,
+                size,
+                faults: 0,
+            }),
+            _ => Err(Failed),
+        }
+    }
+
+    /// How often its calls have failed. It takes no memory.
+    pub fn faults(&self) -> u64
+        ensures { result ≡ faults_of self.now }
+    {
+        self.faults
+    }
+}
+
+impl Disk for FileDisk {
+    ghost seen = { λ d. None };
+
+    ghost may_leave = { λ d c. ⊤ };
+
+    ghost moment = { λ d. 0 };
+
+    ghost left_since = { λ d t c. ⊤ };
+
+    ghost faults = { λ d. d.faults };
+
+    ghost size = { λ d. d.size };
+
+    ghost told_size = { λ d file told. cc };
+
+    ghost told_is_left = { λ d file told. tt };
+
+    ghost size_fits = { λ d. d.fits };
+
+    ghost counts_now = { λ d t c le now. tt };
+
+    ghost only_now = { λ d c left. tt };
+
+    fn len(&self) -> u64 {
+        self.size
+    }
+
+    fn read(&mut self, at: u64, buf: &mut [u8]) -> Result<(), Failed> {
+        match self.file.read_exact_at(buf, at) {
+            Ok(()) => Ok(()),
+            Err(_) => {
+                self.faults = self.faults.saturating_add(1);
+                Err(Failed)
+            }
+        }
+    }
+
+    fn write_at(&mut self, at: u64, bytes: &[u8]) -> Result<(), Failed> {
+        let end = at.saturating_add(bytes.len() as u64);
+        if end < TOO_LONG {
+            if let Ok(()) = self.file.write_all_at(bytes, at) {
+                self.size = self.size.max(end);
+                return Ok(());
+            }
+        }
+        self.faults = self.faults.saturating_add(1);
+        Err(Failed)
+    }
+
+    fn cut(&mut self, at: u64) -> Result<(), Failed> {
+        match self.file.set_len(at) {
+            Ok(()) => {
+                self.size = at;
+                Ok(())
+            }
+            Err(_) => {
+                self.faults = self.faults.saturating_add(1);
+                Err(Failed)
+            }
+        }
+    }
+
+    fn sync(&mut self) -> Result<(), Failed> {
+        match self.file.sync_all() {
+            Ok(()) => Ok(()),
+            Err(_) => {
+                self.faults = self.faults.saturating_add(1);
+                Err(Failed)
+            }
+        }
+    }
+}

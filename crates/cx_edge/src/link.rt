@@ -1,0 +1,52 @@
+//! Links: datagrams between roles, each bound to a port.
+
+ghost use Rattle.std.specs.Prelude.{◌≡◌, ℕ, Option, OnOk};
+ghost use Rattle.cx_base.specs.Faults.{Rises};
+ghost use Rattle.cx_disk.specs.Disk.{HasCause};
+ghost use Rattle.cx_edge.specs.declared.link.TakeEnd.TheVariants as take_end;
+ghost use Rattle.cx_edge.specs.Link.{LinkHistory, Binds, Sends, Takes};
+
+use cx_base::RoleId;
+use cx_disk::Failed;
+
+/// One datagram was taken, none was there, or the take failed.
+#[derive(Clone, Copy, Debug, PartialEq, Eq)]
+pub enum TakeEnd {
+    /// A datagram of so many bytes, which stand at the front of the buffer.
+    Got(usize),
+    Nothing,
+    /// None, and the fault was counted.
+    Failed,
+}
+
+/// What carries datagrams between ports. They may be lost, repeated, and come in any order.
+pub trait Link {
+    /// Its histories, where the link tells them.
+    ghost told: { Self → Option LinkHistory };
+
+    /// How often a bind or a take has failed.
+    ghost faults: { Self → ℕ };
+
+    /// How many sends were lost, which is no fault.
+    ghost losses: { Self → ℕ };
+
+    /// Gives the role a port of its own, from which it sends and at which it is sent to.
+    fn bind(&mut self, role: RoleId, port: u16) -> Result<(), Failed>
+        ensures told { Binds (told self.old) (told self.new) role port result }
+        ensures cause { HasCause (faults self.old) (faults self.new) result }
+        ensures still { OnOk result (faults self.new ≡ faults self.old) }
+        ensures losses { losses self.new ≡ losses self.old };
+
+    /// Sends bytes from a role to a port. A send that fails is a loss, and counted as one.
+    fn send(&mut self, from: RoleId, port: u16, bytes: &[u8]) -> Result<(), Failed>
+        ensures told { Sends (told self.old) (told self.new) from port bytes.now result }
+        ensures losses { HasCause (losses self.old) (losses self.new) result }
+        ensures still { faults self.new ≡ faults self.old };
+
+    /// Takes one datagram that was sent to a bound port, if one is there. A datagram that is longer than the buffer is cut to it.
+    fn take(&mut self, buffer: &mut [u8]) -> TakeEnd
+        ensures told { Takes (told self.old) (told self.new) buffer.new result }
+        ensures cause { result ≡ take_end.Failed → Rises (faults self.old) (faults self.new) }
+        ensures still { (result ≡ take_end.Failed → ⊥) → faults self.new ≡ faults self.old }
+        ensures losses { losses self.new ≡ losses self.old };
+}

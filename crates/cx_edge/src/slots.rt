@@ -1,0 +1,125 @@
+//! Stores in memory are handed out, and come back.
+
+ghost use Rattle.std.specs.Prelude.{◌≡◌, true, map, IfSome, IfOk};
+ghost use Rattle.std.specs.List.{position};
+ghost use Rattle.cx_disk.specs.Disk.{Only};
+ghost use Rattle.cx_disk.specs.MemDiskViews.{told_by, left_by};
+ghost use Rattle.cx_edge.specs.Held.{held_by, has_store, with_bytes, store_of, role_of};
+ghost use Rattle.cx_edge.specs.Slot.{slot_held, is_slot_of};
+
+use crate::slot::Slot;
+use cx_base::{NoMemory, RoleId};
+use cx_disk::{Disk, MemDisk};
+use std::alloc::Global;
+
+fn slot_of(slots: &[Slot], role: RoleId) -> Option<usize>
+    ensures { result ≡ position (is_slot_of role) slots.now }
+{
+    slots.iter().position(|slot| role.is(slot.role))
+}
+
+/// Syncs the disk, so that a crash leaves what it holds, and copies that into room that is there.
+fn settled(disk: &mut MemDisk, before: &mut Vec<u8>) -> bool
+    ensures told { told_by disk.new ≡ told_by disk.old }
+    ensures durable { result ≡ true → Only (told_by disk.old) (left_by disk.new) }
+    ensures before { result ≡ true → before.new.items ≡ told_by disk.old }
+{
+    if disk.sync().is_err() || disk.bytes().len() > before.capacity() {
+        return false;
+    }
+    before.clear();
+    before.extend_from_slice(disk.bytes()).unwrap();
+    true
+}
+
+/// Hands out the store of one slot.
+fn handed_from(slot: &mut Slot) -> Option<MemDisk>
+    ensures held { slot_held slot.new ≡ slot_held slot.old }
+    ensures told { IfSome result (λ disk. told_by disk ≡ (slot_held slot.old).bytes) }
+    ensures durable { IfSome result (λ disk. Only (slot_held slot.old).bytes (left_by disk)) }
+{
+    match slot.disk.take() {
+        None => None,
+        Some(mut disk) => {
+            if settled(&mut disk, &mut slot.before) {
+                Some(disk)
+            } else {
+                slot.disk = Some(disk);
+                None
+            }
+        }
+    }
+}
+
+/// Hands out the store of a role, unless it has none, that is out, can't be synced, or holds more than the room for a copy.
+pub(crate) fn hand_out(slots: &mut Vec<Slot>, role: RoleId) -> Option<MemDisk>
+    ensures held { map slot_held slots.new.items ≡ map slot_held slots.old.items }
+    ensures known { IfSome result (λ disk. has_store role (map slot_held slots.old.items) ≡ true) }
+    ensures told { IfSome result (λ disk. told_by disk ≡ held_by (map slot_held slots.old.items) role) }
+    ensures durable { IfSome result (λ disk. Only (held_by (map slot_held slots.old.items) role) (left_by disk)) }
+{
+    match slot_of(slots, role) {
+        None => None,
+        Some(at) => handed_from(&mut slots[at]),
+    }
+}
+
+/// Puts a role's store back, if the role has a place for one.
+pub(crate) fn put_back(slots: &mut Vec<Slot>, role: RoleId, disk: MemDisk)
+    ensures { map slot_held slots.new.items ≡ with_bytes role (told_by disk) (map slot_held slots.old.items) }
+{
+    match slot_of(slots, role) {
+        None => {}
+        Some(at) => slots[at].disk = Some(disk),
+    }
+}
+
+/// The store of one slot.
+fn shown(slot: &Slot) -> Option<&MemDisk>
+    ensures { IfSome result (λ disk. told_by disk.now ≡ (slot_held slot.now).bytes) }
+{
+    match &slot.disk {
+        None => None,
+        Some(disk) => Some(disk),
+    }
+}
+
+/// The store of a role, while it isn't out.
+pub(crate) fn store_in(slots: &[Slot], role: RoleId) -> Option<&MemDisk>
+    ensures { IfSome result (λ disk. told_by disk.now ≡ held_by (map slot_held slots.now) role) }
+{
+    match slot_of(slots, role) {
+        None => None,
+        Some(at) => shown(&slots[at]),
+    }
+}
+
+/// The roles of the stores.
+pub(crate) fn roles_of(alloc: Global, stores: &[(RoleId, MemDisk)]) -> Result<Vec<RoleId>, NoMemory>
+    ensures { IfOk result (λ roles. roles.items ≡ map role_of stores.now) }
+{
+    let mut roles = Vec::with_capacity(alloc, stores.len())?;
+    for store in stores {
+        roles.push(store.0)?;
+    }
+    Ok(roles)
+}
+
+/// A place for each store, with room for a copy of so many bytes.
+pub(crate) fn slots_for(
+    alloc: Global,
+    stores: Vec<(RoleId, MemDisk)>,
+    room: usize,
+) -> Result<Vec<Slot>, NoMemory>
+    ensures { IfOk result (λ slots. map slot_held slots.items ≡ map store_of stores.items) }
+{
+    let mut slots = Vec::with_capacity(alloc, stores.len())?;
+    for (role, disk) in stores {
+        slots.push(Slot {
+            role,
+            disk: Some(disk),
+            before: Vec::with_capacity(alloc, room)?,
+        })?;
+    }
+    Ok(slots)
+}

@@ -1,0 +1,27 @@
+pub mod Crashes
+pub mod Refuses
+pub mod Taken
+pub mod Asking
+pub mod Grown
+pub mod Asked
+pub mod Done
+pub mod Acted
+pub mod Seated
+pub mod Turned
+pub mod Grids
+pub mod Places
+pub mod Parts
+pub mod RefusedPlace
+pub mod Named
+pub mod ClientName
+mod Lent
+mod StoresBack
+mod GivenBack
+pub mod AnyKind
+pub mod StoredRecords
+pub mod OpenedRoles
+pub mod SteadySeats
+pub mod ClosedStores
+pub mod HostedRuns
+pub mod Answering
+pub mod Actions

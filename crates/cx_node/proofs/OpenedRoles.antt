@@ -1,0 +1,169 @@
+-- Roles that were opened: they are who they were named to be, they may run, and what was told to each.
+use Rattle.std.proofs.Common.{◌≡◌, ℕ, zero, suc, arith, Bool, true, false, List, [], ◌∷◌, length, map, Option, None, Some, option_map, refl, sym, ap, ◌∙◌, subst, if◌then◌else◌}
+use Rattle.std.specs.Prelude.{slice_get, IsTrue}
+use Rattle.std.specs.List.{list_all}
+use Rattle.std.proofs.lemmas.Option.{none-some, same_Some}
+use Rattle.cx_base.specs.declared.cluster.Cluster.{Cluster}
+use Rattle.cx_base.specs.declared.event.Event.{Event}
+use Rattle.cx_base.specs.declared.role.Kind.{Kind}
+use Rattle.cx_base.specs.declared.role.Kind.TheVariants.{Client, Batcher, Leader, Proxy, Acceptor, Matchmaker, Replica, Unbatcher, Reader}
+use Rattle.cx_base.specs.declared.role.RoleId.{RoleId}
+use Rattle.cx_base.specs.Role.{same_role}
+use Rattle.cx_journal.specs.State.{JournalState, records_or_none}
+use Rattle.cx_journal.proofs.Payloads.{both_so}
+use Rattle.cx_model.specs.Lists.{by_role, differ_role, same_role-itself}
+use Rattle.cx_model.specs.Names.{names_role}
+use Rattle.cx_msg.specs.declared.kept.Record.{Record}
+use Rattle.cx_node.specs.declared.guest.Guest.{Guest}
+use Rattle.cx_node.specs.Guest.{AreDistinct, AreReady, hosted_in, hosted_of, keeper_of, who}
+use Rattle.cx_node.specs.Hosted.{Hosted, is_live, name_of}
+use Rattle.cx_node.specs.Opening.{AreOpened, HasJournal, HasRecords, IsOpened, is_durable, opened_as}
+use Rattle.cx_node.specs.Serving.{hosts, told_to}
+
+-- ---- places in two lists
+
+pub get_map : {X Y : Type 0} (f : X → Y) (xs : List X) (i : ℕ) (y : Y) → slice_get (map f xs) i ≡ Some y → (x : X) × (slice_get xs i ≡ Some x) × (y ≡ f x)
+get_map f [] i y e = absurd (none-some y e)
+get_map f (x ∷ xs) zero y e = (x, refl, sym (same_Some (f x) y e))
+get_map f (x ∷ xs) (suc i) y e = get_map f xs i y e
+
+pub map_get : {X Y : Type 0} (f : X → Y) (xs : List X) (i : ℕ) (x : X) → slice_get xs i ≡ Some x → slice_get (map f xs) i ≡ Some (f x)
+map_get f [] i x e = absurd (none-some x e)
+map_get f (y ∷ ys) zero x e = ap (option_map f) e
+map_get f (y ∷ ys) (suc i) x e = map_get f ys i x e
+
+pub get_beside : {X Y : Type 0} (xs : List X) (ys : List Y) (i : ℕ) (x : X) → length ys ≡ length xs → slice_get xs i ≡ Some x → (y : Y) × (slice_get ys i ≡ Some y)
+get_beside [] ys i x same e = absurd (none-some x e)
+get_beside (x ∷ xs) [] i z same e = absurd (omega (arith, same))
+get_beside (x ∷ xs) (y ∷ ys) zero z same e = (y, refl)
+get_beside (x ∷ xs) (y ∷ ys) (suc i) z same e = let fewer : length ys ≡ length xs = omega (arith, same) in get_beside xs ys i z fewer e
+
+pub all_named : {X : Type 0} (p : X → Bool) (xs : List X) → list_all p xs ≡ true → (i : ℕ) (x : X) → slice_get xs i ≡ Some x → p x ≡ true
+all_named p [] all i x e = absurd (none-some x e)
+all_named p (y ∷ ys) all zero x e = subst (λ z. p z ≡ true) (same_Some y x e) (both_so (p y) (list_all p ys) all).0
+all_named p (y ∷ ys) all (suc i) x e = all_named p ys (both_so (p y) (list_all p ys) all).1 i x e
+
+abbrev pub AreApart : List RoleId → Type 0
+AreApart roles = (i j : ℕ) (me : RoleId) → slice_get roles i ≡ Some me → slice_get roles j ≡ Some me → i ≡ j
+
+-- ---- one role
+
+name_opened : (c : Cluster) (events : List Event) (me : RoleId) (records : List Record) (k : Kind) → name_of (opened_as c events me records k) ≡ me
+name_opened c events me records Client = refl
+name_opened c events me records Batcher = refl
+name_opened c events me records Leader = refl
+name_opened c events me records Proxy = refl
+name_opened c events me records Acceptor = refl
+name_opened c events me records Matchmaker = refl
+name_opened c events me records Replica = refl
+name_opened c events me records Unbatcher = refl
+name_opened c events me records Reader = refl
+
+live_opened : (c : Cluster) (events : List Event) (me : RoleId) (records : List Record) (k : Kind) → is_live (opened_as c events me records k) ≡ true
+live_opened c events me records Client = refl
+live_opened c events me records Batcher = refl
+live_opened c events me records Leader = refl
+live_opened c events me records Proxy = refl
+live_opened c events me records Acceptor = refl
+live_opened c events me records Matchmaker = refl
+live_opened c events me records Replica = refl
+live_opened c events me records Unbatcher = refl
+live_opened c events me records Reader = refl
+
+module _ {D : Type 0} (seen : D → Option (List ℕ)) (tells : Bool) where
+  has_journal : (records : List Record) (b : Bool) (o : Option (JournalState D)) → b ≡ true → HasJournal seen tells records b o → (j : JournalState D) × (o ≡ Some j) × HasRecords seen tells records j
+  has_journal records true None durable has = absurd has
+  has_journal records true (Some j) durable has = (j, refl, has)
+  has_journal records false o durable has = cc
+
+  pub has_records : (records : List Record) (b : Bool) (o : Option (JournalState D)) (j : JournalState D) → o ≡ Some j → HasJournal seen tells records b o → HasRecords seen tells records j
+  has_records records b None j e has = absurd (none-some j e)
+  has_records records true (Some k) j e has = subst (HasRecords seen tells records) (same_Some k j e) has
+  has_records records false (Some k) j e has = absurd has
+
+module _ {D : Type 0} (seen : D → Option (List ℕ)) (c : Cluster) (events : List Event) (tells : Bool) (held : RoleId → List ℕ) where
+  pub name_is : (me : RoleId) (guest : Guest (JournalState D)) → IsOpened seen c events tells (held me) me guest → who guest ≡ me
+  name_is me guest o = ap name_of o.hosted ∙ name_opened c events me o.records me.kind
+
+  pub keeps_journal : (me : RoleId) (guest : Guest (JournalState D)) (o : IsOpened seen c events tells (held me) me guest) → is_durable me.kind ≡ true
+      → (j : JournalState D) × (keeper_of guest ≡ Some j) × HasRecords seen tells o.records j
+  keeps_journal me guest o durable = has_journal seen tells o.records (is_durable me.kind) (keeper_of guest) durable o.journal
+
+  -- ---- all roles
+
+  pub distinct_opened : (roles : List RoleId) (guests : List (Guest (JournalState D))) → AreApart roles → AreOpened seen c events tells held roles guests → AreDistinct (hosted_in guests)
+  distinct_opened roles guests apart all i j a b here there same =
+      let g = get_map hosted_of guests i a here in
+      let h = get_map hosted_of guests j b there in
+      let o = all i g.0 g.1 in
+      let p = all j h.0 h.1 in
+      let name : o.0 ≡ p.0 = sym (name_is o.0 g.0 o.2) ∙ ap name_of (sym g.2) ∙ same ∙ ap name_of h.2 ∙ name_is p.0 h.0 p.2 in
+      apart i j p.0 (o.1 ∙ ap Some name) p.1
+
+  pub ready_opened : (roles : List RoleId) (guests : List (Guest (JournalState D))) → AreApart roles → ((i : ℕ) (me : RoleId) → slice_get roles i ≡ Some me → IsTrue (names_role c me))
+      → AreOpened seen c events tells held roles guests → AreReady c guests
+  ready_opened roles guests apart named all = record {
+    each = λ i h at. let o = all i h at in record {
+      live = subst IsTrue (sym (ap is_live o.2.hosted ∙ live_opened c events o.0 o.2.records o.0.kind)) refl;
+      named = subst (λ me. IsTrue (names_role c me)) (sym (name_is o.0 h o.2)) (named i o.0 o.1);
+    };
+    distinct = distinct_opened roles guests apart all;
+  }
+
+  -- these records were told to a role as it was opened
+  abbrev pub IsOpenedFrom : List Record → RoleId → Guest (JournalState D) → Type 0
+  IsOpenedFrom records me guest = (o : IsOpened seen c events tells (held me) me guest) × (o.records ≡ records)
+
+  -- each role of a list was opened from what was told to it
+  abbrev pub AreOpenedFrom : (RoleId → List Record) → List RoleId → List (Guest (JournalState D)) → Type 0
+  AreOpenedFrom told roles guests = (i : ℕ) (me : RoleId) (guest : Guest (JournalState D)) → slice_get roles i ≡ Some me → slice_get guests i ≡ Some guest → IsOpenedFrom (told me) me guest
+
+  abbrev first_told : RoleId → List Record → (RoleId → List Record) → RoleId → List Record
+  first_told r records told me = if same_role me r then records else told me
+
+  -- what was told to each role; where the depot tells, it is what that holds
+  abbrev pub AreTold : List RoleId → List (Guest (JournalState D)) → Type 0
+  AreTold roles guests = (told : RoleId → List Record) × (tells ≡ true → (me : RoleId) → is_durable me.kind ≡ true → told me ≡ told_to held me) × AreOpenedFrom told roles guests
+
+  told_more : (r : RoleId) (rs : List RoleId) (g : Guest (JournalState D)) (gs : List (Guest (JournalState D))) → AreApart (r ∷ rs)
+      → IsOpened seen c events tells (held r) r g → AreTold rs gs → AreTold (r ∷ rs) (g ∷ gs)
+  told_more r rs g gs apart first rest = (told, is_told, from)
+    where
+      told : RoleId → List Record
+      told = first_told r first.records rest.0
+
+      own : told r ≡ first.records
+      own = rw (same_role-itself r) refl
+
+      is_told : tells ≡ true → (me : RoleId) → is_durable me.kind ≡ true → told me ≡ told_to held me
+      is_told t me = by_role (λ a. is_durable a.kind ≡ true → told a ≡ told_to held a) r
+          (λ d. own ∙ sym (ap records_or_none (first.read t d)))
+          (λ a other d. (rw other refl) ∙ rest.1 t a d) me
+
+      from : AreOpenedFrom told (r ∷ rs) (g ∷ gs)
+      from zero me guest a b =
+          subst (λ h. IsOpenedFrom (told me) me h) (same_Some g guest b)
+          (subst (λ m. IsOpenedFrom (told m) m g) (same_Some r me a) (first, sym own))
+      from (suc i) me guest a b =
+          let other : same_role me r ≡ false = differ_role me r (λ e. let n = apart 0 (suc i) me (ap Some (sym e)) a in omega (arith, n)) in
+          let same : told me ≡ rest.0 me = rw other refl in
+          subst (λ rs. IsOpenedFrom rs me guest) (sym same) (rest.2 i me guest a b)
+
+  pub told_opened : (roles : List RoleId) (guests : List (Guest (JournalState D))) → AreApart roles → AreOpened seen c events tells held roles guests → AreTold roles guests
+  told_opened roles [] apart all = (told_to held, (λ t me d. refl), λ i me guest a b. absurd (none-some guest b))
+  told_opened [] (g ∷ gs) apart all = let o = all 0 g refl in absurd (none-some o.0 o.1)
+  told_opened (r ∷ rs) (g ∷ gs) apart all =
+      let one = all 0 g refl in
+      told_more r rs g gs apart (subst (λ me. IsOpened seen c events tells (held me) me g) (sym (same_Some r one.0 one.1)) one.2)
+      (told_opened rs gs (λ i j me a b. let e = apart (suc i) (suc j) me a b in omega (arith, e)) (λ i. all (suc i)))
+
+  pub hosts_opened : (told : RoleId → List Record) (roles : List RoleId) (guests : List (Guest (JournalState D))) → length guests ≡ length roles → AreOpenedFrom told roles guests
+      → hosted_in guests ≡ hosts c events told roles
+  hosts_opened told [] [] same from = refl
+  hosts_opened told [] (g ∷ gs) same from = absurd (omega (arith, same))
+  hosts_opened told (r ∷ rs) [] same from = absurd (omega (arith, same))
+  hosts_opened told (r ∷ rs) (g ∷ gs) same from =
+      let o = from 0 r g refl refl in
+      let fewer : length gs ≡ length rs = omega (arith, same) in
+      ap (λ (h : Hosted). h ∷ hosted_in gs) (o.0.hosted ∙ ap (λ rec. opened_as c events r rec r.kind) o.1)
+      ∙ ap (λ (hs : List Hosted). opened_as c events r (told r) r.kind ∷ hs) (hosts_opened told rs gs fewer (λ i. from (suc i)))

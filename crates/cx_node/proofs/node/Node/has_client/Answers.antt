@@ -1,0 +1,14 @@
+use Rattle.std.proofs.Common.{ap, ◌∙◌}
+use Rattle.std.specs.List.{list_any}
+use Rattle.cx_node.specs.declared.guest.Guest.{Guest}
+use Rattle.cx_node.specs.Guest.{hosted_of}
+use Rattle.cx_node.specs.Node.{NodeState}
+use Rattle.cx_node.specs.Run.{is_client}
+use Rattle.cx_node.proofs.Places.{any_hosted}
+use Rattle.cx_node.proofs.node.Node.has_client.Goals as goal
+
+pub returns : goal.returns
+returns g c =
+    c.any_client.ensures
+    ∙ ap (list_any (λ (guest : Guest g.row.K.Denot). is_client (hosted_of guest))) (c.deref.ensures.value ∙ ap (λ (s : NodeState g.row.K.Denot). s.guests) c.self.view_is)
+    ∙ any_hosted is_client c.args.self.now.guests

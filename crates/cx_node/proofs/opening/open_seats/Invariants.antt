@@ -1,0 +1,14 @@
+use Rattle.std.proofs.Common.{◌≡◌, length}
+use Rattle.cx_base.specs.declared.role.RoleId.{RoleId}
+use Rattle.cx_node.specs.Opening.{AreOpened, lent_to}
+use Rattle.cx_node.proofs.opening.open_seats.Given as goal
+
+abbrev pub invariant-loop-role : goal.invariant-loop-role
+invariant-loop-role g l = record {
+  opened : AreOpened g.D.Store.Disk.seen l.cluster l.events (g.D.Depot.tells l.fn.depot) (g.D.Depot.held l.fn.depot) l.roles l.seats.items;
+  size : length l.seats.items ≡ l.role-index;
+  out : g.D.Depot.out l.depot ≡ lent_to l.seats.items;
+  told : g.D.Depot.tells l.depot ≡ g.D.Depot.tells l.fn.depot;
+  held : (who : RoleId) → g.D.Depot.held l.depot who ≡ g.D.Depot.held l.fn.depot who;
+  still : (who : RoleId) → g.D.Depot.faults l.depot who ≡ g.D.Depot.faults l.fn.depot who;
+}

@@ -1,0 +1,71 @@
+use Rattle.std.proofs.Common.{◌∙◌, Err, refl, sym, ap, subst}
+use Rattle.cx_model.specs.Names.{names_role}
+use Rattle.cx_node.specs.Hosting.{GivesBack, HostAnswered}
+use Rattle.cx_node.specs.Serving.{outside}
+use Rattle.cx_node.proofs.ClosedStores.{opened_stays}
+use Rattle.cx_node.proofs.HostedRuns.{host_early, host_ran, host_unopened}
+use Rattle.cx_node.proofs.OpenedRoles.{all_named, distinct_opened, ready_opened}
+use Rattle.cx_node.proofs.StoredRecords.{rises_still}
+use Rattle.cx_node.proofs.serving.host.Goals as goal
+
+pub returns-then-not-bind_all-clause-answered : goal.returns-then-not-bind_all-clause-answered
+returns-then-not-bind_all-clause-answered g c = λ left left_after reads reads_after.
+    let old = outside left reads (g.L.Link.told c.args.link.now) (g.L.Link.faults c.args.link.now) (g.W.Sink.taken c.args.out.now) (g.W.Sink.faults c.args.out.now)
+    (g.D.Depot.tells c.args.depot.now) (g.D.Depot.held c.args.depot.now) (g.D.Depot.faults c.args.depot.now) in
+    let new = outside left_after reads_after (g.L.Link.told c.bind_all.new.link) (g.L.Link.faults c.bind_all.new.link) (g.W.Sink.taken c.args.out.now) (g.W.Sink.faults c.args.out.now)
+    (g.D.Depot.tells c.args.depot.now) (g.D.Depot.held c.args.depot.now) (g.D.Depot.faults c.args.depot.now) in
+    record {
+      did = (host_early c.args.cluster.now c.args.events.now c.args.roles.now old new c.bind_all.ensures.part.0 c.bind_all.ensures.part.1 refl (λ t i me here durable. refl), c.bind_all.ensures.failed c.if-not-bind_all.true);
+      written = λ no. refl;
+      linked = λ no. absurd (no refl);
+    }
+
+pub open_seats-requires-clause-named : goal.open_seats-requires-clause-named
+open_seats-requires-clause-named g c = all_named (λ r. names_role c.args.cluster.now r) c.args.roles.now c.requires.named
+
+pub run_seats-requires-clause-ready : goal.run_seats-requires-clause-ready
+run_seats-requires-clause-ready g c =
+    ready_opened g.D.Store.Disk.seen c.args.cluster.now c.args.events.now (g.D.Depot.tells c.args.depot.now) (g.D.Depot.held c.args.depot.now) c.args.roles.now c.open_seats.new.seats.items
+    c.requires.distinct (all_named (λ r. names_role c.args.cluster.now r) c.args.roles.now c.requires.named) c.open_seats.ensures.opened
+
+pub close_seats-requires-clause-distinct : goal.close_seats-requires-clause-distinct
+close_seats-requires-clause-distinct g c =
+    distinct_opened g.D.Store.Disk.seen c.args.cluster.now c.args.events.now (g.D.Depot.tells c.args.depot.now) (g.D.Depot.held c.args.depot.now) c.args.roles.now c.open_seats.new.seats.items
+    c.requires.distinct c.open_seats.ensures.opened
+
+pub returns-in-Ok-clause-answered : goal.returns-in-Ok-clause-answered
+returns-in-Ok-clause-answered g c = λ left left_after reads reads_after.
+    let disk = g.D.Store.Disk in
+    let depot = g.D.Depot in
+    let old = outside left reads (g.L.Link.told c.args.link.now) (g.L.Link.faults c.args.link.now) (g.W.Sink.taken c.args.out.now) (g.W.Sink.faults c.args.out.now)
+    (depot.tells c.args.depot.now) (depot.held c.args.depot.now) (depot.faults c.args.depot.now) in
+    let new = outside left_after reads_after (g.L.Link.told c.run_seats.new.link) (g.L.Link.faults c.run_seats.new.link) (g.W.Sink.taken c.run_seats.new.out) (g.W.Sink.faults c.run_seats.new.out)
+    (depot.tells c.run_seats.new.depot) (depot.held c.run_seats.new.depot) (depot.faults c.run_seats.new.depot) in
+    let run = c.run_seats.ensures.ran in
+    subst (λ s. HostAnswered c.args.roles.now c.args.cluster.now c.args.events.now c.args.turns old new s) (sym run.2)
+    (host_ran disk.seen disk.may_leave disk.moment disk.left_since disk.faults c.args.cluster.now c.args.events.now c.args.turns c.args.roles.now old new
+    (g.L.Link.told c.bind_all.new.link) (g.L.Link.faults c.bind_all.new.link) (depot.held c.open_seats.new.depot) (depot.faults c.open_seats.new.depot) c.open_seats.new.seats.items run.0 run.1
+    c.requires.distinct c.open_seats.ensures.opened c.in-Ok.ensures.all (c.bind_all.ensures.all c.if-not-bind_all.false) (c.bind_all.ensures.still c.if-not-bind_all.false) c.open_seats.ensures.later run.3
+    (subst (λ t. GivesBack disk.seen disk.faults run.0 t (depot.held c.open_seats.new.depot) (depot.held c.run_seats.new.depot) (depot.faults c.open_seats.new.depot) (depot.faults c.run_seats.new.depot))
+    c.open_seats.ensures.told run.4))
+
+pub returns-in-Err-clause-answered : goal.returns-in-Err-clause-answered
+returns-in-Err-clause-answered g c = λ left left_after reads reads_after.
+    let disk = g.D.Store.Disk in
+    let depot = g.D.Depot in
+    let old = outside left reads (g.L.Link.told c.args.link.now) (g.L.Link.faults c.args.link.now) (g.W.Sink.taken c.args.out.now) (g.W.Sink.faults c.args.out.now)
+    (depot.tells c.args.depot.now) (depot.held c.args.depot.now) (depot.faults c.args.depot.now) in
+    let new = outside left_after reads_after (g.L.Link.told c.bind_all.new.link) (g.L.Link.faults c.bind_all.new.link) (g.W.Sink.taken c.args.out.now) (g.W.Sink.faults c.args.out.now)
+    (depot.tells c.close_seats.new.depot) (depot.held c.close_seats.new.depot) (depot.faults c.close_seats.new.depot) in
+    let opening = c.open_seats.ensures in
+    let close = c.close_seats.ensures in
+    let back = subst (λ t. GivesBack disk.seen disk.faults c.open_seats.new.seats.items t (depot.held c.open_seats.new.depot) (depot.held c.close_seats.new.depot) (depot.faults c.open_seats.new.depot) (depot.faults c.close_seats.new.depot))
+    opening.told (record { holds = close.held; others = close.others; failed = close.failed; later = close.later }) in
+    let stays = opened_stays disk.seen disk.may_leave disk.moment disk.left_since disk.faults c.args.cluster.now c.args.events.now (depot.tells c.args.depot.now) (depot.held c.args.depot.now)
+    (depot.held c.open_seats.new.depot) (depot.held c.close_seats.new.depot) (depot.faults c.open_seats.new.depot) (depot.faults c.close_seats.new.depot) c.args.roles.now c.open_seats.new.seats.items
+    c.requires.distinct opening.opened back opening.held in
+    let early = host_early c.args.cluster.now c.args.events.now c.args.roles.now old new c.bind_all.ensures.part.0 c.bind_all.ensures.part.1 refl stays in
+    subst (λ s. HostAnswered c.args.roles.now c.args.cluster.now c.args.events.now c.args.turns old new s) (sym c.unopened.ensures)
+    (host_unopened c.args.cluster.now c.args.events.now c.args.roles.now old new c.args.turns c.in-Err.stop early
+    (λ role e. rises_still (depot.faults c.args.depot.now role) (depot.faults c.open_seats.new.depot role) (depot.faults c.close_seats.new.depot role) (opening.failed role (c.in-Err.is ∙ ap Err e)) (close.later role))
+    (λ role at e t. opening.bad role at (c.in-Err.is ∙ ap Err e) t) refl (c.bind_all.ensures.still c.if-not-bind_all.false))

@@ -1,0 +1,73 @@
+-- What a part of a node's run came to: it was done whole, or a front of it was done and something failed.
+use Rattle.std.specs.Prelude.{◌≡◌, ◌⊎◌, ◌≤◌, ◌<◌, ℕ, Bool, true, false, List, [], ◌∷◌, length, map, take, Option, None, Some, option_map, Result, Ok, Err, OnOk, OnErr}
+use Rattle.cx_base.specs.Faults.{Rises}
+use Rattle.cx_base.specs.declared.cluster.Cluster.{Cluster}
+use Rattle.cx_base.specs.declared.role.RoleId.{RoleId}
+use Rattle.cx_edge.specs.Link.{LinkHistory, with_taken}
+use Rattle.cx_msg.specs.Decoding.{decoded}
+use Rattle.cx_msg.specs.Letter.{Letter}
+use Rattle.cx_msg.specs.declared.fault.WireFault.{WireFault}
+use Rattle.cx_msg.specs.declared.kept.Record.{Record}
+use Rattle.cx_role.specs.Role.{Appending}
+use Rattle.cx_node.specs.declared.node.Stop.{Stop}
+use Rattle.cx_node.specs.declared.node.Stop.TheVariants.{LinkFault, NoMemory, StoreFault, WriteFault}
+use Rattle.cx_node.specs.Doing.{Does, DoesPart, Scene, StoreFails}
+use Rattle.cx_node.specs.Guest.{AreReady, hosted_in, who}
+use Rattle.cx_node.specs.Hosted.{Hosted, Moved}
+use Rattle.cx_node.specs.Node.{Takes}
+use Rattle.cx_node.specs.Run.{all_finished, node_run}
+
+-- how often the link and the output have failed
+pub record Failures : Type 0 where
+  pub link : ℕ
+  pub out : ℕ
+
+abbrev pub failures : ℕ → ℕ → Failures
+failures link out = record { link = link; out = out }
+
+-- a fault of the link or of the output raises its count, and nothing else raises any
+pub record Blames (result : Result (Unit {0}) Stop) (old new : Failures) : Type 0 where
+  pub written : result ≡ Err WriteFault → Rises old.out new.out
+  pub unwritten : (result ≡ Err WriteFault → ⊥) → new.out ≡ old.out
+  pub linked : result ≡ Err LinkFault → Rises old.link new.link
+  pub unlinked : (result ≡ Err LinkFault → ⊥) → new.link ≡ old.link
+
+-- What was to be done is done, and all roles may go on; or a front of it is done, with the first of these takes.
+pub record Acts {K : Type 0} (gives : Appending K) (kept_of : K → List Record) (tells : K → Bool) (c : Cluster) (takes : Takes) (m : Moved (List Hosted)) (result : Result (Unit {0}) Stop) (old new : Scene K) : Type 0 where
+  pub done : OnOk result (Does gives c takes m old new)
+  pub ready : OnOk result (AreReady c new.guests)
+  pub names : OnOk result (map who new.guests ≡ map who old.guests)
+  pub part : OnErr result ((made : ℕ) × DoesPart gives kept_of tells c (take made takes) m old new)
+  pub store : (role : RoleId) → result ≡ Err (StoreFault role) → StoreFails gives m.kept role old.guests new.guests
+
+-- the same with what one take gave
+abbrev pub ActsOnce : {K : Type 0} → Appending K → (K → List Record) → (K → Bool) → Cluster → (Option (List ℕ) → Moved (List Hosted)) → Result (Unit {0}) Stop → Scene K → Scene K → Type 0
+ActsOnce gives kept_of tells c f result old new = (what : Option (List ℕ)) × Acts gives kept_of tells c (what ∷ []) (f what) result old new
+
+-- whether a run has come to its end behind these takes, and to none before
+pub record Ends (c : Cluster) (limit : ℕ) (hs : List Hosted) (takes : Takes) : Type 0 where
+  pub most : length takes ≤ limit
+  pub not_before : (k : ℕ) → k < length takes → all_finished ((node_run c (take k takes) hs).next) ≡ false
+
+-- the turns of a run were made to its end, or a front of them
+abbrev pub ActsLong : {K : Type 0} → Appending K → (K → List Record) → (K → Bool) → Cluster → ℕ → Result (Unit {0}) Stop → Scene K → Scene K → Type 0
+ActsLong gives kept_of tells c limit result old new =
+    (takes : Takes) × Acts gives kept_of tells c takes (node_run c takes (hosted_in old.guests)) result old new × Ends c limit (hosted_in old.guests) takes
+    × OnOk result ((all_finished ((node_run c takes (hosted_in old.guests)).next) ≡ true) ⊎ (length takes ≡ limit))
+
+-- the datagram that a take gave, if it gave one
+abbrev pub read_as : Result Letter WireFault → Option Letter
+read_as (Ok d) = Some d
+read_as (Err fault) = None
+
+abbrev pub letter_in : Option (List ℕ) → Option Letter
+letter_in None = None
+letter_in (Some bytes) = read_as (decoded bytes)
+
+-- One take was told, and what it gave; one that failed isn't told.
+abbrev pub Receives : Option LinkHistory → Option LinkHistory → Result (Option Letter) Stop → Type 0
+Receives old new (Ok o) = (what : Option (List ℕ)) × (new ≡ option_map (with_taken what) old) × (letter_in what ≡ o)
+Receives old new (Err LinkFault) = new ≡ old
+Receives old new (Err NoMemory) = (what : Option (List ℕ)) × (new ≡ option_map (with_taken what) old)
+Receives old new (Err WriteFault) = ⊥
+Receives old new (Err (StoreFault role)) = ⊥

@@ -1,0 +1,131 @@
+-- A hosted role, and what it does with what it is given.
+use Rattle.std.specs.Prelude.{ℕ, Bool, true, false, List, [], if◌then◌else◌}
+use Rattle.cx_base.specs.declared.role.RoleId.{RoleId}
+use Rattle.cx_msg.specs.Letter.{Letter}
+use Rattle.cx_msg.specs.declared.input.Input.{Input}
+use Rattle.cx_msg.specs.declared.input.Input.TheVariants as input
+use Rattle.cx_msg.specs.declared.input.KeptRecord.{KeptRecord}
+use Rattle.cx_client.specs.Client.{ClientState, ClientMoved, client_start, client_takes, client_ticks}
+use Rattle.cx_model.specs.Acceptor.{AcceptorDurable, acceptor_rules}
+use Rattle.cx_model.specs.Batcher.{BatcherVolatile, batcher_rules}
+use Rattle.cx_model.specs.Leader.{LeaderDurable, LeaderVolatile, leader_rules, is_idle}
+use Rattle.cx_model.specs.Matchmaker.{MatchmakerDurable, matchmaker_rules}
+use Rattle.cx_model.specs.Proxy.{ProxyVolatile, proxy_rules}
+use Rattle.cx_model.specs.Reader.{ReaderVolatile, reader_rules}
+use Rattle.cx_model.specs.Replica.{ReplicaDurable, ReplicaVolatile, replica_rules}
+use Rattle.cx_model.specs.Rules.{Rules, Running, outcome_of, running_after}
+use Rattle.cx_model.specs.Unbatcher.{unbatcher_rules}
+use Rattle.cx_model.specs.World.{kept_by}
+use Rattle.cx_trace.specs.Trace.{told_text}
+use Rattle.cx_node.specs.declared.doing.Doing.{Doing}
+use Rattle.cx_node.specs.declared.doing.Doing.TheVariants.{Begin, Give}
+
+-- a role that a node hosts, by its kind
+pub data Hosted : Type 0 where
+  ClientAt : (s : ClientState) → Hosted
+  BatcherAt : (s : Running (Unit {0}) BatcherVolatile) → Hosted
+  LeaderAt : (s : Running LeaderDurable LeaderVolatile) → Hosted
+  ProxyAt : (s : Running (Unit {0}) ProxyVolatile) → Hosted
+  AcceptorAt : (s : Running AcceptorDurable (Unit {0})) → Hosted
+  MatchmakerAt : (s : Running MatchmakerDurable (Unit {0})) → Hosted
+  ReplicaAt : (s : Running ReplicaDurable ReplicaVolatile) → Hosted
+  UnbatcherAt : (s : Running (Unit {0}) (Unit {0})) → Hosted
+  ReaderAt : (s : Running (Unit {0}) ReaderVolatile) → Hosted
+
+abbrev pub name_of : Hosted → RoleId
+name_of (ClientAt s) = s.me
+name_of (BatcherAt s) = s.me
+name_of (LeaderAt s) = s.me
+name_of (ProxyAt s) = s.me
+name_of (AcceptorAt s) = s.me
+name_of (MatchmakerAt s) = s.me
+name_of (ReplicaAt s) = s.me
+name_of (UnbatcherAt s) = s.me
+name_of (ReaderAt s) = s.me
+
+-- What a step comes to: what follows, the records that are kept, the datagrams that are sent, and the text that is printed.
+pub record Moved (S : Type 0) : Type 0 where
+  pub next : S
+  pub kept : List KeptRecord
+  pub sends : List Letter
+  pub text : List ℕ
+
+-- nothing is done
+abbrev pub stays : {S : Type 0} → S → Moved S
+stays s = record { next = s; kept = []; sends = []; text = [] }
+
+-- a role of the protocol does what its row gives
+abbrev pub by_row : {D V : Type 0} → Rules D V → (Running D V → Hosted) → Running D V → Input → Moved Hosted
+by_row rules make s i =
+    record {
+      next = make (running_after rules s (outcome_of rules s i));
+      kept = kept_by s.me (outcome_of rules s i).kept;
+      sends = (outcome_of rules s i).sends;
+      text = [];
+    }
+
+-- what a client's move comes to
+abbrev pub by_client : ClientMoved → List ℕ → Moved Hosted
+by_client m text = record { next = ClientAt m.state; kept = []; sends = m.sends; text = text }
+
+-- the line of a datagram that completes a client's request
+abbrev pub printed : ClientMoved → RoleId → Letter → List ℕ
+printed m me d = if m.completes then told_text me.index d.msg else []
+
+abbrev pub client_given : ClientState → Input → Moved Hosted
+client_given s (input.Take d) = by_client (client_takes s d) (printed (client_takes s d) s.me d)
+client_given s input.Tick = by_client (client_ticks s) []
+client_given s (input.Order order) = stays (ClientAt s)
+
+-- a hosted role takes an input
+abbrev pub given : Hosted → Input → Moved Hosted
+given (ClientAt s) i = client_given s i
+given (BatcherAt s) i = by_row batcher_rules BatcherAt s i
+given (LeaderAt s) i = by_row leader_rules LeaderAt s i
+given (ProxyAt s) i = by_row proxy_rules ProxyAt s i
+given (AcceptorAt s) i = by_row acceptor_rules AcceptorAt s i
+given (MatchmakerAt s) i = by_row matchmaker_rules MatchmakerAt s i
+given (ReplicaAt s) i = by_row replica_rules ReplicaAt s i
+given (UnbatcherAt s) i = by_row unbatcher_rules UnbatcherAt s i
+given (ReaderAt s) i = by_row reader_rules ReaderAt s i
+
+-- a client sends its first request; another role has nothing to begin with
+abbrev pub begun : Hosted → Moved Hosted
+begun (ClientAt s) = record { next = ClientAt s; kept = []; sends = client_start s; text = [] }
+begun (BatcherAt s) = stays (BatcherAt s)
+begun (LeaderAt s) = stays (LeaderAt s)
+begun (ProxyAt s) = stays (ProxyAt s)
+begun (AcceptorAt s) = stays (AcceptorAt s)
+begun (MatchmakerAt s) = stays (MatchmakerAt s)
+begun (ReplicaAt s) = stays (ReplicaAt s)
+begun (UnbatcherAt s) = stays (UnbatcherAt s)
+begun (ReaderAt s) = stays (ReaderAt s)
+
+-- what a hosted role does
+unfoldable pub does : Hosted → Doing → Moved Hosted
+does h Begin = begun h
+does h (Give i) = given h i
+
+-- whether it is a leader that doesn't lead, and isn't about to
+abbrev pub is_idle_leader : Hosted → Bool
+is_idle_leader (LeaderAt s) = is_idle s.volatile.mode
+is_idle_leader (ClientAt s) = false
+is_idle_leader (BatcherAt s) = false
+is_idle_leader (ProxyAt s) = false
+is_idle_leader (AcceptorAt s) = false
+is_idle_leader (MatchmakerAt s) = false
+is_idle_leader (ReplicaAt s) = false
+is_idle_leader (UnbatcherAt s) = false
+is_idle_leader (ReaderAt s) = false
+
+-- whether it may take a step: a role whose append failed may not
+abbrev pub is_live : Hosted → Bool
+is_live (ClientAt s) = true
+is_live (BatcherAt s) = s.live
+is_live (LeaderAt s) = s.live
+is_live (ProxyAt s) = s.live
+is_live (AcceptorAt s) = s.live
+is_live (MatchmakerAt s) = s.live
+is_live (ReplicaAt s) = s.live
+is_live (UnbatcherAt s) = s.live
+is_live (ReaderAt s) = s.live

@@ -1,0 +1,105 @@
+-- What binding, running and giving back come to, behind an input that was accepted.
+use Rattle.std.specs.Prelude.{◌≡◌, ◌≤◌, ℕ, Bool, true, List, ◌++◌, map, Option, Some, Result, Ok, Err, IfOk, OnOk, OnErr, slice_get}
+use Rattle.cx_base.specs.declared.cluster.Cluster.{Cluster}
+use Rattle.cx_base.specs.declared.event.Event.{Event}
+use Rattle.cx_base.specs.declared.role.RoleId.{RoleId}
+use Rattle.cx_base.specs.declared.status.Status.{Status}
+use Rattle.cx_base.specs.declared.status.Status.TheVariants as status
+use Rattle.cx_base.specs.Faults.{Rises}
+use Rattle.cx_edge.specs.Link.{Bind, LinkHistory}
+use Rattle.cx_journal.specs.State.{JournalState}
+use Rattle.cx_msg.specs.declared.kept.Record.{Record}
+use Rattle.cx_role.specs.Role.{Appending}
+use Rattle.cx_node.specs.declared.guest.Guest.{Guest}
+use Rattle.cx_node.specs.declared.input.Refusal.{Refusal}
+use Rattle.cx_node.specs.declared.input.Refusal.TheVariants as refusal
+use Rattle.cx_node.specs.declared.node.RunEnd.{RunEnd}
+use Rattle.cx_node.specs.declared.node.RunEnd.TheVariants as end
+use Rattle.cx_node.specs.declared.node.Stop.{Stop}
+use Rattle.cx_node.specs.declared.node.Stop.TheVariants as stop
+use Rattle.cx_node.specs.declared.opening.OpenStop.{OpenStop}
+use Rattle.cx_node.specs.declared.opening.OpenStop.TheVariants as open_stop
+use Rattle.cx_node.specs.Doing.{Scene}
+use Rattle.cx_node.specs.Guest.{keeper_of, who}
+use Rattle.cx_node.specs.Node.{IsEnd, RunFails, Runs, RunsPart, Takes}
+use Rattle.cx_node.specs.Opening.{IsBadAs}
+use Rattle.cx_node.specs.Serving.{Outside, Served, ServedPart, hosts}
+
+-- ---- what is answered
+
+-- where an input is refused
+abbrev pub refused_status : Refusal → Status
+refused_status refusal.NoMemory = status.NoMemory
+refused_status refusal.ReadFault = status.ReadFault
+refused_status (refusal.BadInput line) = status.BadInput line
+refused_status refusal.BadWords = status.BadWords
+
+-- where not all roles could be opened
+abbrev pub unopened_status : OpenStop → Status
+unopened_status open_stop.NoMemory = status.NoMemory
+unopened_status (open_stop.StoreFault role) = status.StoreFault role
+unopened_status (open_stop.BadStore role at) = status.BadStore role at
+
+-- where the roles ran
+abbrev pub ended_status : Result RunEnd Stop → Status
+ended_status (Ok end.Done) = status.Done
+ended_status (Ok end.Turns) = status.Turns
+ended_status (Err stop.NoMemory) = status.NoMemory
+ended_status (Err stop.WriteFault) = status.WriteFault
+ended_status (Err stop.LinkFault) = status.LinkFault
+ended_status (Err (stop.StoreFault role)) = status.StoreFault role
+
+-- ---- what is done
+
+-- a link tells these binds besides
+abbrev pub with_binds : List Bind → LinkHistory → LinkHistory
+with_binds binds h = record h { binds = h.binds ++ binds }
+
+-- The stores of these roles were given back: the depot holds what each store tells, for other roles what it held, and each fault of
+-- a store has raised its role's count.
+pub record GivesBack {D : Type 0} (seen : D → Option (List ℕ)) (disk_faults : D → ℕ) (guests : List (Guest (JournalState D))) (tells : Bool) (held held_after : RoleId → List ℕ) (faults faults_after : RoleId → ℕ) : Type 0 where
+  pub holds : tells ≡ true → (i : ℕ) (guest : Guest (JournalState D)) (j : JournalState D) (file : List ℕ)
+      → slice_get guests i ≡ Some guest → keeper_of guest ≡ Some j → seen j.disk ≡ Some file → held_after (who guest) ≡ file
+  pub others : (role : RoleId)
+      → ((i : ℕ) (guest : Guest (JournalState D)) (j : JournalState D) → slice_get guests i ≡ Some guest → keeper_of guest ≡ Some j → who guest ≡ role → ⊥)
+      → held_after role ≡ held role
+  pub failed : (i : ℕ) (guest : Guest (JournalState D)) (j : JournalState D)
+      → slice_get guests i ≡ Some guest → keeper_of guest ≡ Some j → Rises 0 (disk_faults j.disk) → Rises (faults (who guest)) (faults_after (who guest))
+  pub later : (role : RoleId) → faults role ≤ faults_after role
+
+-- Hosted roles ran to this answer: the whole run was made, and no name has changed; or a front of it, and what failed has a cause.
+pub record Ran {K : Type 0} (gives : Appending K) (kept : K → List Record) (tells : K → Bool) (c : Cluster) (turns : ℕ) (answer : Result RunEnd Stop) (old new : Scene K) (links links_after writes writes_after : ℕ) : Type 0 where
+  pub done : IfOk answer (λ e. Runs gives c turns e old new)
+  pub names : OnOk answer (map who new.guests ≡ map who old.guests)
+  pub part : OnErr answer (RunsPart gives kept tells c turns old new)
+  pub store : (role : RoleId) → answer ≡ Err (stop.StoreFault role) → RunFails gives c role old.guests new.guests
+  pub written : answer ≡ Err stop.WriteFault → Rises writes writes_after
+  pub unwritten : (answer ≡ Err stop.WriteFault → ⊥) → writes_after ≡ writes
+  pub linked : answer ≡ Err stop.LinkFault → Rises links links_after
+  pub unlinked : (answer ≡ Err stop.LinkFault → ⊥) → links_after ≡ links
+
+-- the whole run was made, to this end
+abbrev pub HostEnds : List RoleId → Cluster → List Event → ℕ → RunEnd → Outside → Outside → Type 0
+HostEnds roles c events turns e old new =
+    (told : RoleId → List Record) × (takes : Takes) × Served roles c events told takes old new × IsEnd c turns (hosts c events told roles) takes e
+
+-- a front of it was made
+abbrev pub HostEndsEarly : List RoleId → Cluster → List Event → Outside → Outside → Type 0
+HostEndsEarly roles c events old new = (told : RoleId → List Record) × (takes : Takes) × ServedPart roles c events told takes old new
+
+-- what was done, and why, for each answer; hosting reads nothing
+abbrev pub HostDid : List RoleId → Cluster → List Event → ℕ → Outside → Outside → Status → Type 0
+HostDid roles c events turns old new status.Done = HostEnds roles c events turns end.Done old new
+HostDid roles c events turns old new status.Turns = HostEnds roles c events turns end.Turns old new
+HostDid roles c events turns old new status.LinkFault = HostEndsEarly roles c events old new × Rises old.links new.links
+HostDid roles c events turns old new status.WriteFault = HostEndsEarly roles c events old new × Rises old.writes new.writes
+HostDid roles c events turns old new (status.StoreFault role) = HostEndsEarly roles c events old new × Rises (old.stores role) (new.stores role)
+HostDid roles c events turns old new (status.BadStore role at) = HostEndsEarly roles c events old new × (old.tells ≡ true → IsBadAs c role (old.held role) at role.kind)
+HostDid roles c events turns old new status.NoMemory = HostEndsEarly roles c events old new
+HostDid roles c events turns old new other = ⊥
+
+-- what hosting answered; a failed write or take is always told
+pub record HostAnswered (roles : List RoleId) (c : Cluster) (events : List Event) (turns : ℕ) (old new : Outside) (s : Status) : Type 0 where
+  pub did : HostDid roles c events turns old new s
+  pub written : (s ≡ status.WriteFault → ⊥) → new.writes ≡ old.writes
+  pub linked : (s ≡ status.LinkFault → ⊥) → new.links ≡ old.links

@@ -1,0 +1,72 @@
+-- What the input of a node says: its header's cluster, and the requests of the lines behind it.
+use Rattle.std.specs.Prelude.{◌≡◌, ℕ, Bool, true, false, List, Option, None, Some, Result, Ok, Err, if◌then◌else◌}
+use Rattle.std.specs.List.{list_all}
+use Rattle.cx_base.specs.declared.cluster.Cluster.{Cluster}
+use Rattle.cx_base.specs.declared.role.RoleId.{RoleId}
+use Rattle.cx_cluster.specs.declared.fault.ClusterFault.{ClusterFault}
+use Rattle.cx_cluster.specs.Reading.{header_cluster}
+use Rattle.cx_model.specs.Names.{names_role}
+use Rattle.cx_script.specs.Header.{header_of}
+use Rattle.cx_script.specs.Lines.{Spelled}
+use Rattle.cx_script.specs.Requests.{requests_of}
+use Rattle.cx_script.specs.Unended.{counted, is_long_header}
+use Rattle.cx_node.specs.declared.input.Heard.{Heard}
+use Rattle.cx_node.specs.declared.input.Heard.TheVariants.{Nothing, BadHeader, Lines}
+use Rattle.cx_node.specs.declared.input.Refusal.{Refusal}
+use Rattle.cx_node.specs.declared.input.Refusal.TheVariants as refusal
+
+-- a header without a port is bad
+abbrev pub with_port : Option ℕ → Cluster → List ℕ → Heard
+with_port None c rest = BadHeader
+with_port (Some port) c rest = Lines c (requests_of c rest)
+
+-- the cluster that a header's text says, and the requests that the bytes behind it spell
+abbrev pub behind : Result Cluster ClusterFault → List ℕ → Heard
+behind (Ok c) rest = with_port c.base_port c rest
+behind (Err fault) rest = BadHeader
+
+-- the same of a header's text and the bytes behind it, where there is a header
+abbrev pub of_header : Option (List ℕ × List ℕ) → Heard → Heard
+of_header None without = without
+of_header (Some parts) without = behind (header_cluster parts.0) parts.1
+
+-- what a whole input says
+unfoldable pub input_of : List ℕ → Heard
+input_of bytes = of_header (header_of bytes) BadHeader
+
+-- What bytes say behind which others may come: their whole lines, and a line that is too long already. A header that hasn't ended
+-- is bad only where it is too long.
+unfoldable pub lines : List ℕ → Heard
+lines bytes = of_header (header_of (counted 1024 bytes)) (if is_long_header (counted 16384 bytes) then BadHeader else Nothing)
+
+-- what bytes say: the whole input where it has ended
+abbrev pub heard_of : Bool → List ℕ → Heard
+heard_of true bytes = input_of bytes
+heard_of false bytes = lines bytes
+
+-- the first bad line, if one is
+abbrev pub bad_line_of : Option ℕ → Option Refusal
+bad_line_of None = None
+bad_line_of (Some line) = Some (refusal.BadInput line)
+
+-- Why an input is refused of a node of these roles: by its header, a role that isn't in the cluster, or the first bad line, in this order.
+abbrev pub refused_of : List RoleId → Heard → Option Refusal
+refused_of roles Nothing = None
+refused_of roles BadHeader = Some (refusal.BadInput 0)
+refused_of roles (Lines c spelled) =
+    if list_all (λ (r : RoleId). names_role c r) roles then bad_line_of spelled.bad else Some refusal.BadWords
+
+-- what was answered is what the input says, want of memory aside
+abbrev pub IsRefusal : Option Refusal → Refusal → Type 0
+IsRefusal said refusal.NoMemory = Unit {0}
+IsRefusal said refusal.ReadFault = ⊥
+IsRefusal said (refusal.BadInput line) = said ≡ Some (refusal.BadInput line)
+IsRefusal said refusal.BadWords = said ≡ Some refusal.BadWords
+
+-- what is answered to bytes that say this, of a whole input or not: what they say, the first refusal, or that more was to come
+abbrev pub IsAnswer : Bool → List RoleId → Heard → Result (Cluster × Spelled) Refusal → Type 0
+IsAnswer ended roles heard (Ok p) = (heard ≡ Lines p.0 p.1) × (refused_of roles heard ≡ None) × (ended ≡ true)
+IsAnswer ended roles heard (Err refusal.NoMemory) = Unit {0}
+IsAnswer ended roles heard (Err refusal.ReadFault) = (refused_of roles heard ≡ None) × (ended ≡ false)
+IsAnswer ended roles heard (Err (refusal.BadInput line)) = refused_of roles heard ≡ Some (refusal.BadInput line)
+IsAnswer ended roles heard (Err refusal.BadWords) = refused_of roles heard ≡ Some refusal.BadWords

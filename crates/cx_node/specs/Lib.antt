@@ -1,0 +1,15 @@
+pub mod Hosted
+pub mod Ports
+pub mod Run
+pub mod Guest
+pub mod Seat
+pub mod Doing
+pub mod Node
+pub mod Wake
+pub mod Opening
+pub mod Input
+pub mod Serving
+pub mod Stops
+pub mod Durable
+pub mod Hosting
+pub mod Acts

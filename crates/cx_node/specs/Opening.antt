@@ -1,0 +1,97 @@
+-- Hosted roles as they are opened, and the stores that are lent to them.
+use Rattle.std.specs.Prelude.{◌≡◌, ℕ, Bool, true, false, List, [], ◌∷◌, Option, None, Some, Ok, is_some, if◌then◌else◌, slice_get}
+use Rattle.cx_base.specs.declared.cluster.Cluster.{Cluster}
+use Rattle.cx_base.specs.declared.event.Event.{Event}
+use Rattle.cx_base.specs.declared.role.Kind.{Kind}
+use Rattle.cx_base.specs.declared.role.Kind.TheVariants as kind
+use Rattle.cx_base.specs.declared.role.RoleId.{RoleId}
+use Rattle.cx_client.specs.Client.{client_opened}
+use Rattle.cx_journal.specs.Image.{image}
+use Rattle.cx_journal.specs.State.{JournalState, told_records}
+use Rattle.cx_model.specs.Acceptor.{acceptor_rules}
+use Rattle.cx_model.specs.Batcher.{batcher_rules}
+use Rattle.cx_model.specs.Leader.{leader_rules}
+use Rattle.cx_model.specs.Matchmaker.{matchmaker_rules}
+use Rattle.cx_model.specs.Proxy.{proxy_rules}
+use Rattle.cx_model.specs.Reader.{reader_rules}
+use Rattle.cx_model.specs.Replica.{replica_rules}
+use Rattle.cx_model.specs.Rules.{opened, refused}
+use Rattle.cx_model.specs.Unbatcher.{unbatcher_rules}
+use Rattle.cx_msg.specs.declared.kept.Record.{Record}
+use Rattle.cx_script.specs.Requests.{script_of}
+use Rattle.cx_node.specs.declared.guest.Guest.{Guest}
+use Rattle.cx_node.specs.Guest.{hosted_of, keeper_of, who}
+use Rattle.cx_node.specs.Hosted.{Hosted, ClientAt, BatcherAt, LeaderAt, ProxyAt, AcceptorAt, MatchmakerAt, ReplicaAt, UnbatcherAt, ReaderAt}
+use Rattle.cx_node.specs.Wake.{IsBadStore}
+
+-- whether a role of this kind has records, and so a store
+abbrev pub is_durable : Kind → Bool
+is_durable kind.Client = false
+is_durable kind.Batcher = false
+is_durable kind.Leader = true
+is_durable kind.Proxy = false
+is_durable kind.Acceptor = true
+is_durable kind.Matchmaker = true
+is_durable kind.Replica = true
+is_durable kind.Unbatcher = false
+is_durable kind.Reader = false
+
+-- A role of this kind as it is opened: a client with its requests among those of the input, another one from its records.
+abbrev pub opened_as : Cluster → List Event → RoleId → List Record → Kind → Hosted
+opened_as c events me records kind.Client = ClientAt (client_opened c me (script_of me.index events))
+opened_as c events me records kind.Batcher = BatcherAt (opened batcher_rules c me [])
+opened_as c events me records kind.Leader = LeaderAt (opened leader_rules c me records)
+opened_as c events me records kind.Proxy = ProxyAt (opened proxy_rules c me [])
+opened_as c events me records kind.Acceptor = AcceptorAt (opened acceptor_rules c me records)
+opened_as c events me records kind.Matchmaker = MatchmakerAt (opened matchmaker_rules c me records)
+opened_as c events me records kind.Replica = ReplicaAt (opened replica_rules c me records)
+opened_as c events me records kind.Unbatcher = UnbatcherAt (opened unbatcher_rules c me [])
+opened_as c events me records kind.Reader = ReaderAt (opened reader_rules c me [])
+
+-- the first record that a role of this kind could not have appended
+abbrev pub refused_as : Cluster → RoleId → List Record → Kind → Option ℕ
+refused_as c me records kind.Leader = refused leader_rules c me records
+refused_as c me records kind.Acceptor = refused acceptor_rules c me records
+refused_as c me records kind.Matchmaker = refused matchmaker_rules c me records
+refused_as c me records kind.Replica = refused replica_rules c me records
+refused_as c me records other = None
+
+-- the bytes are no store of a role of this kind, for the reason at this place
+abbrev pub IsBadAs : Cluster → RoleId → List ℕ → ℕ → Kind → Type 0
+IsBadAs c me file at kind.Leader = IsBadStore leader_rules c me file at
+IsBadAs c me file at kind.Acceptor = IsBadStore acceptor_rules c me file at
+IsBadAs c me file at kind.Matchmaker = IsBadStore matchmaker_rules c me file at
+IsBadAs c me file at kind.Replica = IsBadStore replica_rules c me file at
+IsBadAs c me file at other = ⊥
+
+-- a journal has these records, as far as its disk tells, and no append to it has failed
+pub record HasRecords {D : Type 0} (seen : D → Option (List ℕ)) (tells : Bool) (records : List Record) (j : JournalState D) : Type 0 where
+  pub whole : j.whole ≡ true
+  pub told : tells ≡ true → is_some (seen j.disk) ≡ true
+  pub kept : tells ≡ true → told_records (seen j.disk) ≡ records
+
+abbrev pub HasJournal : {D : Type 0} → (D → Option (List ℕ)) → Bool → List Record → Bool → Option (JournalState D) → Type 0
+HasJournal seen tells records true None = ⊥
+HasJournal seen tells records true (Some j) = HasRecords seen tells records j
+HasJournal seen tells records false None = Unit {0}
+HasJournal seen tells records false (Some j) = ⊥
+
+-- A role was opened from the bytes of its store, if it has one: they are the image of records none of which it refuses, and its
+-- journal has them.
+pub record IsOpened {D : Type 0} (seen : D → Option (List ℕ)) (c : Cluster) (events : List Event) (tells : Bool) (file : List ℕ) (me : RoleId) (guest : Guest (JournalState D)) : Type 0 where
+  pub records : List Record
+  pub hosted : hosted_of guest ≡ opened_as c events me records me.kind
+  pub accepted : refused_as c me records me.kind ≡ None
+  pub read : tells ≡ true → is_durable me.kind ≡ true → image (Some me.kind) file ≡ Ok records
+  pub journal : HasJournal seen tells records (is_durable me.kind) (keeper_of guest)
+
+-- the first roles of a list were opened, each from what its store held
+abbrev pub AreOpened : {D : Type 0} → (D → Option (List ℕ)) → Cluster → List Event → Bool → (RoleId → List ℕ) → List RoleId → List (Guest (JournalState D)) → Type 0
+AreOpened {D} seen c events tells held roles guests =
+    (i : ℕ) (guest : Guest (JournalState D)) → slice_get guests i ≡ Some guest
+    → (me : RoleId) × (slice_get roles i ≡ Some me) × IsOpened seen c events tells (held me) me guest
+
+-- the names of those that have a store, in their order
+abbrev pub lent_to : {K : Type 0} → List (Guest K) → List RoleId
+lent_to [] = []
+lent_to (g ∷ gs) = if is_some (keeper_of g) then who g ∷ lent_to gs else lent_to gs

@@ -1,0 +1,40 @@
+-- The port of each role, and what a link is asked to send.
+use Rattle.std.specs.Prelude.{ℕ, ◌+◌, ◌*◌, ◌%◌, List, map, Option, None, Some}
+use Rattle.std.specs.List.{filter}
+use Rattle.cx_base.specs.declared.cluster.Cluster.{Cluster}
+use Rattle.cx_base.specs.declared.role.Kind.{Kind}
+use Rattle.cx_base.specs.declared.role.Kind.TheVariants.{Client, Batcher, Leader, Proxy, Acceptor, Matchmaker, Replica, Unbatcher, Reader}
+use Rattle.cx_base.specs.declared.role.RoleId.{RoleId}
+use Rattle.cx_msg.specs.Letter.{Letter, spelling}
+use Rattle.cx_model.specs.Names.{names_role}
+use Rattle.cx_edge.specs.Link.{Bind, Sending}
+
+-- how many roles stand before those of a kind, by the kinds' codes
+abbrev pub before : Cluster → Kind → ℕ
+before c Client = 0
+before c Batcher = c.clients
+before c Leader = c.clients + c.batchers
+before c Proxy = c.clients + c.batchers + c.leaders
+before c Acceptor = c.clients + c.batchers + c.leaders + c.proxies
+before c Matchmaker = c.clients + c.batchers + c.leaders + c.proxies + c.acceptors
+before c Replica = c.clients + c.batchers + c.leaders + c.proxies + c.acceptors + (2 * c.f + 1)
+before c Unbatcher = c.clients + c.batchers + c.leaders + c.proxies + c.acceptors + (2 * c.f + 1) + c.replicas
+before c Reader = c.clients + c.batchers + c.leaders + c.proxies + c.acceptors + (2 * c.f + 1) + c.replicas + c.unbatchers
+
+abbrev pub first_port : Option ℕ → ℕ
+first_port None = 0
+first_port (Some port) = port
+
+-- the cluster's first port and a role's place among all roles, by kind and index; a port has 16 bits
+unfoldable pub port_of : Cluster → RoleId → ℕ
+port_of c r = (first_port c.base_port + before c r.kind + r.index) % 65536
+
+abbrev pub bind_of : Cluster → RoleId → Bind
+bind_of c r = record { role = r; port = port_of c r }
+
+abbrev pub sending_of : Cluster → Letter → Sending
+sending_of c d = record { from = d.from; port = port_of c d.to; bytes = spelling d }
+
+-- What the link is asked to send, each datagram as its bytes; a role outside the cluster has no port.
+abbrev pub sendings : Cluster → List Letter → List Sending
+sendings c letters = map (sending_of c) (filter (λ (d : Letter). names_role c d.to) letters)

@@ -1,0 +1,134 @@
+//! How hosted roles do what they are asked.
+
+ghost use Rattle.std.specs.Prelude.{◌≡◌, ◌<◌, [], length, OnOk, OnErr, IsTrue, Err};
+ghost use Rattle.std.specs.List.{position};
+ghost use Rattle.cx_base.specs.declared.role.RoleId.{RoleId};
+ghost use Rattle.cx_base.specs.Role.{same_role};
+ghost use Rattle.cx_node.specs.declared.node.Stop.TheVariants as stop;
+ghost use Rattle.cx_node.specs.Acts.{Acts, Blames, failures};
+ghost use Rattle.cx_node.specs.Doing.{scene};
+ghost use Rattle.cx_node.specs.Guest.{AreReady, GuestFails, GuestGrows, GuestGrowsPart, hosted_in, hosted_of, who};
+ghost use Rattle.cx_node.specs.Hosted.{does, is_live};
+ghost use Rattle.cx_node.specs.Run.{all_do, at_place, does_at, place_of};
+
+use crate::sending::send_all;
+use crate::{Doing, Node, Seat, Stop};
+use cx_base::RoleId;
+use cx_edge::{Link, Sink, write_all};
+use cx_keeper::Keeper;
+use cx_role::{Outbox, StepFault};
+
+// A role does what it is asked. Where its store failed, the stop names it.
+fn ask<K: Keeper>(
+    seat: &mut Seat<K>,
+    what: &Doing,
+    outbox: &mut Outbox,
+    text: &mut Vec<u8>,
+) -> Result<(), Stop>
+    requires live { IsTrue (is_live (hosted_of seat.old)) }
+    ensures role { OnOk result (hosted_of seat.new ≡ (does (hosted_of seat.old) what.now).next) }
+    ensures kept { OnOk result (GuestGrows K.append_gives (does (hosted_of seat.old) what.now).kept seat.old seat.new) }
+    ensures sends { OnOk result (outbox.new.list ≡ (does (hosted_of seat.old) what.now).sends) }
+    ensures text { OnOk result (text.new.items ≡ (does (hosted_of seat.old) what.now).text) }
+    ensures part { OnErr result (GuestGrowsPart K.append_gives K.kept K.tells (does (hosted_of seat.old) what.now).kept seat.old seat.new) }
+    ensures failed { (role : RoleId) → result ≡ Err (stop.StoreFault role) → (who seat.old ≡ role) × GuestFails K.append_gives (does (hosted_of seat.old) what.now).kept seat.old seat.new }
+    ensures no_write { result ≡ Err stop.WriteFault → ⊥ }
+    ensures no_link { result ≡ Err stop.LinkFault → ⊥ }
+    ensures name { who seat.new ≡ who seat.old }
+    ensures live { OnOk result (IsTrue (is_live (hosted_of seat.new))) }
+{
+    outbox.clear();
+    text.clear();
+    match seat.act(what, outbox, text) {
+        Ok(()) => Ok(()),
+        Err(StepFault::Failed) => Err(Stop::StoreFault { role: seat.name() }),
+        Err(StepFault::NoMemory) => Err(Stop::NoMemory),
+    }
+}
+
+// The place of a role.
+fn place_in<K: Keeper>(seats: &[Seat<K>], role: RoleId) -> Option<usize>
+    ensures { result ≡ position (λ guest. same_role role (who guest)) seats.now }
+{
+    seats.iter().position(|seat| role.is(seat.name()))
+}
+
+impl<K: Keeper + Drop> Node<K> {
+    // The role at a place does what it is asked; what it sends is sent, and what it prints is printed.
+    pub fn act<L: Link, W: Sink>(
+        &mut self,
+        place: usize,
+        what: &Doing,
+        link: &mut L,
+        out: &mut W,
+    ) -> Result<(), Stop>
+        requires place { place < length self.old.guests }
+        requires ready { AreReady self.old.cluster self.old.guests }
+        ensures acts { Acts K.append_gives K.kept K.tells self.old.cluster [] (does_at place what.now (hosted_in self.old.guests)) result (scene self.old.guests (L.told link.old) (W.taken out.old)) (scene self.new.guests (L.told link.new) (W.taken out.new)) }
+        ensures blames { Blames result (failures (L.faults link.old) (W.faults out.old)) (failures (L.faults link.new) (W.faults out.new)) }
+        ensures cluster { self.new.cluster ≡ self.old.cluster }
+    {
+        ask(
+            &mut self.seats[place],
+            what,
+            &mut self.outbox,
+            &mut self.text,
+        )?;
+        send_all(
+            self.alloc,
+            &self.cluster,
+            self.outbox.as_slice(),
+            &mut self.bytes,
+            link,
+        )?;
+        if !write_all(out, &self.text) {
+            return Err(Stop::WriteFault);
+        }
+        Ok(())
+    }
+
+    // All roles do it, in order.
+    pub fn all_act<L: Link, W: Sink>(
+        &mut self,
+        what: &Doing,
+        link: &mut L,
+        out: &mut W,
+    ) -> Result<(), Stop>
+        requires ready { AreReady self.old.cluster self.old.guests }
+        ensures acts { Acts K.append_gives K.kept K.tells self.old.cluster [] (all_do what.now (hosted_in self.old.guests)) result (scene self.old.guests (L.told link.old) (W.taken out.old)) (scene self.new.guests (L.told link.new) (W.taken out.new)) }
+        ensures blames { Blames result (failures (L.faults link.old) (W.faults out.old)) (failures (L.faults link.new) (W.faults out.new)) }
+        ensures cluster { self.new.cluster ≡ self.old.cluster }
+    {
+        let count = self.seats.len();
+        for place in 0..count {
+            self.act(place, what, link, out)?;
+        }
+        Ok(())
+    }
+
+    // The place of a hosted role.
+    pub fn find(&self, role: RoleId) -> Option<usize>
+        ensures { result ≡ place_of role (hosted_in self.now.guests) }
+    {
+        place_in(&self.seats, role)
+    }
+
+    // The hosted role of this name does it, if there is one.
+    pub fn act_named<L: Link, W: Sink>(
+        &mut self,
+        role: RoleId,
+        what: &Doing,
+        link: &mut L,
+        out: &mut W,
+    ) -> Result<(), Stop>
+        requires ready { AreReady self.old.cluster self.old.guests }
+        ensures acts { Acts K.append_gives K.kept K.tells self.old.cluster [] (at_place (place_of role (hosted_in self.old.guests)) what.now (hosted_in self.old.guests)) result (scene self.old.guests (L.told link.old) (W.taken out.old)) (scene self.new.guests (L.told link.new) (W.taken out.new)) }
+        ensures blames { Blames result (failures (L.faults link.old) (W.faults out.old)) (failures (L.faults link.new) (W.faults out.new)) }
+        ensures cluster { self.new.cluster ≡ self.old.cluster }
+    {
+        match self.find(role) {
+            Some(place) => self.act(place, what, link, out),
+            None => Ok(()),
+        }
+    }
+}

@@ -1,0 +1,204 @@
+//! What the input of a node says.
+
+ghost use Rattle.std.specs.Prelude.{◌≡◌, ◌≤◌, ℕ, Some, None, Err, IfOk, IfErr, IfSome, IsErrOf, IsTrue, false, is_some};
+ghost use Rattle.std.specs.Io.KnownBytes.{IsAtEnd};
+ghost use Rattle.std.specs.List.{list_all};
+ghost use Rattle.cx_base.specs.declared.role.RoleId.{RoleId};
+ghost use Rattle.cx_base.specs.Faults.{Rises};
+ghost use Rattle.cx_model.specs.Names.{names_role};
+ghost use Rattle.cx_script.specs.Requests.{IsScript, script_of};
+ghost use Rattle.cx_cluster.specs.Reading.{header_cluster};
+ghost use Rattle.cx_node.specs.declared.input.Heard.TheVariants.{Lines, Nothing};
+ghost use Rattle.cx_node.specs.declared.input.Refusal.TheVariants as refusal;
+ghost use Rattle.cx_node.specs.Input.{IsAnswer, IsRefusal, bad_line_of, behind, heard_of, input_of, lines, refused_of, with_port};
+
+use cx_base::{Cluster, NoMemory, RoleId};
+use cx_cluster::{ClusterFault, read};
+use cx_edge::{ReadAll, Source, read_all};
+use cx_role::names_role;
+use cx_script::{
+    MAX_HEADER_LENGTH, MAX_LINE_LENGTH, Schedule, counted, is_long_header, read_requests,
+    split_header,
+};
+use std::alloc::Global;
+
+// More bytes than an input has none of whose lines is bad.
+const LIMIT: usize = 68_000_000;
+
+/// What was read of an input.
+#[derive(Drop)]
+pub enum Heard {
+    /// The header hasn't ended yet.
+    Nothing,
+    /// The header says no cluster with a port.
+    BadHeader,
+    /// The header's cluster, and what the lines behind it spell.
+    Lines {
+        cluster: Cluster,
+        schedule: Schedule,
+    },
+}
+
+/// Why an input is refused.
+#[derive(Clone, Copy, Debug, PartialEq, Eq)]
+pub enum Refusal {
+    NoMemory,
+    /// A read failed.
+    ReadFault,
+    /// The first bad line, counted from 1 behind the header, which is line 0.
+    BadInput { line: u64 },
+    /// A role that is to be hosted isn't in the header's cluster.
+    BadWords,
+}
+
+// A cluster with a port, and what the bytes behind its header spell.
+fn with_port(alloc: Global, cluster: Cluster, rest: &[u8]) -> Result<Heard, NoMemory>
+    ensures { IfOk result (λ heard. heard ≡ with_port cluster.base_port cluster rest.now) }
+{
+    if cluster.base_port.is_none() {
+        return Ok(Heard::BadHeader);
+    }
+    let schedule = read_requests(alloc, &cluster, rest)?;
+    Ok(Heard::Lines { cluster, schedule })
+}
+
+// What a header's text and the bytes behind it say.
+fn behind(alloc: Global, header: &[u8], rest: &[u8]) -> Result<Heard, NoMemory>
+    ensures { IfOk result (λ heard. heard ≡ behind (header_cluster header.now) rest.now) }
+{
+    match read(alloc, header) {
+        Ok(cluster) => with_port(alloc, cluster, rest),
+        Err(ClusterFault::NoMemory) => Err(NoMemory),
+        Err(_) => Ok(Heard::BadHeader),
+    }
+}
+
+// What a whole input says.
+#[tactic(auto, unfolding(crate::specs::Input::input_of))]
+fn read_input(alloc: Global, bytes: &[u8]) -> Result<Heard, NoMemory>
+    ensures { IfOk result (λ heard. heard ≡ input_of bytes.now) }
+{
+    match split_header(alloc, bytes)? {
+        Some((header, rest)) => behind(alloc, &header, rest),
+        None => Ok(Heard::BadHeader),
+    }
+}
+
+// What bytes say behind which others may come.
+#[tactic(auto, unfolding(crate::specs::Input::lines))]
+fn read_lines(alloc: Global, bytes: &[u8]) -> Result<Heard, NoMemory>
+    ensures { IfOk result (λ heard. heard ≡ lines bytes.now) }
+{
+    if let Some((header, rest)) = split_header(alloc, counted(bytes, MAX_LINE_LENGTH))? {
+        return behind(alloc, &header, rest);
+    }
+    if is_long_header(counted(bytes, MAX_HEADER_LENGTH)) {
+        return Ok(Heard::BadHeader);
+    }
+    Ok(Heard::Nothing)
+}
+
+// What bytes say: the whole input where it has ended, else bytes behind which others may come.
+fn hear(alloc: Global, bytes: &[u8], ended: bool) -> Result<Heard, NoMemory>
+    ensures { IfOk result (λ heard. heard ≡ heard_of ended bytes.now) }
+{
+    if ended {
+        read_input(alloc, bytes)
+    } else {
+        read_lines(alloc, bytes)
+    }
+}
+
+// Whether each role is in the cluster.
+fn are_named(cluster: &Cluster, roles: &[RoleId]) -> bool
+    ensures { result ≡ list_all (λ (r : RoleId). names_role cluster.now r) roles.now }
+{
+    for role in roles {
+        if !names_role(cluster, *role) {
+            return false;
+        }
+    }
+    true
+}
+
+fn bad_line(line: Option<u64>) -> Option<Refusal>
+    ensures { result ≡ bad_line_of line }
+{
+    match line {
+        Some(line) => Some(Refusal::BadInput { line }),
+        None => None,
+    }
+}
+
+// Why lines behind a header are refused: a role outside the cluster stands before the first bad line.
+fn refused(roles: &[RoleId], cluster: &Cluster, schedule: &Schedule) -> Option<Refusal>
+    ensures { result ≡ refused_of roles.now (Lines cluster.now schedule.now) }
+{
+    if are_named(cluster, roles) {
+        bad_line(schedule.bad())
+    } else {
+        Some(Refusal::BadWords)
+    }
+}
+
+// What is answered to what was heard of a whole input or not.
+fn answer(roles: &[RoleId], heard: Heard, ended: bool) -> Result<(Cluster, Schedule), Refusal>
+    requires { heard ≡ Nothing → ended ≡ false }
+    ensures { IsAnswer ended roles.now heard result }
+{
+    match heard {
+        Heard::Nothing => Err(Refusal::ReadFault),
+        Heard::BadHeader => Err(Refusal::BadInput { line: 0 }),
+        Heard::Lines { cluster, schedule } => match refused(roles, &cluster, &schedule) {
+            Some(why) => Err(why),
+            None if ended => Ok((cluster, schedule)),
+            None => Err(Refusal::ReadFault),
+        },
+    }
+}
+
+// What is answered to these bytes.
+fn answer_bytes(
+    alloc: Global,
+    roles: &[RoleId],
+    bytes: &[u8],
+    ended: bool,
+) -> Result<(Cluster, Schedule), Refusal>
+    ensures { IsAnswer ended roles.now (heard_of ended bytes.now) result }
+{
+    match hear(alloc, bytes, ended) {
+        Ok(heard) => answer(roles, heard, ended),
+        Err(NoMemory) => Err(Refusal::NoMemory),
+    }
+}
+
+/// Reads the input to its end, and answers its cluster and requests, for a node of these roles. It is refused, in this order, for
+/// its header, for a role outside the cluster, and for its first bad line; `ReadFault` comes only where the source's count rose,
+/// and none of these stands before it.
+pub fn listen<S: Source>(
+    alloc: Global,
+    roles: &[RoleId],
+    source: &mut S,
+) -> Result<(Cluster, Schedule), Refusal>
+    ensures heard { IfOk result (λ p. IfSome (S.left source.old) (λ all. input_of all ≡ Lines p.0 p.1)) }
+    ensures taken { IfOk result (λ p. p.1.bad ≡ None) }
+    ensures named { IfOk result (λ p. IsTrue (list_all (λ (r : RoleId). names_role p.0 r) roles.now)) }
+    ensures port { IfOk result (λ p. IsTrue (is_some p.0.base_port)) }
+    ensures scripts { IfOk result (λ p. (client : ℕ) → IsScript p.0 client (script_of client p.1.events)) }
+    ensures at_end { IfOk result (λ _. IsAtEnd (S.left source.new)) }
+    ensures all_read { IfOk result (λ _. S.faults source.new ≡ S.faults source.old) }
+    ensures bad_input { (line : ℕ) → result ≡ Err (refusal.BadInput line) → IfSome (S.left source.old) (λ all. refused_of roles.now (input_of all) ≡ Some (refusal.BadInput line)) }
+    ensures bad_words { result ≡ Err refusal.BadWords → IfSome (S.left source.old) (λ all. refused_of roles.now (input_of all) ≡ Some refusal.BadWords) }
+    ensures read_fault { IsErrOf result Refusal.ReadFault → Rises (S.faults source.old) (S.faults source.new) }
+    ensures later { S.faults source.old ≤ S.faults source.new }
+
+    // Where no read failed, the answer is what the whole input says, or want of memory.
+    ensures complete { (Rises (S.faults source.old) (S.faults source.new) → ⊥) → IfSome (S.left source.old) (λ all. IfErr result (IsRefusal (refused_of roles.now (input_of all)))) }
+{
+    match read_all(alloc, source, LIMIT) {
+        ReadAll::Whole(bytes) => answer_bytes(alloc, roles, &bytes, true),
+        ReadAll::TooLong(bytes) => answer_bytes(alloc, roles, &bytes, false),
+        ReadAll::Failed(bytes) => answer_bytes(alloc, roles, &bytes, false),
+        ReadAll::NoMemory => Err(Refusal::NoMemory),
+    }
+}

@@ -1,0 +1,186 @@
+//! The node: its hosted roles, and how it runs.
+
+ghost use Rattle.std.specs.Prelude.{◌≡◌, ◌≤◌, ◌<◌, [], length, map, IfOk, IfErr, OnOk, OnErr, Err};
+ghost use Rattle.std.specs.List.{list_all, list_any};
+ghost use Rattle.cx_base.specs.declared.role.RoleId.{RoleId};
+ghost use Rattle.cx_base.specs.Faults.{Rises};
+ghost use Rattle.cx_node.specs.declared.node.Stop.TheVariants as stop;
+ghost use Rattle.cx_node.specs.Acts.{ActsLong, Blames, failures};
+ghost use Rattle.cx_node.specs.Doing.{scene};
+ghost use Rattle.cx_node.specs.Guest.{AreReady, hosted_in, hosted_of, who};
+ghost use Rattle.cx_node.specs.Node.{RunFails, Runs, RunsPart};
+ghost use Rattle.cx_node.specs.Run.{all_finished, has_finished, is_client};
+
+use crate::{Doing, Seat};
+use cx_base::{Cluster, NoMemory, RoleId};
+use cx_edge::{Link, Sink};
+use cx_keeper::Keeper;
+use cx_role::Outbox;
+use std::alloc::Global;
+use std::marker::Model;
+
+/// More bytes than a datagram has, so that a longer one can't pass for one that it begins with.
+pub const BUFFER: usize = 32_769;
+
+/// Why a run stopped before its end.
+#[derive(Clone, Copy, Debug, PartialEq, Eq)]
+pub enum Stop {
+    NoMemory,
+    /// The output failed.
+    WriteFault,
+    /// The link failed at a take.
+    LinkFault,
+    /// The store of a role failed.
+    StoreFault { role: RoleId },
+}
+
+impl From<NoMemory> for Stop {
+    ghost from_gives = { λ _ e. e ≡ stop.NoMemory };
+
+    fn from(_: NoMemory) -> Self {
+        Stop::NoMemory
+    }
+}
+
+/// How a whole run ended.
+#[derive(Clone, Copy, Debug, PartialEq, Eq)]
+pub enum RunEnd {
+    /// All hosted clients have finished; or none is hosted, and all turns were made.
+    Done,
+    /// All turns were made, and a hosted client has a request that isn't answered.
+    Turns,
+}
+
+/// Hosted roles, in the order in which they were named.
+#[derive(Drop)]
+pub struct Node<K> {
+    pub(crate) alloc: Global,
+    pub(crate) cluster: Cluster,
+    pub(crate) seats: Vec<Seat<K>>,
+    pub(crate) outbox: Outbox,
+    pub(crate) text: Vec<u8>,
+    pub(crate) bytes: Vec<u8>,
+    pub(crate) buffer: Vec<u8>,
+}
+
+impl<K> Model for Node<K> {
+    ghost use Rattle.std.specs.Prelude.{◌≡◌, length};
+    ghost use Rattle.cx_node.specs.Node.{NodeState};
+
+    ghost Value = { NodeState K };
+
+    ghost view = { λ node. record { cluster = node.cluster; guests = node.seats.items } };
+
+    ghost invariant = { λ node. length node.buffer.items ≡ 32769 };
+}
+
+impl<K: Keeper + Drop> Node<K> {
+    /// A node of these roles. The memory of its buffer is taken here.
+    pub fn new(
+        alloc: Global,
+        cluster: &Cluster,
+        seats: Vec<Seat<K>>,
+    ) -> Result<Self, (NoMemory, Vec<Seat<K>>)>
+        ensures node { IfOk result (λ node. node ≡ record { cluster = cluster.now; guests = seats.items }) }
+        ensures given_back { IfErr result (λ e. e.1.items ≡ seats.items) }
+    {
+        match vec![in alloc; 0u8; BUFFER] {
+            Ok(buffer) => Ok(Node {
+                alloc,
+                cluster: *cluster,
+                seats,
+                outbox: Outbox::new(alloc),
+                text: Vec::new(alloc),
+                bytes: Vec::new(alloc),
+                buffer,
+            }),
+            Err(_) => Err((NoMemory, seats)),
+        }
+    }
+
+    /// The hosted roles, given back. It takes no memory.
+    pub fn into_seats(self) -> Vec<Seat<K>>
+        ensures { result.items ≡ self.guests }
+    {
+        self.seats
+    }
+
+    // Whether a client is hosted.
+    fn has_client(&self) -> bool
+        ensures { result ≡ list_any is_client (hosted_in self.now.guests) }
+    {
+        any_client(&self.seats)
+    }
+
+    // Whether a client is hosted, and all hosted ones have finished.
+    fn has_finished(&self) -> bool
+        ensures { result ≡ all_finished (hosted_in self.now.guests) }
+    {
+        any_client(&self.seats) && all_finished(&self.seats)
+    }
+
+    // Makes so many turns, or those until all hosted clients have finished.
+    fn all_turns<L: Link, W: Sink>(
+        &mut self,
+        turns: u32,
+        link: &mut L,
+        out: &mut W,
+    ) -> Result<(), Stop>
+        requires ready { AreReady self.old.cluster self.old.guests }
+        ensures acts { ActsLong K.append_gives K.kept K.tells self.old.cluster turns result (scene self.old.guests (L.told link.old) (W.taken out.old)) (scene self.new.guests (L.told link.new) (W.taken out.new)) }
+        ensures blames { Blames result (failures (L.faults link.old) (W.faults out.old)) (failures (L.faults link.new) (W.faults out.new)) }
+        ensures cluster { self.new.cluster ≡ self.old.cluster }
+    {
+        self.all_act(&Doing::Begin, link, out)?;
+        let mut made = 0;
+        while made < turns {
+            if self.has_finished() {
+                return Ok(());
+            }
+            made += 1;
+            self.turn(made, link, out)?;
+        }
+        Ok(())
+    }
+
+    /// Runs so many turns, or until all hosted clients have finished: clients send their first requests, and each turn has three
+    /// parts. An idle leader 0 is ordered to lead (at turn 1 and at each that 4,096 divides), one datagram is taken of the link, and all
+    /// roles tick (at each turn that 64 divides). What each role keeps, what is sent and what is printed are exactly the run's, or a
+    /// front of it where something failed.
+    pub fn run<L: Link, W: Sink>(
+        &mut self,
+        turns: u32,
+        link: &mut L,
+        out: &mut W,
+    ) -> Result<RunEnd, Stop>
+        requires ready { AreReady self.old.cluster self.old.guests }
+        ensures done { IfOk result (λ end. Runs K.append_gives self.old.cluster turns end (scene self.old.guests (L.told link.old) (W.taken out.old)) (scene self.new.guests (L.told link.new) (W.taken out.new))) }
+        ensures part { OnErr result (RunsPart K.append_gives K.kept K.tells self.old.cluster turns (scene self.old.guests (L.told link.old) (W.taken out.old)) (scene self.new.guests (L.told link.new) (W.taken out.new))) }
+        ensures store { (role : RoleId) → result ≡ Err (stop.StoreFault role) → RunFails K.append_gives self.old.cluster role self.old.guests self.new.guests }
+        ensures written { result ≡ Err stop.WriteFault → Rises (W.faults out.old) (W.faults out.new) }
+        ensures unwritten { (result ≡ Err stop.WriteFault → ⊥) → W.faults out.new ≡ W.faults out.old }
+        ensures linked { result ≡ Err stop.LinkFault → Rises (L.faults link.old) (L.faults link.new) }
+        ensures unlinked { (result ≡ Err stop.LinkFault → ⊥) → L.faults link.new ≡ L.faults link.old }
+        ensures names { OnOk result (map who self.new.guests ≡ map who self.old.guests) }
+        ensures cluster { self.new.cluster ≡ self.old.cluster }
+    {
+        let hosts_client = self.has_client();
+        self.all_turns(turns, link, out)?;
+        if hosts_client && !self.has_finished() {
+            return Ok(RunEnd::Turns);
+        }
+        Ok(RunEnd::Done)
+    }
+}
+
+fn any_client<K: Keeper>(seats: &[Seat<K>]) -> bool
+    ensures { result ≡ list_any (λ guest. is_client (hosted_of guest)) seats.now }
+{
+    seats.iter().any(|seat| seat.is_client())
+}
+
+fn all_finished<K: Keeper>(seats: &[Seat<K>]) -> bool
+    ensures { result ≡ list_all (λ guest. has_finished (hosted_of guest)) seats.now }
+{
+    seats.iter().all(|seat| seat.has_finished())
+}

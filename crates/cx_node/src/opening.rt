@@ -1,0 +1,210 @@
+//! How hosted roles are opened.
+
+ghost use Rattle.std.specs.Prelude.{◌≡◌, ◌≤◌, ◌++◌, ◌∷◌, [], ℕ, List, true, false, Some, Err, length, IfOk, OnOk, OnErr, IsTrue, slice_get};
+ghost use Rattle.std.specs.List.{list_any};
+ghost use Rattle.cx_base.specs.declared.role.Kind.TheVariants as kind;
+ghost use Rattle.cx_base.specs.declared.role.RoleId.{RoleId};
+ghost use Rattle.cx_base.specs.Faults.{Rises};
+ghost use Rattle.cx_base.specs.Role.{same_role};
+ghost use Rattle.cx_client.specs.Client.{client_opened};
+ghost use Rattle.cx_journal.specs.State.{told_records};
+ghost use Rattle.cx_model.specs.Names.{names_role};
+ghost use Rattle.cx_model.specs.Rules.{opened};
+ghost use Rattle.cx_script.specs.Requests.{IsScript, script_of};
+ghost use Rattle.cx_node.specs.declared.opening.OpenStop.TheVariants as open_stop;
+ghost use Rattle.cx_node.specs.Opening.{AreOpened, IsBadAs, IsOpened, lent_to};
+ghost use Rattle.cx_node.specs.Durable.{IsDurablyOpened};
+ghost use Rattle.cx_node.specs.Wake.{IsBadStore};
+
+use crate::{Guest, Seat, WakeStop, wake};
+use cx_acceptor::Acceptor;
+use cx_base::{Cluster, Event, Kind, RoleId};
+use cx_batch::{Batcher, Unbatcher};
+use cx_client::Client;
+use cx_edge::Depot;
+use cx_journal::Journal;
+use cx_leader::Leader;
+use cx_match::Matchmaker;
+use cx_proxy::Proxy;
+use cx_reader::Reader;
+use cx_replica::Replica;
+use cx_role::Role;
+use cx_script::script;
+use std::alloc::Global;
+
+/// Why the hosted roles could not all be opened.
+#[derive(Clone, Copy, Debug, PartialEq, Eq)]
+pub enum OpenStop {
+    NoMemory,
+    /// The store of a role failed.
+    StoreFault { role: RoleId },
+    /// The store of a role has other bytes at this place, in bytes, than a journal of that role.
+    BadStore { role: RoleId, at: u64 },
+}
+
+// A role is woken from its store. A store from which it could not be woken is given back.
+fn open_durable<D: Depot, R: Role>(
+    alloc: Global,
+    cluster: &Cluster,
+    me: RoleId,
+    depot: &mut D,
+) -> Result<(Journal<D::Store>, R), OpenStop>
+    requires kind { me.kind ≡ R.rules.kind }
+    requires named { IsTrue (names_role cluster.now me) }
+    requires in_depot { list_any (same_role me) (D.out depot.old) ≡ false }
+    ensures role { IfOk result (λ p. IsDurablyOpened R.rules D.Store.Disk.seen cluster.now (D.tells depot.old) (D.held depot.old me) me p.0 (R.state p.1)) }
+    ensures out { OnOk result (D.out depot.new ≡ D.out depot.old ++ me ∷ []) }
+    ensures given_back { OnErr result (D.out depot.new ≡ D.out depot.old) }
+    ensures told { D.tells depot.new ≡ D.tells depot.old }
+    ensures stays { OnOk result ((who : RoleId) → D.held depot.new who ≡ D.held depot.old who) }
+    ensures held { D.tells depot.old ≡ true → (who : RoleId) → told_records (Some (D.held depot.new who)) ≡ told_records (Some (D.held depot.old who)) }
+    ensures still { OnOk result ((who : RoleId) → D.faults depot.new who ≡ D.faults depot.old who) }
+    ensures later { (who : RoleId) → D.faults depot.old who ≤ D.faults depot.new who }
+    ensures bad { (role : RoleId) (at : ℕ) → result ≡ Err (open_stop.BadStore role at) → (role ≡ me) × (D.tells depot.old ≡ true → IsBadStore R.rules cluster.now me (D.held depot.old me) at) }
+    ensures failed { (role : RoleId) → result ≡ Err (open_stop.StoreFault role) → (role ≡ me) × Rises (D.faults depot.old me) (D.faults depot.new me) }
+{
+    let Ok(store) = depot.open(me) else {
+        return Err(OpenStop::StoreFault { role: me });
+    };
+    match wake(alloc, cluster, me, store) {
+        Ok(woken) => Ok(woken),
+        Err((stop, store)) => {
+            depot.close(me, store);
+            Err(match stop {
+                WakeStop::Failed => OpenStop::StoreFault { role: me },
+                WakeStop::Bad { at } => OpenStop::BadStore { role: me, at },
+                WakeStop::NoMemory => OpenStop::NoMemory,
+            })
+        }
+    }
+}
+
+// A role that has no records.
+fn open_fresh<R: Role>(alloc: Global, cluster: &Cluster, me: RoleId) -> Result<R, OpenStop>
+    requires kind { me.kind ≡ R.rules.kind }
+    requires named { IsTrue (names_role cluster.now me) }
+    ensures role { IfOk result (λ role. R.state role ≡ opened R.rules cluster.now me []) }
+    ensures only { OnErr result (result ≡ Err open_stop.NoMemory) }
+{
+    match R::open(alloc, cluster, me, &[]) {
+        Ok(role) => Ok(role),
+        Err(_) => Err(OpenStop::NoMemory),
+    }
+}
+
+// A client and its requests among those of the input.
+fn open_client(
+    alloc: Global,
+    cluster: &Cluster,
+    me: RoleId,
+    events: &[Event],
+) -> Result<Client, OpenStop>
+    requires kind { me.kind ≡ kind.Client }
+    requires named { IsTrue (names_role cluster.now me) }
+    requires scripts { (client : ℕ) → IsScript cluster.now client (script_of client events.now) }
+    ensures role { IfOk result (λ role. role ≡ client_opened cluster.now me (script_of me.index events.now)) }
+    ensures only { OnErr result (result ≡ Err open_stop.NoMemory) }
+{
+    match script(alloc, me.index, events) {
+        Ok(script) => Ok(Client::open(cluster, me, script)),
+        Err(_) => Err(OpenStop::NoMemory),
+    }
+}
+
+// One role, by its kind.
+fn open_guest<D: Depot>(
+    alloc: Global,
+    cluster: &Cluster,
+    me: RoleId,
+    events: &[Event],
+    depot: &mut D,
+) -> Result<Guest<Journal<D::Store>>, OpenStop>
+    requires named { IsTrue (names_role cluster.now me) }
+    requires scripts { (client : ℕ) → IsScript cluster.now client (script_of client events.now) }
+    requires in_depot { list_any (same_role me) (D.out depot.old) ≡ false }
+    ensures opened { IfOk result (λ guest. IsOpened D.Store.Disk.seen cluster.now events.now (D.tells depot.old) (D.held depot.old me) me guest) }
+    ensures out { IfOk result (λ guest. D.out depot.new ≡ D.out depot.old ++ lent_to (guest ∷ [])) }
+    ensures given_back { OnErr result (D.out depot.new ≡ D.out depot.old) }
+    ensures told { D.tells depot.new ≡ D.tells depot.old }
+    ensures stays { OnOk result ((who : RoleId) → D.held depot.new who ≡ D.held depot.old who) }
+    ensures held { D.tells depot.old ≡ true → (who : RoleId) → told_records (Some (D.held depot.new who)) ≡ told_records (Some (D.held depot.old who)) }
+    ensures still { OnOk result ((who : RoleId) → D.faults depot.new who ≡ D.faults depot.old who) }
+    ensures later { (who : RoleId) → D.faults depot.old who ≤ D.faults depot.new who }
+    ensures bad { (role : RoleId) (at : ℕ) → result ≡ Err (open_stop.BadStore role at) → D.tells depot.old ≡ true → IsBadAs cluster.now role (D.held depot.old role) at role.kind }
+    ensures failed { (role : RoleId) → result ≡ Err (open_stop.StoreFault role) → Rises (D.faults depot.old role) (D.faults depot.new role) }
+{
+    match me.kind {
+        Kind::Client => {
+            let role = open_client(alloc, cluster, me, events)?;
+            Ok(Guest::Client { role })
+        }
+        Kind::Batcher => {
+            let role = open_fresh::<Batcher>(alloc, cluster, me)?;
+            Ok(Guest::Batcher { role })
+        }
+        Kind::Leader => {
+            let (keeper, role) = open_durable::<D, Leader>(alloc, cluster, me, depot)?;
+            Ok(Guest::Leader { role, keeper })
+        }
+        Kind::Proxy => {
+            let role = open_fresh::<Proxy>(alloc, cluster, me)?;
+            Ok(Guest::Proxy { role })
+        }
+        Kind::Acceptor => {
+            let (keeper, role) = open_durable::<D, Acceptor>(alloc, cluster, me, depot)?;
+            Ok(Guest::Acceptor { role, keeper })
+        }
+        Kind::Matchmaker => {
+            let (keeper, role) = open_durable::<D, Matchmaker>(alloc, cluster, me, depot)?;
+            Ok(Guest::Matchmaker { role, keeper })
+        }
+        Kind::Replica => {
+            let (keeper, role) = open_durable::<D, Replica>(alloc, cluster, me, depot)?;
+            Ok(Guest::Replica { role, keeper })
+        }
+        Kind::Unbatcher => {
+            let role = open_fresh::<Unbatcher>(alloc, cluster, me)?;
+            Ok(Guest::Unbatcher { role })
+        }
+        Kind::Reader => {
+            let role = open_fresh::<Reader>(alloc, cluster, me)?;
+            Ok(Guest::Reader { role })
+        }
+    }
+}
+
+/// Opens these roles in their order: the store of each that has records is taken from the depot, and the role woken from it;
+/// a client gets its requests among those of the input. Those that were opened before a fault stay among the seats.
+pub fn open_seats<D: Depot>(
+    alloc: Global,
+    cluster: &Cluster,
+    roles: &[RoleId],
+    events: &[Event],
+    depot: &mut D,
+    seats: &mut Vec<Seat<Journal<D::Store>>>,
+) -> Result<(), OpenStop>
+    requires named { (i : ℕ) (me : RoleId) → slice_get roles.now i ≡ Some me → IsTrue (names_role cluster.now me) }
+    requires distinct { (i j : ℕ) (me : RoleId) → slice_get roles.now i ≡ Some me → slice_get roles.now j ≡ Some me → i ≡ j }
+    requires scripts { (client : ℕ) → IsScript cluster.now client (script_of client events.now) }
+    requires empty { seats.old.items ≡ [] }
+    requires not_out { D.out depot.old ≡ [] }
+    ensures opened { AreOpened D.Store.Disk.seen cluster.now events.now (D.tells depot.old) (D.held depot.old) roles.now seats.new.items }
+    ensures all { OnOk result (length seats.new.items ≡ length roles.now) }
+    ensures out { D.out depot.new ≡ lent_to seats.new.items }
+    ensures told { D.tells depot.new ≡ D.tells depot.old }
+
+    // What a store tells as its records stays, also where it could not be opened.
+    ensures held { D.tells depot.old ≡ true → (who : RoleId) → told_records (Some (D.held depot.new who)) ≡ told_records (Some (D.held depot.old who)) }
+    ensures bad { (role : RoleId) (at : ℕ) → result ≡ Err (open_stop.BadStore role at) → D.tells depot.old ≡ true → IsBadAs cluster.now role (D.held depot.old role) at role.kind }
+    ensures later { (role : RoleId) → D.faults depot.old role ≤ D.faults depot.new role }
+    ensures failed { (role : RoleId) → result ≡ Err (open_stop.StoreFault role) → Rises (D.faults depot.old role) (D.faults depot.new role) }
+{
+    for role in roles {
+        if seats.reserve(1).is_err() {
+            return Err(OpenStop::NoMemory);
+        }
+        let guest = open_guest(alloc, cluster, *role, events, depot)?;
+        seats.push_reserved(Seat::new(alloc, *role, guest));
+    }
+    Ok(())
+}

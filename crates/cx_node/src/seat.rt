@@ -1,0 +1,272 @@
+//! A hosted role at its place in the node.
+
+ghost use Rattle.std.specs.Prelude.{◌≡◌, [], true, IsTrue, OnOk, OnErr, IsErrOf};
+ghost use Rattle.std.specs.List.{slice_get};
+ghost use Rattle.cx_model.specs.Rules.{outcome_of, running_after};
+ghost use Rattle.cx_model.specs.World.{kept_by, records_of};
+ghost use Rattle.cx_node.specs.Guest.{Appended, AppendedPart, Fails, GrowsPart, GuestFails, GuestGrows, GuestGrowsPart, hosted_of, keeper_of, who};
+ghost use Rattle.cx_node.specs.Hosted.{ClientAt, begun, client_given, does, given, is_idle_leader, is_live};
+ghost use Rattle.cx_node.specs.Run.{has_finished, is_client};
+ghost use Rattle.cx_node.specs.Seat.{FailsIn};
+
+use crate::{Doing, Guest};
+use cx_base::{NoMemory, RoleId};
+use cx_client::Client;
+use cx_keeper::{Keeper, MemKeeper};
+use cx_msg::Input;
+use cx_role::{Outbox, Role, StepFault};
+use cx_trace::put_told;
+use std::alloc::Global;
+use std::marker::Model;
+
+/// A hosted role and its name.
+#[derive(Drop)]
+pub struct Seat<K> {
+    alloc: Global,
+    me: RoleId,
+    guest: Guest<K>,
+}
+
+impl<K> Model for Seat<K> {
+    ghost use Rattle.cx_node.specs.declared.guest.Guest.{Guest};
+    ghost use Rattle.cx_node.specs.Seat.{IsNamed, named};
+
+    ghost Value = { Guest K };
+
+    ghost view = { λ seat. named seat.me seat.guest };
+
+    ghost invariant = { λ seat. IsNamed seat.me seat.guest };
+}
+
+// One step of a role, whatever it is given.
+fn step<R: Role, K: Keeper>(
+    role: &mut R,
+    keeper: &mut K,
+    input: &Input,
+    out: &mut Outbox,
+) -> Result<(), StepFault>
+    requires live { (R.state role.old).live ≡ true }
+    requires empty { out.old.list ≡ [] }
+    ensures state { OnOk result (R.state role.new ≡ running_after R.rules (R.state role.old) (outcome_of R.rules (R.state role.old) input.now)) }
+    ensures kept { OnOk result (Appended K.append_gives (records_of (R.state role.old).me (kept_by (R.state role.old).me (outcome_of R.rules (R.state role.old) input.now).kept)) keeper.old keeper.new) }
+    ensures sends { OnOk result (out.new.list ≡ (outcome_of R.rules (R.state role.old) input.now).sends) }
+    ensures part { OnErr result (AppendedPart K.append_gives K.kept K.tells (records_of (R.state role.old).me (kept_by (R.state role.old).me (outcome_of R.rules (R.state role.old) input.now).kept)) keeper.old keeper.new) }
+    ensures failed { IsErrOf result StepFault.Failed → Fails K.append_gives (slice_get (records_of (R.state role.old).me (kept_by (R.state role.old).me (outcome_of R.rules (R.state role.old) input.now).kept)) 0) keeper.old keeper.new }
+
+    // A role that can take no step any more may have another name.
+    ensures name { OnErr result ((R.state role.new).live ≡ true → (R.state role.new).me ≡ (R.state role.old).me) }
+{
+    match input {
+        Input::Take { datagram } => {
+            role.take(keeper, datagram, out)?;
+        }
+        Input::Order { order } => {
+            role.order(keeper, order, out)?;
+        }
+        Input::Tick => {
+            role.tick(out)?;
+        }
+    }
+    Ok(())
+}
+
+// The same of a role that keeps no records.
+fn step_alone<R: Role>(
+    alloc: Global,
+    role: &mut R,
+    input: &Input,
+    out: &mut Outbox,
+) -> Result<(), NoMemory>
+    requires live { (R.state role.old).live ≡ true }
+    requires empty { out.old.list ≡ [] }
+    ensures state { OnOk result (R.state role.new ≡ running_after R.rules (R.state role.old) (outcome_of R.rules (R.state role.old) input.now)) }
+    ensures sends { OnOk result (out.new.list ≡ (outcome_of R.rules (R.state role.old) input.now).sends) }
+    ensures name { OnErr result ((R.state role.new).live ≡ true → (R.state role.new).me ≡ (R.state role.old).me) }
+{
+    let mut keeper = MemKeeper::new(alloc);
+    match step(role, &mut keeper, input, out) {
+        Ok(()) => Ok(()),
+        Err(StepFault::NoMemory) => Err(NoMemory),
+        Err(StepFault::Failed) => unreachable!(),
+    }
+}
+
+// A client takes what it is given, and prints the line of a datagram that completes its request.
+#[tactic(auto, using(crate::proofs::ClientName::takes_name))]
+fn give_client(
+    client: &mut Client,
+    index: u16,
+    input: &Input,
+    out: &mut Outbox,
+    text: &mut Vec<u8>,
+) -> Result<(), NoMemory>
+    requires index { index ≡ client.old.me.index }
+    requires empty { out.old.list ≡ [] }
+    requires no_text { text.old.items ≡ [] }
+    ensures state { OnOk result (ClientAt client.new ≡ (client_given client.old input.now).next) }
+    ensures sends { OnOk result (out.new.list ≡ (client_given client.old input.now).sends) }
+    ensures text { OnOk result (text.new.items ≡ (client_given client.old input.now).text) }
+    ensures name { client.new.me ≡ client.old.me }
+{
+    match input {
+        Input::Take { datagram } => {
+            let taken = client.take(datagram, out)?;
+            if taken.completes {
+                put_told(text, index, datagram.msg())?;
+            }
+        }
+        Input::Tick => {
+            client.tick(out)?;
+        }
+        Input::Order { .. } => {}
+    }
+    Ok(())
+}
+
+// A client sends its first request; another role has nothing to begin with.
+fn begin<K>(guest: &mut Guest<K>, out: &mut Outbox) -> Result<(), NoMemory>
+    requires empty { out.old.list ≡ [] }
+    ensures state { guest.new ≡ guest.old }
+    ensures sends { OnOk result (out.new.list ≡ (begun (hosted_of guest.old)).sends) }
+{
+    match guest {
+        Guest::Client { role } => role.start(out),
+        _ => Ok(()),
+    }
+}
+
+// A hosted role takes an input.
+fn give<K: Keeper>(
+    alloc: Global,
+    guest: &mut Guest<K>,
+    index: u16,
+    input: &Input,
+    out: &mut Outbox,
+    text: &mut Vec<u8>,
+) -> Result<(), StepFault>
+    requires index { index ≡ (who guest.old).index }
+    requires live { IsTrue (is_live (hosted_of guest.old)) }
+    requires empty { out.old.list ≡ [] }
+    requires no_text { text.old.items ≡ [] }
+    ensures role { OnOk result (hosted_of guest.new ≡ (given (hosted_of guest.old) input.now).next) }
+    ensures kept { OnOk result (GuestGrows K.append_gives (given (hosted_of guest.old) input.now).kept guest.old guest.new) }
+    ensures sends { OnOk result (out.new.list ≡ (given (hosted_of guest.old) input.now).sends) }
+    ensures text { OnOk result (text.new.items ≡ (given (hosted_of guest.old) input.now).text) }
+    ensures part { OnErr result (GrowsPart K.append_gives K.kept K.tells (records_of (who guest.old) (given (hosted_of guest.old) input.now).kept) (keeper_of guest.old) (keeper_of guest.new)) }
+    ensures failed { IsErrOf result StepFault.Failed → FailsIn K.append_gives (slice_get (records_of (who guest.old) (given (hosted_of guest.old) input.now).kept) 0) (keeper_of guest.old) (keeper_of guest.new) }
+    ensures name { OnOk result (who guest.new ≡ who guest.old) }
+    ensures live { OnOk result (IsTrue (is_live (hosted_of guest.new))) }
+    ensures no_name { OnErr result (IsTrue (is_live (hosted_of guest.new)) → who guest.new ≡ who guest.old) }
+{
+    match guest {
+        Guest::Client { role } => give_client(role, index, input, out, text)?,
+        Guest::Batcher { role } => step_alone(alloc, role, input, out)?,
+        Guest::Leader { role, keeper } => step(role, keeper, input, out)?,
+        Guest::Proxy { role } => step_alone(alloc, role, input, out)?,
+        Guest::Acceptor { role, keeper } => step(role, keeper, input, out)?,
+        Guest::Matchmaker { role, keeper } => step(role, keeper, input, out)?,
+        Guest::Replica { role, keeper } => step(role, keeper, input, out)?,
+        Guest::Unbatcher { role } => step_alone(alloc, role, input, out)?,
+        Guest::Reader { role } => step_alone(alloc, role, input, out)?,
+    }
+    Ok(())
+}
+
+// The keeper of a hosted role's records, where it has any.
+fn keeper_in<K>(guest: Guest<K>) -> Option<K>
+    ensures { result ≡ keeper_of guest }
+{
+    match guest {
+        Guest::Leader { keeper, .. } => Some(keeper),
+        Guest::Acceptor { keeper, .. } => Some(keeper),
+        Guest::Matchmaker { keeper, .. } => Some(keeper),
+        Guest::Replica { keeper, .. } => Some(keeper),
+        _ => None,
+    }
+}
+
+impl<K: Keeper> Seat<K> {
+    /// The seat of a role of this name. It takes no memory.
+    pub fn new(alloc: Global, me: RoleId, guest: Guest<K>) -> Self
+        requires { me ≡ who guest }
+        ensures { result ≡ guest }
+    {
+        Seat { alloc, me, guest }
+    }
+
+    /// The role's name. It takes no memory.
+    pub fn name(&self) -> RoleId
+        ensures { result ≡ who self.now }
+    {
+        self.me
+    }
+
+    /// Whether it is a leader that doesn't lead, and isn't about to. It takes no memory.
+    pub fn is_idle_leader(&self) -> bool
+        ensures { result ≡ is_idle_leader (hosted_of self.now) }
+    {
+        match &self.guest {
+            Guest::Leader { role, .. } => role.idle(),
+            _ => false,
+        }
+    }
+
+    /// Whether it is a client. It takes no memory.
+    pub fn is_client(&self) -> bool
+        ensures { result ≡ is_client (hosted_of self.now) }
+    {
+        self.me.kind == cx_base::Kind::Client
+    }
+
+    /// Whether it has no request that isn't answered: only a client has any. It takes no memory.
+    pub fn has_finished(&self) -> bool
+        ensures { result ≡ has_finished (hosted_of self.now) }
+    {
+        match &self.guest {
+            Guest::Client { role } => role.finished(),
+            _ => true,
+        }
+    }
+
+    /// The keeper of its records, where it has any. It takes no memory.
+    pub fn into_keeper(self) -> Option<K>
+        ensures { result ≡ keeper_of self }
+    {
+        keeper_in(self.guest)
+    }
+
+    /// The role does what it is asked: its state, its record, what it sends and the line that it prints are exactly those of the
+    /// definition. `Failed` comes only where its keeper's append failed, and then, as for want of memory, a front of that was done.
+    #[tactic(auto, unfolding(crate::specs::Hosted::does))]
+    pub fn act(
+        &mut self,
+        what: &Doing,
+        out: &mut Outbox,
+        text: &mut Vec<u8>,
+    ) -> Result<(), StepFault>
+        requires live { IsTrue (is_live (hosted_of self.old)) }
+        requires empty { out.old.list ≡ [] }
+        requires no_text { text.old.items ≡ [] }
+        ensures role { OnOk result (hosted_of self.new ≡ (does (hosted_of self.old) what.now).next) }
+        ensures kept { OnOk result (GuestGrows K.append_gives (does (hosted_of self.old) what.now).kept self.old self.new) }
+        ensures sends { OnOk result (out.new.list ≡ (does (hosted_of self.old) what.now).sends) }
+        ensures text { OnOk result (text.new.items ≡ (does (hosted_of self.old) what.now).text) }
+        ensures part { OnErr result (GuestGrowsPart K.append_gives K.kept K.tells (does (hosted_of self.old) what.now).kept self.old self.new) }
+        ensures failed { IsErrOf result StepFault.Failed → GuestFails K.append_gives (does (hosted_of self.old) what.now).kept self.old self.new }
+        ensures name { who self.new ≡ who self.old }
+        ensures live { OnOk result (IsTrue (is_live (hosted_of self.new))) }
+    {
+        match what {
+            Doing::Begin => begin(&mut self.guest, out)?,
+            Doing::Give { input } => give(
+                self.alloc,
+                &mut self.guest,
+                self.me.index,
+                input,
+                out,
+                text,
+            )?,
+        }
+        Ok(())
+    }
+}

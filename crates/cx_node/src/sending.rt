@@ -1,0 +1,121 @@
+//! The ports of roles, and the sending of datagrams.
+
+ghost use Rattle.std.specs.Prelude.{◌≡◌, [], ◌∷◌, OnOk, OnErr};
+ghost use Rattle.cx_node.specs.Doing.{Asks, AsksPart};
+ghost use Rattle.cx_node.specs.Ports.{before, port_of};
+
+use cx_base::{Cluster, Kind, NoMemory, RoleId};
+use cx_edge::Link;
+use cx_msg::{Datagram, encode_into};
+use cx_role::{count_of, names_role};
+use std::alloc::Global;
+
+// How many roles stand before those of a kind.
+fn before(cluster: &Cluster, kind: Kind) -> u16
+    ensures { result ≡ before cluster.now kind }
+{
+    let acceptors = cluster.clients + cluster.batchers + cluster.leaders + cluster.proxies;
+    let replicas = acceptors + cluster.acceptors + count_of(cluster, Kind::Matchmaker);
+    match kind {
+        Kind::Client => 0,
+        Kind::Batcher => cluster.clients,
+        Kind::Leader => cluster.clients + cluster.batchers,
+        Kind::Proxy => cluster.clients + cluster.batchers + cluster.leaders,
+        Kind::Acceptor => acceptors,
+        Kind::Matchmaker => acceptors + cluster.acceptors,
+        Kind::Replica => replicas,
+        Kind::Unbatcher => replicas + cluster.replicas,
+        Kind::Reader => replicas + cluster.replicas + cluster.unbatchers,
+    }
+}
+
+/// The port of a role: the cluster's first one, and the role's place among all roles, by kind and index. It takes no memory.
+pub fn port_of(cluster: &Cluster, role: RoleId) -> u16
+    ensures { result ≡ port_of cluster.now role }
+{
+    let first = cluster.base_port.unwrap_or(0);
+    first
+        .wrapping_add(before(cluster, role.kind))
+        .wrapping_add(role.index)
+}
+
+// Asks the link to send a datagram as its bytes, unless it is to a role outside the cluster.
+fn send_one<L: Link>(
+    alloc: Global,
+    cluster: &Cluster,
+    letter: &Datagram,
+    bytes: &mut Vec<u8>,
+    link: &mut L,
+) -> Result<(), NoMemory>
+    ensures sent { OnOk result (Asks cluster.now [] (letter.now ∷ []) (L.told link.old) (L.told link.new)) }
+    ensures nothing { OnErr result (L.told link.new ≡ L.told link.old) }
+    ensures still { L.faults link.new ≡ L.faults link.old }
+{
+    if names_role(cluster, letter.to()) {
+        bytes.clear();
+        encode_into(alloc, letter, bytes)?;
+        // A send that fails is a loss, which the link counts.
+        let _ = link.send(letter.from(), port_of(cluster, letter.to()), bytes);
+    }
+    Ok(())
+}
+
+/// Asks the link to send these datagrams, in order, each as its bytes. One that the link loses is lost. For want of memory the
+/// first ones were sent.
+pub fn send_all<L: Link>(
+    alloc: Global,
+    cluster: &Cluster,
+    letters: &[Datagram],
+    bytes: &mut Vec<u8>,
+    link: &mut L,
+) -> Result<(), NoMemory>
+    ensures sent { OnOk result (Asks cluster.now [] letters.now (L.told link.old) (L.told link.new)) }
+    ensures part { OnErr result (AsksPart cluster.now [] letters.now (L.told link.old) (L.told link.new)) }
+    ensures still { L.faults link.new ≡ L.faults link.old }
+{
+    for letter in letters {
+        send_one(alloc, cluster, letter, bytes, link)?;
+    }
+    Ok(())
+}
+
+#[cfg(test)]
+mod tests {
+    use super::*;
+    use std::test::Fail;
+
+    // A cluster with one role of each kind.
+    const CLUSTER: Cluster = Cluster {
+        f: 0,
+        leaders: 1,
+        proxies: 1,
+        acceptors: 1,
+        replicas: 1,
+        batchers: 1,
+        unbatchers: 1,
+        readers: 1,
+        clients: 1,
+        batch: 1,
+        base_port: Some(20_000),
+    };
+
+    const PORTS: [(Kind, u16); 9] = [
+        (Kind::Client, 20_000),
+        (Kind::Batcher, 20_001),
+        (Kind::Leader, 20_002),
+        (Kind::Proxy, 20_003),
+        (Kind::Acceptor, 20_004),
+        (Kind::Matchmaker, 20_005),
+        (Kind::Replica, 20_006),
+        (Kind::Unbatcher, 20_007),
+        (Kind::Reader, 20_008),
+    ];
+
+    #[test]
+    fn ports_follow_the_codes(rt: HostRuntime) -> Result<(), Fail> {
+        for (kind, port) in &PORTS {
+            assert_eq!(rt; port_of(&CLUSTER, RoleId::new(*kind, 0)), *port);
+        }
+        Ok(())
+    }
+}

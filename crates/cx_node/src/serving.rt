@@ -1,0 +1,167 @@
+//! Serving: the input is read, ports are bound, stores are opened, and the node runs.
+
+ghost use Rattle.std.specs.Prelude.{◌≡◌, [], ℕ, Bool, List, Option, Result, is_some, slice_get, Some, IsTrue};
+ghost use Rattle.std.specs.List.{list_all};
+ghost use Rattle.cx_base.specs.declared.role.RoleId.{RoleId};
+ghost use Rattle.cx_journal.specs.Appends.{IsJournalAppend};
+ghost use Rattle.cx_journal.specs.State.{JournalState, told_records};
+ghost use Rattle.cx_model.specs.Names.{names_role};
+ghost use Rattle.cx_script.specs.Requests.{IsScript, script_of};
+ghost use Rattle.cx_node.specs.declared.guest.Guest.{Guest};
+ghost use Rattle.cx_node.specs.declared.node.RunEnd.{RunEnd};
+ghost use Rattle.cx_node.specs.declared.node.Stop.{Stop};
+ghost use Rattle.cx_node.specs.Doing.{scene};
+ghost use Rattle.cx_node.specs.Guest.{AreReady};
+ghost use Rattle.cx_node.specs.Hosting.{GivesBack, HostAnswered, Ran, ended_status, refused_status, unopened_status};
+ghost use Rattle.cx_node.specs.Opening.{lent_to};
+ghost use Rattle.cx_node.specs.Serving.{Answered, Completes, outside};
+
+use crate::Seat;
+use crate::binding::bind_all;
+use crate::closing::close_seats;
+use crate::input::{Refusal, listen};
+use crate::node::{Node, RunEnd, Stop};
+use crate::opening::{OpenStop, open_seats};
+use cx_base::{Cluster, Event, NoMemory, RoleId, Status};
+use cx_edge::{Depot, Link, Sink, Source};
+use cx_journal::Journal;
+use std::alloc::Global;
+
+// What an input that is refused is answered.
+fn refused(refusal: Refusal) -> Status
+    ensures { result ≡ refused_status refusal }
+{
+    match refusal {
+        Refusal::NoMemory => Status::NoMemory,
+        Refusal::ReadFault => Status::ReadFault,
+        Refusal::BadInput { line } => Status::BadInput { line },
+        Refusal::BadWords => Status::BadWords,
+    }
+}
+
+// What is answered where not all roles could be opened.
+fn unopened(stop: OpenStop) -> Status
+    ensures { result ≡ unopened_status stop }
+{
+    match stop {
+        OpenStop::NoMemory => Status::NoMemory,
+        OpenStop::StoreFault { role } => Status::StoreFault { role },
+        OpenStop::BadStore { role, at } => Status::BadStore { role, at },
+    }
+}
+
+// What a run is answered.
+fn ended(end: Result<RunEnd, Stop>) -> Status
+    ensures { result ≡ ended_status end }
+{
+    match end {
+        Ok(RunEnd::Done) => Status::Done,
+        Ok(RunEnd::Turns) => Status::Turns,
+        Err(Stop::NoMemory) => Status::NoMemory,
+        Err(Stop::WriteFault) => Status::WriteFault,
+        Err(Stop::LinkFault) => Status::LinkFault,
+        Err(Stop::StoreFault { role }) => Status::StoreFault { role },
+    }
+}
+
+// Runs the roles, and gives their stores back.
+fn run_seats<L: Link, D: Depot, W: Sink>(
+    alloc: Global,
+    cluster: &Cluster,
+    seats: Vec<Seat<Journal<D::Store>>>,
+    turns: u32,
+    link: &mut L,
+    depot: &mut D,
+    out: &mut W,
+) -> Status
+    requires ready { AreReady cluster.now seats.items }
+    requires lent { D.out depot.old ≡ lent_to seats.items }
+    ensures ran { (after : List (Guest (JournalState D.Store))) × (answer : Result RunEnd Stop) × (result ≡ ended_status answer)
+        × Ran (IsJournalAppend D.Store.Disk.seen D.Store.Disk.may_leave D.Store.Disk.moment D.Store.Disk.left_since D.Store.Disk.faults) (λ j. told_records (D.Store.Disk.seen j.disk)) (λ j. is_some (D.Store.Disk.seen j.disk))
+        cluster.now turns answer (scene seats.items (L.told link.old) (W.taken out.old)) (scene after (L.told link.new) (W.taken out.new)) (L.faults link.old) (L.faults link.new) (W.faults out.old) (W.faults out.new)
+        × GivesBack D.Store.Disk.seen D.Store.Disk.faults after (D.tells depot.old) (D.held depot.old) (D.held depot.new) (D.faults depot.old) (D.faults depot.new) }
+    ensures told { D.tells depot.new ≡ D.tells depot.old }
+    ensures given_back { D.out depot.new ≡ [] }
+{
+    match Node::new(alloc, cluster, seats) {
+        Ok(mut node) => {
+            let end = node.run(turns, link, out);
+            close_seats(depot, node.into_seats());
+            ended(end)
+        }
+        Err((NoMemory, seats)) => {
+            close_seats(depot, seats);
+            Status::NoMemory
+        }
+    }
+}
+
+// Hosts the roles over what the input says.
+fn host<L: Link, D: Depot, W: Sink>(
+    alloc: Global,
+    cluster: &Cluster,
+    roles: &[RoleId],
+    events: &[Event],
+    turns: u32,
+    link: &mut L,
+    depot: &mut D,
+    out: &mut W,
+) -> Status
+    requires named { IsTrue (list_all (λ (r : RoleId). names_role cluster.now r) roles.now) }
+    requires distinct { (i j : ℕ) (me : RoleId) → slice_get roles.now i ≡ Some me → slice_get roles.now j ≡ Some me → i ≡ j }
+    requires scripts { (client : ℕ) → IsScript cluster.now client (script_of client events.now) }
+    requires lent { D.out depot.old ≡ [] }
+    ensures answered { (left left_after : Option (List ℕ)) (reads reads_after : ℕ) → HostAnswered roles.now cluster.now events.now turns
+        (outside left reads (L.told link.old) (L.faults link.old) (W.taken out.old) (W.faults out.old) (D.tells depot.old) (D.held depot.old) (D.faults depot.old))
+        (outside left_after reads_after (L.told link.new) (L.faults link.new) (W.taken out.new) (W.faults out.new) (D.tells depot.new) (D.held depot.new) (D.faults depot.new)) result }
+    ensures given_back { D.out depot.new ≡ [] }
+{
+    if !bind_all(cluster, roles, link) {
+        return Status::LinkFault;
+    }
+    let mut opened = Vec::new(alloc);
+    match open_seats(alloc, cluster, roles, events, depot, &mut opened) {
+        Ok(()) => run_seats(alloc, cluster, opened, turns, link, depot, out),
+        Err(stop) => {
+            close_seats(depot, opened);
+            unopened(stop)
+        }
+    }
+}
+
+/// Hosts these roles: the input is read to its end; each role is bound to its port and opened from its store; and they run so many
+/// turns, or until all hosted clients have finished. What was bound, sent, printed and kept is exactly the node's run, or a front
+/// of it where something failed, and every store is given back whatever happens.
+pub fn serve<S: Source, L: Link, D: Depot, W: Sink>(
+    alloc: Global,
+    roles: &[RoleId],
+    turns: u32,
+    input: &mut S,
+    link: &mut L,
+    depot: &mut D,
+    out: &mut W,
+) -> Status
+    requires distinct { (i j : ℕ) (me : RoleId) → slice_get roles.now i ≡ Some me → slice_get roles.now j ≡ Some me → i ≡ j }
+    requires lent { D.out depot.old ≡ [] }
+    ensures answered { Answered roles.now turns
+        (outside (S.left input.old) (S.faults input.old) (L.told link.old) (L.faults link.old) (W.taken out.old) (W.faults out.old) (D.tells depot.old) (D.held depot.old) (D.faults depot.old))
+        (outside (S.left input.new) (S.faults input.new) (L.told link.new) (L.faults link.new) (W.taken out.new) (W.faults out.new) (D.tells depot.new) (D.held depot.new) (D.faults depot.new)) result }
+    ensures complete { Completes roles.now
+        (outside (S.left input.old) (S.faults input.old) (L.told link.old) (L.faults link.old) (W.taken out.old) (W.faults out.old) (D.tells depot.old) (D.held depot.old) (D.faults depot.old))
+        (outside (S.left input.new) (S.faults input.new) (L.told link.new) (L.faults link.new) (W.taken out.new) (W.faults out.new) (D.tells depot.new) (D.held depot.new) (D.faults depot.new)) result }
+    ensures given_back { D.out depot.new ≡ [] }
+{
+    match listen(alloc, roles, input) {
+        Ok((cluster, schedule)) => host(
+            alloc,
+            &cluster,
+            roles,
+            schedule.events(),
+            turns,
+            link,
+            depot,
+            out,
+        ),
+        Err(refusal) => refused(refusal),
+    }
+}

@@ -1,0 +1,161 @@
+//! The parts of a turn.
+
+ghost use Rattle.std.specs.Prelude.{◌≡◌, ◌==◌, ◌%◌, ◌||◌, [], Err};
+ghost use Rattle.cx_base.specs.Faults.{Rises};
+ghost use Rattle.cx_base.specs.declared.role.RoleId.{RoleId};
+ghost use Rattle.cx_node.specs.declared.node.Stop.TheVariants as stop;
+ghost use Rattle.cx_node.specs.Acts.{Acts, ActsOnce, Blames, Receives, failures};
+ghost use Rattle.cx_node.specs.Doing.{scene};
+ghost use Rattle.cx_node.specs.Guest.{AreReady, hosted_in};
+ghost use Rattle.cx_base.specs.Role.{role};
+ghost use Rattle.cx_base.specs.declared.role.Kind.TheVariants as kind;
+ghost use Rattle.cx_node.specs.Run.{comes, grid_of, lead_at, ordered, place_of, ticked, turn};
+
+use crate::{Doing, Node, Stop};
+use cx_base::{Cluster, Grid, Kind, Order, RoleId};
+use cx_edge::{Link, Sink, TakeEnd};
+use cx_keeper::Keeper;
+use cx_msg::{Datagram, Input, WireFault, decode};
+use std::alloc::Global;
+
+// The greatest number of members of a grid, and the first acceptors.
+const MEMBERS: u16 = 16;
+
+const FIRST: [u16; 16] = [0, 1, 2, 3, 4, 5, 6, 7, 8, 9, 10, 11, 12, 13, 14, 15];
+
+// The grid that leader 0 is ordered to lead: the first acceptors, in two rows where their number is even, else in one.
+fn first_grid(cluster: &Cluster) -> Grid
+    ensures { result ≡ grid_of cluster.now }
+{
+    let count = cluster.acceptors.min(MEMBERS);
+    let members = &FIRST[..count as usize];
+    if count % 2 == 0 {
+        return Grid::from_parts(2, (count / 2) as u8, members);
+    }
+    Grid::from_parts(1, count as u8, members)
+}
+
+// Whether leader 0 is ordered to lead at this turn, and whether roles tick.
+fn is_order_turn(n: u32) -> bool
+    ensures { result ≡ ((n == 1) || (n % 4096 == 0)) }
+{
+    n == 1 || n % 4096 == 0
+}
+
+fn is_tick_turn(n: u32) -> bool
+    ensures { result ≡ (n % 64 == 0) }
+{
+    n % 64 == 0
+}
+
+// Takes one datagram of the link, if one is there.
+fn receive<L: Link>(
+    alloc: Global,
+    buffer: &mut [u8],
+    link: &mut L,
+) -> Result<Option<Datagram>, Stop>
+    ensures told { Receives (L.told link.old) (L.told link.new) result }
+    ensures fault { result ≡ Err stop.LinkFault → Rises (L.faults link.old) (L.faults link.new) }
+    ensures no_fault { (result ≡ Err stop.LinkFault → ⊥) → L.faults link.new ≡ L.faults link.old }
+    ensures no_write { result ≡ Err stop.WriteFault → ⊥ }
+    ensures no_store { (role : RoleId) → result ≡ Err (stop.StoreFault role) → ⊥ }
+{
+    match link.take(buffer) {
+        TakeEnd::Got(count) => match decode(alloc, &buffer[..count]) {
+            Ok(datagram) => Ok(Some(datagram)),
+            Err(fault) => match fault {
+                WireFault::NoMemory => Err(Stop::NoMemory),
+                _ => Ok(None),
+            },
+        },
+        TakeEnd::Nothing => Ok(None),
+        TakeEnd::Failed => Err(Stop::LinkFault),
+    }
+}
+
+impl<K: Keeper + Drop> Node<K> {
+    // Orders leader 0 to lead, if it is hosted and idle.
+    fn lead<L: Link, W: Sink>(&mut self, link: &mut L, out: &mut W) -> Result<(), Stop>
+        requires ready { AreReady self.old.cluster self.old.guests }
+        ensures acts { Acts K.append_gives K.kept K.tells self.old.cluster [] (lead_at self.old.cluster (place_of (role kind.Leader 0) (hosted_in self.old.guests)) (hosted_in self.old.guests)) result (scene self.old.guests (L.told link.old) (W.taken out.old)) (scene self.new.guests (L.told link.new) (W.taken out.new)) }
+        ensures blames { Blames result (failures (L.faults link.old) (W.faults out.old)) (failures (L.faults link.new) (W.faults out.new)) }
+        ensures cluster { self.new.cluster ≡ self.old.cluster }
+    {
+        let Some(place) = self.find(RoleId::new(Kind::Leader, 0)) else {
+            return Ok(());
+        };
+        if !self.seats[place].is_idle_leader() {
+            return Ok(());
+        }
+        let order = Order::Lead(first_grid(&self.cluster));
+        self.act(
+            place,
+            &Doing::Give {
+                input: Input::Order { order },
+            },
+            link,
+            out,
+        )
+    }
+
+    // The first part of the n-th turn.
+    fn order<L: Link, W: Sink>(&mut self, n: u32, link: &mut L, out: &mut W) -> Result<(), Stop>
+        requires ready { AreReady self.old.cluster self.old.guests }
+        ensures acts { Acts K.append_gives K.kept K.tells self.old.cluster [] (ordered self.old.cluster n (hosted_in self.old.guests)) result (scene self.old.guests (L.told link.old) (W.taken out.old)) (scene self.new.guests (L.told link.new) (W.taken out.new)) }
+        ensures blames { Blames result (failures (L.faults link.old) (W.faults out.old)) (failures (L.faults link.new) (W.faults out.new)) }
+        ensures cluster { self.new.cluster ≡ self.old.cluster }
+    {
+        if is_order_turn(n) {
+            return self.lead(link, out);
+        }
+        Ok(())
+    }
+
+    // The second part of a turn: one take of the link.
+    fn take<L: Link, W: Sink>(&mut self, link: &mut L, out: &mut W) -> Result<(), Stop>
+        requires ready { AreReady self.old.cluster self.old.guests }
+        ensures acts { ActsOnce K.append_gives K.kept K.tells self.old.cluster (λ what. comes what (hosted_in self.old.guests)) result (scene self.old.guests (L.told link.old) (W.taken out.old)) (scene self.new.guests (L.told link.new) (W.taken out.new)) }
+        ensures blames { Blames result (failures (L.faults link.old) (W.faults out.old)) (failures (L.faults link.new) (W.faults out.new)) }
+        ensures cluster { self.new.cluster ≡ self.old.cluster }
+    {
+        match receive(self.alloc, &mut self.buffer, link)? {
+            Some(datagram) => {
+                let to = datagram.to();
+                self.act_named(
+                    to,
+                    &Doing::Give {
+                        input: Input::Take { datagram },
+                    },
+                    link,
+                    out,
+                )
+            }
+            None => Ok(()),
+        }
+    }
+
+    // The third part of the n-th turn.
+    fn tick<L: Link, W: Sink>(&mut self, n: u32, link: &mut L, out: &mut W) -> Result<(), Stop>
+        requires ready { AreReady self.old.cluster self.old.guests }
+        ensures acts { Acts K.append_gives K.kept K.tells self.old.cluster [] (ticked n (hosted_in self.old.guests)) result (scene self.old.guests (L.told link.old) (W.taken out.old)) (scene self.new.guests (L.told link.new) (W.taken out.new)) }
+        ensures blames { Blames result (failures (L.faults link.old) (W.faults out.old)) (failures (L.faults link.new) (W.faults out.new)) }
+        ensures cluster { self.new.cluster ≡ self.old.cluster }
+    {
+        if is_tick_turn(n) {
+            return self.all_act(&Doing::Give { input: Input::Tick }, link, out);
+        }
+        Ok(())
+    }
+
+    // The n-th turn.
+    pub fn turn<L: Link, W: Sink>(&mut self, n: u32, link: &mut L, out: &mut W) -> Result<(), Stop>
+        requires ready { AreReady self.old.cluster self.old.guests }
+        ensures acts { ActsOnce K.append_gives K.kept K.tells self.old.cluster (λ what. turn self.old.cluster n what (hosted_in self.old.guests)) result (scene self.old.guests (L.told link.old) (W.taken out.old)) (scene self.new.guests (L.told link.new) (W.taken out.new)) }
+        ensures blames { Blames result (failures (L.faults link.old) (W.faults out.old)) (failures (L.faults link.new) (W.faults out.new)) }
+        ensures cluster { self.new.cluster ≡ self.old.cluster }
+    {
+        self.order(n, link, out)?;
+        self.take(link, out)?;
+        self.tick(n, link, out)
+    }
+}

@@ -1,0 +1,30 @@
+//! The one append of a step.
+
+ghost use Rattle.std.specs.Prelude.{◌≡◌, false, Ok, Err, IfOk, IsErrOf, IsTrue, OnOk};
+ghost use Rattle.cx_keeper.specs.declared.keeper.KeepFault.TheVariants as keep_fault;
+ghost use Rattle.cx_msg.specs.Records.{fits};
+
+use crate::StepFault;
+use cx_keeper::{KeepFault, Keeper};
+use cx_msg::Record;
+
+/// Keeps the record of a step. A role whose keeper failed lives no longer, and has to be opened again.
+pub fn keep<K: Keeper>(keeper: &mut K, live: &mut bool, what: &Record) -> Result<(), StepFault>
+    requires { IsTrue (fits what.now) }
+    ensures kept { IfOk result (λ _. K.append_gives keeper.old what.now (Ok tt) keeper.new) }
+    ensures lives { OnOk result (live.new ≡ live.old) }
+    ensures same { IsErrOf result StepFault.NoMemory → K.kept keeper.new ≡ K.kept keeper.old }
+    ensures told { K.tells keeper.new ≡ K.tells keeper.old }
+    ensures lives_on { IsErrOf result StepFault.NoMemory → live.new ≡ live.old }
+    ensures failed { IsErrOf result StepFault.Failed → K.append_gives keeper.old what.now (Err keep_fault.Failed) keeper.new }
+    ensures dead { IsErrOf result StepFault.Failed → live.new ≡ false }
+{
+    match keeper.append(what) {
+        Ok(()) => Ok(()),
+        Err(KeepFault::NoMemory) => Err(StepFault::NoMemory),
+        Err(KeepFault::Failed) => {
+            *live = false;
+            Err(StepFault::Failed)
+        }
+    }
+}

@@ -1,0 +1,10 @@
+use Rattle.std.proofs.Common.{rules}
+use Rattle.std.proofs.lemmas.List.{get_or-replicate}
+use Rattle.cx_script.proofs.requests.read_requests.Goals as goal
+
+pub loop-text-init : goal.loop-text-init
+loop-text-init c = record {
+  so_far = search rules;
+  count = search rules;
+  told = λ client small. rw c.new-events.ensures.items (get_or-replicate 64 client 0 0 small);
+}

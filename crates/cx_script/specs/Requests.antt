@@ -1,0 +1,92 @@
+-- The lines of a node: requests alone, the numbers of each client rising.
+use Rattle.std.specs.Prelude.{◌≡◌, ℕ, ◌+◌, ◌<◌, Bool, true, false, ◌==◌, ◌&&◌, nat_lt, max, get_or, List, [], ◌∷◌, ◌++◌, filter, Option, None, Some, option_to_list, Result, Ok, Err, if◌then◌else◌}
+use Rattle.std.specs.List.{list_all}
+use Rattle.cx_base.specs.declared.cluster.Cluster.{Cluster}
+use Rattle.cx_base.specs.declared.event.Event.{Event}
+use Rattle.cx_base.specs.declared.event.Event.TheVariants as event
+use Rattle.cx_base.specs.declared.event.Event.TheVariants.{Write, Read, Deliver, Tick, Crash, Restart}
+use Rattle.cx_script.specs.declared.fault.LineFault.{LineFault}
+use Rattle.cx_script.specs.declared.fault.LineFault.TheVariants.{Word}
+use Rattle.cx_script.specs.Grammar.{line_event}
+use Rattle.cx_script.specs.Lines.{Spelled, with_line, lines_of}
+use Rattle.cx_script.specs.Names.{names_event}
+
+-- the client and the number of a request, none of another event
+abbrev pub asker : Event → Option (ℕ × ℕ)
+asker (Write command batcher) = Some (command.client, command.seq)
+asker (Read client seq reader replica key) = Some (client, seq)
+asker (Deliver number cut) = None
+asker (Tick role) = None
+asker (event.Order leader order cut) = None
+asker (Crash role) = None
+asker (Restart role) = None
+
+-- whether it is a request of this client
+abbrev pub is_of : ℕ → Option (ℕ × ℕ) → Bool
+is_of client None = false
+is_of client (Some (other, seq)) = other == client
+
+abbrev pub asks : ℕ → Event → Bool
+asks client e = is_of client (asker e)
+
+-- the number of a request, 0 of another event
+abbrev pub number_in : Option (ℕ × ℕ) → ℕ
+number_in None = 0
+number_in (Some (client, seq)) = seq
+
+abbrev pub number_of : Event → ℕ
+number_of e = number_in (asker e)
+
+-- the greatest number of a client's requests, 0 where it has none
+abbrev pub greatest : ℕ → List Event → ℕ
+greatest client [] = 0
+greatest client (e ∷ es) = if asks client e then max (number_of e) (greatest client es) else greatest client es
+
+-- a list tells the greatest number of each client
+abbrev pub Tells : List Event → List ℕ → Type 0
+Tells before told = (client : ℕ) → client < 64 → get_or told client 0 ≡ greatest client before
+
+-- whether an event is a request whose number is above those of the same client before
+abbrev pub is_above : List Event → Option (ℕ × ℕ) → Bool
+is_above before None = false
+is_above before (Some (client, seq)) = nat_lt (greatest client before) seq
+
+abbrev pub rises : List Event → Event → Bool
+rises before e = is_above before (asker e)
+
+-- a line behind others, whose events are known: an event is a request whose number rises
+abbrev pub request_behind : List Event → Result (Option Event) LineFault → Result (Option Event) LineFault
+request_behind before (Err fault) = Err fault
+request_behind before (Ok None) = Ok None
+request_behind before (Ok (Some e)) = if rises before e then Ok (Some e) else Err Word
+
+-- the events before a line and its own
+abbrev pub with_event : List Event → Result (Option Event) LineFault → List Event
+with_event before (Err fault) = before
+with_event before (Ok event) = before ++ option_to_list event
+
+-- what the lines from the n-th on spell behind these events; a line that isn't such a request is bad, as is the 65,536th
+abbrev pub requests_from : Cluster → ℕ → List Event → List (List ℕ) → Spelled
+requests_from c n before [] = record { events = []; bad = None }
+requests_from c n before (line ∷ lines) =
+    if nat_lt 65535 n then record { events = []; bad = Some n }
+    else with_line n (request_behind before (line_event c line)) (requests_from c (n + 1) (with_event before (line_event c line)) lines)
+
+-- what the bytes behind a node's header spell; lines count from 1
+unfoldable pub requests_of : Cluster → List ℕ → Spelled
+requests_of c bytes = requests_from c 1 [] (lines_of bytes)
+
+-- the requests of one client, in their order
+abbrev pub script_of : ℕ → List Event → List Event
+script_of client events = filter (asks client) events
+
+-- whether the numbers of requests rise, the first one above this
+abbrev pub rise_above : ℕ → List Event → Bool
+rise_above last [] = true
+rise_above last (e ∷ es) = nat_lt last (number_of e) && rise_above (number_of e) es
+
+-- a client's script: requests of its own, with their names in the cluster, whose numbers rise and are at least 1
+pub record IsScript (c : Cluster) (client : ℕ) (script : List Event) : Type 0 where
+  pub own : list_all (asks client) script ≡ true
+  pub named : list_all (names_event c) script ≡ true
+  pub rising : rise_above 0 script ≡ true

@@ -1,0 +1,105 @@
+//! The lines of a node: requests alone, the numbers of each client rising.
+
+ghost use Rattle.std.specs.Prelude.{◌≡◌, ◌<◌, ◌++◌, List, IfOk, nat_lt, get_or, option_map, option_to_list, slice_set, if◌then◌else◌};
+ghost use Rattle.cx_base.specs.declared.event.Event.{Event as Happening};
+ghost use Rattle.cx_script.specs.Grammar.{line_event};
+ghost use Rattle.cx_script.specs.Requests.{Tells, asker, asks, request_behind, requests_of, script_of};
+
+use crate::event::line;
+use crate::fault::LineFault;
+use crate::lines::{MAX_LINES, Schedule, first_line, keep};
+use cx_base::{Cluster, Event, NoMemory};
+use std::alloc::Global;
+
+/// The greatest number of clients.
+const CLIENTS: usize = 64;
+
+// The client and the number of a request.
+fn asker(event: &Event) -> Option<(u16, u64)>
+    ensures { result ≡ asker event.now }
+{
+    match event {
+        Event::Write { command, .. } => Some((command.client, command.seq)),
+        Event::Read { client, seq, .. } => Some((*client, *seq)),
+        _ => None,
+    }
+}
+
+// Whether a number is above its client's greatest one, which it then becomes.
+fn rises(greatest: &mut [u64; CLIENTS], client: u16, seq: u64) -> bool
+    requires { client < 64 }
+    ensures above { result ≡ nat_lt (get_or greatest.old client 0) seq }
+    ensures noted { greatest.new ≡ (if result then slice_set greatest.old client seq else greatest.old) }
+{
+    let client = usize::from(client);
+    if seq <= greatest[client] {
+        return false;
+    }
+    greatest[client] = seq;
+    true
+}
+
+// A line behind others, of which the greatest number of each client is known.
+fn request(
+    cluster: &Cluster,
+    greatest: &mut [u64; CLIENTS],
+    text: &[u8],
+) -> Result<Option<Event>, LineFault>
+    ensures request { (before : List Happening) → Tells before greatest.old → result ≡ request_behind before (line_event cluster.now text.now) }
+    ensures told { (before : List Happening) → Tells before greatest.old → IfOk result (λ event. Tells (before ++ option_to_list event) greatest.new) }
+{
+    let Some(event) = line(cluster, text)? else {
+        return Ok(None);
+    };
+    match asker(&event) {
+        Some((client, seq)) if rises(greatest, client, seq) => Ok(Some(event)),
+        _ => Err(LineFault::Word),
+    }
+}
+
+/// What the bytes behind a node's header spell: requests, as `read_schedule` reads them. A line of another kind is bad, and one
+/// whose number isn't above its client's earlier ones.
+#[tactic(auto, unfolding(crate::specs::Requests::requests_of))]
+pub fn read_requests(alloc: Global, cluster: &Cluster, bytes: &[u8]) -> Result<Schedule, NoMemory>
+    ensures { IfOk result (λ schedule. schedule ≡ requests_of cluster.now bytes.now) }
+{
+    let mut events = Vec::new(alloc);
+    let mut greatest = [0; CLIENTS];
+    let mut rest = bytes;
+    let mut number = 0;
+    while let Some((text, behind)) = first_line(rest) {
+        number += 1;
+        let bad = Some(number);
+        if number > MAX_LINES {
+            return Ok(Schedule::new(events, bad));
+        }
+        let Ok(event) = request(cluster, &mut greatest, text) else {
+            return Ok(Schedule::new(events, bad));
+        };
+        keep(&mut events, &event)?;
+        rest = behind;
+    }
+    Ok(Schedule::new(events, None))
+}
+
+fn is_of(client: u16, event: &Event) -> bool
+    ensures { result ≡ asks client event.now }
+{
+    match asker(event) {
+        Some((other, _)) => other == client,
+        None => false,
+    }
+}
+
+/// The requests of one client, in their order.
+pub fn script(alloc: Global, client: u16, events: &[Event]) -> Result<Vec<Event>, NoMemory>
+    ensures { IfOk result (λ script. script.items ≡ script_of client events.now) }
+{
+    let mut script = Vec::new(alloc);
+    for event in events {
+        if is_of(client, event) {
+            script.push(*event)?;
+        }
+    }
+    Ok(script)
+}
