@@ -17,9 +17,9 @@ mod line;
 #[cfg(test)]
 mod node_tests;
 #[cfg(test)]
-mod outside_tests;
-#[cfg(test)]
 mod one_round;
+#[cfg(test)]
+mod outside_tests;
 #[cfg(test)]
 mod pieces;
 #[cfg(test)]

@@ -240,9 +240,7 @@ pub fn host_over<L: Link>(
     let mut input = MemSource::new(input, Vec::new(alloc));
     let mut out = MemSink::new(alloc, 100, Vec::new(alloc))?;
     let mut err = MemSink::new(alloc, 100, Vec::new(alloc))?;
-    let status = top(
-        alloc, &words, &mut input, &mut out, &mut err, link, depot,
-    );
+    let status = top(alloc, &words, &mut input, &mut out, &mut err, link, depot);
     Ok(Outcome { status, out, err })
 }
 
