@@ -3,7 +3,7 @@ use Rattle.std.specs.Prelude.{◌≡◌, ◌⊎◌, ℕ, List, Option, None, Som
 use Rattle.cx_base.specs.declared.role.RoleId.{RoleId}
 use Rattle.cx_base.specs.declared.status.Status.{Status}
 use Rattle.cx_base.specs.declared.status.Status.TheVariants as status
-use Rattle.cx_node.specs.Serving.{Outside, Answered as Hosted, Completes as HostedCompletes}
+use Rattle.cx_node.specs.Serving.{Outside, Answered as Hosted, Completes as HostedCompletes, TellsBad as HostedTellsBad}
 use Rattle.cx_replay.specs.Generated.{ComesOfGen, Generated, GenCompletes}
 use Rattle.cx_replay.specs.Lawful.{IsLawfulInput, IsLawfulGenerated}
 use Rattle.cx_replay.specs.Replay.{ComesOfReplay, Completes, Replayed}
@@ -53,6 +53,7 @@ pub record Answered (said : Option Invocation) (old new : Outside) (s : Status) 
   -- A node bound, sent, kept and printed what the run of its roles says, or its status says why it stopped.
   pub hosted : (turns : ℕ) (roles : List RoleId) → said ≡ Some (Node turns roles) → Hosted roles turns old new s
   pub hosting_completes : (turns : ℕ) (roles : List RoleId) → said ≡ Some (Node turns roles) → HostedCompletes roles old new s
+  pub hosting_tells_bad : (turns : ℕ) (roles : List RoleId) → said ≡ Some (Node turns roles) → HostedTellsBad roles old new s
 
 -- What is promised of the run that the words ask for, however far it was run: of the input's, or of the generated one.
 abbrev pub IsLawfulAnswer : Option Invocation → Option (List ℕ) → Option (List ℕ) → Type 0

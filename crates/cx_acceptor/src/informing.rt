@@ -31,7 +31,7 @@ impl Acceptor {
         requires round { IsTrue (field.round.fits round) }
         requires mark { IsTrue (field.mark.fits mark) }
         ensures ok { IfOk result (λ why. Steps K.append_gives acceptor_rules self.old (inform_row self.old.me self.old.durable from round mark) why keeper.old keeper.new self.new out.new.list) }
-        ensures no_memory { IsErrOf result StepFault.NoMemory → StaysAt K.kept self.old self.new keeper.old keeper.new out.new.list }
+        ensures no_memory { IsErrOf result StepFault.NoMemory → StaysAt K.append_gives self.old self.new keeper.old keeper.new out.new.list }
         ensures told { K.tells keeper.new ≡ K.tells keeper.old }
         ensures failed { IsErrOf result StepFault.Failed → FailsAt K.append_gives (inform_row self.old.me self.old.durable from round mark) keeper.old keeper.new self.new out.new.list }
     {

@@ -38,7 +38,7 @@ impl Acceptor {
         requires window { IsTrue (in_window cw slot) }
         requires value { IsTrue (field.value.fits value.now) }
         ensures ok { IfOk result (λ why. Steps K.append_gives acceptor_rules self.old (phase2a_row self.old.me self.old.durable from round slot cw value.now) why keeper.old keeper.new self.new out.new.list) }
-        ensures no_memory { IsErrOf result StepFault.NoMemory → StaysAt K.kept self.old self.new keeper.old keeper.new out.new.list }
+        ensures no_memory { IsErrOf result StepFault.NoMemory → StaysAt K.append_gives self.old self.new keeper.old keeper.new out.new.list }
         ensures told { K.tells keeper.new ≡ K.tells keeper.old }
         ensures failed { IsErrOf result StepFault.Failed → FailsAt K.append_gives (phase2a_row self.old.me self.old.durable from round slot cw value.now) keeper.old keeper.new self.new out.new.list }
     {

@@ -1,5 +1,5 @@
 -- What the calls of a disk do to its bytes, and what a crash may leave of them.
-use Rattle.std.specs.Prelude.{◌≡◌, ◌⊎◌, ℕ, ◌+◌, ◌≤◌, min, max, List, ◌++◌, length, take, drop, Option, Some, Result, IsErr}
+use Rattle.std.specs.Prelude.{◌≡◌, ◌⊎◌, ℕ, ◌+◌, ◌≤◌, min, max, List, ◌++◌, length, take, drop, Option, Some, Result, IsErr, OnOk}
 use Rattle.cx_base.specs.Faults.{Rises}
 
 -- the bytes with others in their place from `at` on
@@ -43,7 +43,8 @@ pub record LeavesOnly {D : Type 0} (moment : D → ℕ) (left_since : D → ℕ 
   -- for a run that began earlier
   pub before : (t : ℕ) (c : List ℕ) → t ≤ moment old → left_since new t c → left_since old t c ⊎ P c
 
--- the count doesn't fall, and a call fails only where it rose
+-- the count doesn't fall, stands still where the call is answered, and rises where it fails
 pub record HasCause {T E : Type 0} (before now : ℕ) (result : Result T E) : Type 0 where
   pub later : before ≤ now
+  pub still : OnOk result (now ≡ before)
   pub failed : IsErr result → Rises before now

@@ -62,6 +62,7 @@ pub(crate) fn append_at<D: Disk>(
     ensures gate { IfOk result (λ next. next < D.size disk.new) }
     ensures tells { is_some (D.seen disk.new) ≡ is_some (D.seen disk.old) }
     ensures later { D.faults disk.old ≤ D.faults disk.new }
+    ensures still { (IsErrOf result KeepFault.Failed → ⊥) → D.faults disk.new ≡ D.faults disk.old }
     ensures failed { IsErrOf result KeepFault.Failed → Rises (D.faults disk.old) (D.faults disk.new) }
     ensures no_memory { IsErrOf result KeepFault.NoMemory → disk.new ≡ disk.old }
 {
@@ -98,6 +99,7 @@ pub(crate) fn append_in<D: Disk>(
     ensures gate { IfOk result (λ next. next < D.size disk.new) }
     ensures tells { is_some (D.seen disk.new) ≡ is_some (D.seen disk.old) }
     ensures later { D.faults disk.old ≤ D.faults disk.new }
+    ensures still { (IsErrOf result KeepFault.Failed → ⊥) → D.faults disk.new ≡ D.faults disk.old }
     ensures failed { IsErrOf result KeepFault.Failed → Rises (D.faults disk.old) (D.faults disk.new) }
     ensures no_memory { IsErrOf result KeepFault.NoMemory → disk.new ≡ disk.old }
 {

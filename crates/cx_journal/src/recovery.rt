@@ -57,6 +57,7 @@ pub(crate) fn read_disk<D: Disk>(
     ensures gate { IfOk result (λ f. f.gate < D.size disk.new) }
     ensures tells { is_some (D.seen disk.new) ≡ is_some (D.seen disk.old) }
     ensures later { D.faults disk.old ≤ D.faults disk.new }
+    ensures still { (IsErrOf result OpenFault.Failed → ⊥) → D.faults disk.new ≡ D.faults disk.old }
     ensures failed { IsErrOf result OpenFault.Failed → Rises (D.faults disk.old) (D.faults disk.new) }
 {
     match disk.sync() {

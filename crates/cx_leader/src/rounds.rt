@@ -76,7 +76,7 @@ impl Leader {
         requires round { IsTrue (field.round.fits round) }
         requires own { round.id ≡ self.old.me.index }
         ensures ok { IfOk result (λ why. Steps K.append_gives leader_rules self.old (begin_in self.old.cluster self.old.me self.old.volatile grid.now (Some round)) why keeper.old keeper.new self.new out.new.list) }
-        ensures no_memory { IsErrOf result StepFault.NoMemory → StaysAt K.kept self.old self.new keeper.old keeper.new out.new.list }
+        ensures no_memory { IsErrOf result StepFault.NoMemory → StaysAt K.append_gives self.old self.new keeper.old keeper.new out.new.list }
         ensures told { K.tells keeper.new ≡ K.tells keeper.old }
         ensures failed { IsErrOf result StepFault.Failed → FailsAt K.append_gives (begin_in self.old.cluster self.old.me self.old.volatile grid.now (Some round)) keeper.old keeper.new self.new out.new.list }
     {
@@ -111,7 +111,7 @@ impl Leader {
         requires live { self.old.live ≡ true }
         requires empty { out.old.list ≡ [] }
         ensures ok { IfOk result (λ why. Steps K.append_gives leader_rules self.old (lead_row self.old.cluster self.old.me self.old.durable self.old.volatile grid.now) why keeper.old keeper.new self.new out.new.list) }
-        ensures no_memory { IsErrOf result StepFault.NoMemory → StaysAt K.kept self.old self.new keeper.old keeper.new out.new.list }
+        ensures no_memory { IsErrOf result StepFault.NoMemory → StaysAt K.append_gives self.old self.new keeper.old keeper.new out.new.list }
         ensures told { K.tells keeper.new ≡ K.tells keeper.old }
         ensures failed { IsErrOf result StepFault.Failed → FailsAt K.append_gives (lead_row self.old.cluster self.old.me self.old.durable self.old.volatile grid.now) keeper.old keeper.new self.new out.new.list }
         ensures fits { IsFit leader_rules self.old.cluster self.old.me self.old.durable (lead_row self.old.cluster self.old.me self.old.durable self.old.volatile grid.now).kept }
@@ -136,7 +136,7 @@ impl Leader {
         requires live { self.old.live ≡ true }
         requires empty { out.old.list ≡ [] }
         ensures ok { IfOk result (λ why. Steps K.append_gives leader_rules self.old (change_row self.old.cluster self.old.me self.old.durable self.old.volatile grid.now) why keeper.old keeper.new self.new out.new.list) }
-        ensures no_memory { IsErrOf result StepFault.NoMemory → StaysAt K.kept self.old self.new keeper.old keeper.new out.new.list }
+        ensures no_memory { IsErrOf result StepFault.NoMemory → StaysAt K.append_gives self.old self.new keeper.old keeper.new out.new.list }
         ensures told { K.tells keeper.new ≡ K.tells keeper.old }
         ensures failed { IsErrOf result StepFault.Failed → FailsAt K.append_gives (change_row self.old.cluster self.old.me self.old.durable self.old.volatile grid.now) keeper.old keeper.new self.new out.new.list }
         ensures fits { IsFit leader_rules self.old.cluster self.old.me self.old.durable (change_row self.old.cluster self.old.me self.old.durable self.old.volatile grid.now).kept }

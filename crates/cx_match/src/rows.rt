@@ -32,7 +32,7 @@ impl Matchmaker {
         requires round { IsTrue (field.round.fits round) }
         requires grid { IsTrue (field.grid.fits grid) }
         ensures ok { IfOk result (λ why. Steps K.append_gives matchmaker_rules self.old (match_a_row self.old.me self.old.durable from round grid) why keeper.old keeper.new self.new out.new.list) }
-        ensures no_memory { IsErrOf result StepFault.NoMemory → StaysAt K.kept self.old self.new keeper.old keeper.new out.new.list }
+        ensures no_memory { IsErrOf result StepFault.NoMemory → StaysAt K.append_gives self.old self.new keeper.old keeper.new out.new.list }
         ensures told { K.tells keeper.new ≡ K.tells keeper.old }
         ensures failed { IsErrOf result StepFault.Failed → FailsAt K.append_gives (match_a_row self.old.me self.old.durable from round grid) keeper.old keeper.new self.new out.new.list }
     {
@@ -84,7 +84,7 @@ impl Matchmaker {
         requires round { IsTrue (field.round.fits round) }
         requires grid { IsTrue (field.grid.fits grid) }
         ensures ok { IfOk result (λ why. Steps K.append_gives matchmaker_rules self.old (garbage_a_row self.old.me self.old.durable from round grid) why keeper.old keeper.new self.new out.new.list) }
-        ensures no_memory { IsErrOf result StepFault.NoMemory → StaysAt K.kept self.old self.new keeper.old keeper.new out.new.list }
+        ensures no_memory { IsErrOf result StepFault.NoMemory → StaysAt K.append_gives self.old self.new keeper.old keeper.new out.new.list }
         ensures told { K.tells keeper.new ≡ K.tells keeper.old }
         ensures failed { IsErrOf result StepFault.Failed → FailsAt K.append_gives (garbage_a_row self.old.me self.old.durable from round grid) keeper.old keeper.new self.new out.new.list }
     {

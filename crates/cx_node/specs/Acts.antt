@@ -32,17 +32,21 @@ pub record Blames (result : Result (Unit {0}) Stop) (old new : Failures) : Type 
   pub linked : result ≡ Err LinkFault → Rises old.link new.link
   pub unlinked : (result ≡ Err LinkFault → ⊥) → new.link ≡ old.link
 
+-- the store of this role is what failed
+abbrev pub fails_by : {T : Type 0} → Result T Stop → RoleId → Type 0
+fails_by result role = result ≡ Err (StoreFault role)
+
 -- What was to be done is done, and all roles may go on; or a front of it is done, with the first of these takes.
-pub record Acts {K : Type 0} (gives : Appending K) (kept_of : K → List Record) (tells : K → Bool) (c : Cluster) (takes : Takes) (m : Moved (List Hosted)) (result : Result (Unit {0}) Stop) (old new : Scene K) : Type 0 where
+pub record Acts {K : Type 0} (gives : Appending K) (c : Cluster) (takes : Takes) (m : Moved (List Hosted)) (result : Result (Unit {0}) Stop) (old new : Scene K) : Type 0 where
   pub done : OnOk result (Does gives c takes m old new)
   pub ready : OnOk result (AreReady c new.guests)
   pub names : OnOk result (map who new.guests ≡ map who old.guests)
-  pub part : OnErr result ((made : ℕ) × DoesPart gives kept_of tells c (take made takes) m old new)
+  pub part : OnErr result ((made : ℕ) × DoesPart gives (fails_by result) c (take made takes) m old new)
   pub store : (role : RoleId) → result ≡ Err (StoreFault role) → StoreFails gives m.kept role old.guests new.guests
 
 -- the same with what one take gave
-abbrev pub ActsOnce : {K : Type 0} → Appending K → (K → List Record) → (K → Bool) → Cluster → (Option (List ℕ) → Moved (List Hosted)) → Result (Unit {0}) Stop → Scene K → Scene K → Type 0
-ActsOnce gives kept_of tells c f result old new = (what : Option (List ℕ)) × Acts gives kept_of tells c (what ∷ []) (f what) result old new
+abbrev pub ActsOnce : {K : Type 0} → Appending K → Cluster → (Option (List ℕ) → Moved (List Hosted)) → Result (Unit {0}) Stop → Scene K → Scene K → Type 0
+ActsOnce gives c f result old new = (what : Option (List ℕ)) × Acts gives c (what ∷ []) (f what) result old new
 
 -- whether a run has come to its end behind these takes, and to none before
 pub record Ends (c : Cluster) (limit : ℕ) (hs : List Hosted) (takes : Takes) : Type 0 where
@@ -50,9 +54,9 @@ pub record Ends (c : Cluster) (limit : ℕ) (hs : List Hosted) (takes : Takes) :
   pub not_before : (k : ℕ) → k < length takes → all_finished ((node_run c (take k takes) hs).next) ≡ false
 
 -- the turns of a run were made to its end, or a front of them
-abbrev pub ActsLong : {K : Type 0} → Appending K → (K → List Record) → (K → Bool) → Cluster → ℕ → Result (Unit {0}) Stop → Scene K → Scene K → Type 0
-ActsLong gives kept_of tells c limit result old new =
-    (takes : Takes) × Acts gives kept_of tells c takes (node_run c takes (hosted_in old.guests)) result old new × Ends c limit (hosted_in old.guests) takes
+abbrev pub ActsLong : {K : Type 0} → Appending K → Cluster → ℕ → Result (Unit {0}) Stop → Scene K → Scene K → Type 0
+ActsLong gives c limit result old new =
+    (takes : Takes) × Acts gives c takes (node_run c takes (hosted_in old.guests)) result old new × Ends c limit (hosted_in old.guests) takes
     × OnOk result ((all_finished ((node_run c takes (hosted_in old.guests)).next) ≡ true) ⊎ (length takes ≡ limit))
 
 -- the datagram that a take gave, if it gave one

@@ -38,10 +38,11 @@ GuestsGrow {K} gives kept old new =
     (length new ≡ length old)
     × ((i : ℕ) (h after : Guest K) → slice_get old i ≡ Some h → slice_get new i ≡ Some after → GuestGrows gives kept h after)
 
-abbrev pub GuestsGrowPart : {K : Type 0} → Appending K → (K → List Record) → (K → Bool) → List KeptRecord → List (Guest K) → List (Guest K) → Type 0
-GuestsGrowPart {K} gives kept_of tells kept old new =
+-- the same with a front of what each has to keep; the appends of these roles may have failed
+abbrev pub GuestsGrowPart : {K : Type 0} → Appending K → (RoleId → Type 0) → List KeptRecord → List (Guest K) → List (Guest K) → Type 0
+GuestsGrowPart {K} gives failing kept old new =
     (length new ≡ length old)
-    × ((i : ℕ) (h after : Guest K) → slice_get old i ≡ Some h → slice_get new i ≡ Some after → GuestGrowsPart gives kept_of tells kept h after)
+    × ((i : ℕ) (h after : Guest K) → slice_get old i ≡ Some h → slice_get new i ≡ Some after → GuestGrowsPart gives (failing (who h)) kept h after)
 
 -- What is to be done was done: each role is as it follows, has kept what it had to, all was sent and printed.
 pub record Does {K : Type 0} (gives : Appending K) (c : Cluster) (takes : List (Option (List ℕ))) (m : Moved (List Hosted)) (old new : Scene K) : Type 0 where
@@ -50,9 +51,10 @@ pub record Does {K : Type 0} (gives : Appending K) (c : Cluster) (takes : List (
   pub sent : Asks c takes m.sends old.link new.link
   pub printed : Appends old.out new.out m.text
 
--- A front of it was done: each role has kept a front of what it had to, and a front was sent and printed.
-pub record DoesPart {K : Type 0} (gives : Appending K) (kept_of : K → List Record) (tells : K → Bool) (c : Cluster) (takes : List (Option (List ℕ))) (m : Moved (List Hosted)) (old new : Scene K) : Type 0 where
-  pub kept : GuestsGrowPart gives kept_of tells m.kept old.guests new.guests
+-- A front of it was done: each role has kept a front of what it had to, and a front was sent and printed. Of no other role than
+-- these has an append failed.
+pub record DoesPart {K : Type 0} (gives : Appending K) (failing : RoleId → Type 0) (c : Cluster) (takes : List (Option (List ℕ))) (m : Moved (List Hosted)) (old new : Scene K) : Type 0 where
+  pub kept : GuestsGrowPart gives failing m.kept old.guests new.guests
   pub sent : AsksPart c takes m.sends old.link new.link
   pub printed : AppendsPart old.out new.out m.text
 

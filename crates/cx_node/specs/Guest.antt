@@ -7,7 +7,7 @@ use Rattle.cx_model.specs.Names.{names_role}
 use Rattle.cx_model.specs.World.{records_of}
 use Rattle.cx_msg.specs.declared.input.KeptRecord.{KeptRecord}
 use Rattle.cx_msg.specs.declared.kept.Record.{Record}
-use Rattle.cx_role.specs.Role.{Appending}
+use Rattle.cx_role.specs.Role.{Appending, Refuses}
 use Rattle.cx_node.specs.declared.guest.Guest.{Guest}
 use Rattle.cx_node.specs.declared.guest.Guest.TheVariants as guest
 use Rattle.cx_node.specs.Hosted.{Hosted, ClientAt, BatcherAt, LeaderAt, ProxyAt, AcceptorAt, MatchmakerAt, ReplicaAt, UnbatcherAt, ReaderAt, is_live, name_of}
@@ -68,16 +68,16 @@ abbrev pub Fails : {K : Type 0} → Appending K → Option Record → K → K �
 Fails gives None old new = ⊥
 Fails gives (Some r) old new = gives old r (Err Failed) new
 
--- nothing is kept any more, or an append failed
-abbrev pub Stops : {K : Type 0} → Appending K → (K → List Record) → (K → Bool) → Option Record → K → K → Type 0
-Stops gives kept tells next old new = ((kept new ≡ kept old) × (tells new ≡ tells old)) ⊎ Fails gives next old new
+-- nothing is kept any more; or, where that may be, the append of the next record failed
+abbrev pub Stops : {K : Type 0} → Appending K → Type 0 → Option Record → K → K → Type 0
+Stops gives may_fail next old new = Refuses gives old new ⊎ (may_fail × Fails gives next old new)
 
 -- The first of these records were appended, and then the keeper stopped.
-pub record AppendedPart {K : Type 0} (gives : Appending K) (kept : K → List Record) (tells : K → Bool) (records : List Record) (old new : K) : Type 0 where
+pub record AppendedPart {K : Type 0} (gives : Appending K) (may_fail : Type 0) (records : List Record) (old new : K) : Type 0 where
   pub count : ℕ
   pub mid : K
   pub front : Appended gives (take count records) old mid
-  pub stop : Stops gives kept tells (slice_get records count) mid new
+  pub stop : Stops gives may_fail (slice_get records count) mid new
 
 abbrev pub Grows : {K : Type 0} → Appending K → List Record → Option K → Option K → Type 0
 Grows gives records None None = Unit {0}
@@ -85,19 +85,19 @@ Grows gives records None (Some new) = ⊥
 Grows gives records (Some old) None = ⊥
 Grows gives records (Some old) (Some new) = Appended gives records old new
 
-abbrev pub GrowsPart : {K : Type 0} → Appending K → (K → List Record) → (K → Bool) → List Record → Option K → Option K → Type 0
-GrowsPart gives kept tells records None None = Unit {0}
-GrowsPart gives kept tells records None (Some new) = ⊥
-GrowsPart gives kept tells records (Some old) None = ⊥
-GrowsPart gives kept tells records (Some old) (Some new) = AppendedPart gives kept tells records old new
+abbrev pub GrowsPart : {K : Type 0} → Appending K → Type 0 → List Record → Option K → Option K → Type 0
+GrowsPart gives may_fail records None None = Unit {0}
+GrowsPart gives may_fail records None (Some new) = ⊥
+GrowsPart gives may_fail records (Some old) None = ⊥
+GrowsPart gives may_fail records (Some old) (Some new) = AppendedPart gives may_fail records old new
 
 -- a role has kept what it has to keep of these
 abbrev pub GuestGrows : {K : Type 0} → Appending K → List KeptRecord → Guest K → Guest K → Type 0
 GuestGrows gives kept old new = Grows gives (records_of (who old) kept) (keeper_of old) (keeper_of new)
 
 -- a role has kept a front of it, and is who it was
-pub record GuestGrowsPart {K : Type 0} (gives : Appending K) (kept_of : K → List Record) (tells : K → Bool) (kept : List KeptRecord) (old new : Guest K) : Type 0 where
-  pub grows : GrowsPart gives kept_of tells (records_of (who old) kept) (keeper_of old) (keeper_of new)
+pub record GuestGrowsPart {K : Type 0} (gives : Appending K) (may_fail : Type 0) (kept : List KeptRecord) (old new : Guest K) : Type 0 where
+  pub grows : GrowsPart gives may_fail (records_of (who old) kept) (keeper_of old) (keeper_of new)
   pub name : who new ≡ who old
 
 -- The keeper of a role failed: behind the first of its records the append of the next one was answered so.

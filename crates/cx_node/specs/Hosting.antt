@@ -19,10 +19,11 @@ use Rattle.cx_node.specs.declared.node.Stop.{Stop}
 use Rattle.cx_node.specs.declared.node.Stop.TheVariants as stop
 use Rattle.cx_node.specs.declared.opening.OpenStop.{OpenStop}
 use Rattle.cx_node.specs.declared.opening.OpenStop.TheVariants as open_stop
+use Rattle.cx_node.specs.Acts.{fails_by}
 use Rattle.cx_node.specs.Doing.{Scene}
 use Rattle.cx_node.specs.Guest.{keeper_of, who}
 use Rattle.cx_node.specs.Node.{IsEnd, RunFails, Runs, RunsPart, Takes}
-use Rattle.cx_node.specs.Opening.{IsBadAs}
+use Rattle.cx_node.specs.Opening.{IsBadAs, IsFirstBad}
 use Rattle.cx_node.specs.Serving.{Outside, Served, ServedPart, hosts}
 
 -- ---- what is answered
@@ -56,7 +57,7 @@ abbrev pub with_binds : List Bind → LinkHistory → LinkHistory
 with_binds binds h = record h { binds = h.binds ++ binds }
 
 -- The stores of these roles were given back: the depot holds what each store tells, for other roles what it held, and each fault of
--- a store has raised its role's count.
+-- a store, and nothing else, has raised its role's count.
 pub record GivesBack {D : Type 0} (seen : D → Option (List ℕ)) (disk_faults : D → ℕ) (guests : List (Guest (JournalState D))) (tells : Bool) (held held_after : RoleId → List ℕ) (faults faults_after : RoleId → ℕ) : Type 0 where
   pub holds : tells ≡ true → (i : ℕ) (guest : Guest (JournalState D)) (j : JournalState D) (file : List ℕ)
       → slice_get guests i ≡ Some guest → keeper_of guest ≡ Some j → seen j.disk ≡ Some file → held_after (who guest) ≡ file
@@ -65,13 +66,18 @@ pub record GivesBack {D : Type 0} (seen : D → Option (List ℕ)) (disk_faults 
       → held_after role ≡ held role
   pub failed : (i : ℕ) (guest : Guest (JournalState D)) (j : JournalState D)
       → slice_get guests i ≡ Some guest → keeper_of guest ≡ Some j → Rises 0 (disk_faults j.disk) → Rises (faults (who guest)) (faults_after (who guest))
+  pub still : (i : ℕ) (guest : Guest (JournalState D)) (j : JournalState D)
+      → slice_get guests i ≡ Some guest → keeper_of guest ≡ Some j → disk_faults j.disk ≡ 0 → faults_after (who guest) ≡ faults (who guest)
+  pub others_still : (role : RoleId)
+      → ((i : ℕ) (guest : Guest (JournalState D)) (j : JournalState D) → slice_get guests i ≡ Some guest → keeper_of guest ≡ Some j → who guest ≡ role → ⊥)
+      → faults_after role ≡ faults role
   pub later : (role : RoleId) → faults role ≤ faults_after role
 
 -- Hosted roles ran to this answer: the whole run was made, and no name has changed; or a front of it, and what failed has a cause.
-pub record Ran {K : Type 0} (gives : Appending K) (kept : K → List Record) (tells : K → Bool) (c : Cluster) (turns : ℕ) (answer : Result RunEnd Stop) (old new : Scene K) (links links_after writes writes_after : ℕ) : Type 0 where
+pub record Ran {K : Type 0} (gives : Appending K) (c : Cluster) (turns : ℕ) (answer : Result RunEnd Stop) (old new : Scene K) (links links_after writes writes_after : ℕ) : Type 0 where
   pub done : IfOk answer (λ e. Runs gives c turns e old new)
   pub names : OnOk answer (map who new.guests ≡ map who old.guests)
-  pub part : OnErr answer (RunsPart gives kept tells c turns old new)
+  pub part : OnErr answer (RunsPart gives (fails_by answer) c turns old new)
   pub store : (role : RoleId) → answer ≡ Err (stop.StoreFault role) → RunFails gives c role old.guests new.guests
   pub written : answer ≡ Err stop.WriteFault → Rises writes writes_after
   pub unwritten : (answer ≡ Err stop.WriteFault → ⊥) → writes_after ≡ writes
@@ -94,12 +100,21 @@ HostDid roles c events turns old new status.Turns = HostEnds roles c events turn
 HostDid roles c events turns old new status.LinkFault = HostEndsEarly roles c events old new × Rises old.links new.links
 HostDid roles c events turns old new status.WriteFault = HostEndsEarly roles c events old new × Rises old.writes new.writes
 HostDid roles c events turns old new (status.StoreFault role) = HostEndsEarly roles c events old new × Rises (old.stores role) (new.stores role)
-HostDid roles c events turns old new (status.BadStore role at) = HostEndsEarly roles c events old new × (old.tells ≡ true → IsBadAs c role (old.held role) at role.kind)
+HostDid roles c events turns old new (status.BadStore role at) = HostEndsEarly roles c events old new × (old.tells ≡ true → IsFirstBad roles c old.held role at)
 HostDid roles c events turns old new status.NoMemory = HostEndsEarly roles c events old new
 HostDid roles c events turns old new other = ⊥
 
--- what hosting answered; a failed write or take is always told
+-- the roles ran
+abbrev pub HasRun : Status → Type 0
+HasRun status.Done = Unit {0}
+HasRun status.Turns = Unit {0}
+HasRun status.WriteFault = Unit {0}
+HasRun other = ⊥
+
+-- what hosting answered; a failed write or take, and a store that failed, is always told, and roles run only from stores of their own
 pub record HostAnswered (roles : List RoleId) (c : Cluster) (events : List Event) (turns : ℕ) (old new : Outside) (s : Status) : Type 0 where
   pub did : HostDid roles c events turns old new s
   pub written : (s ≡ status.WriteFault → ⊥) → new.writes ≡ old.writes
   pub linked : (s ≡ status.LinkFault → ⊥) → new.links ≡ old.links
+  pub good : HasRun s → old.tells ≡ true → (i : ℕ) (role : RoleId) (at : ℕ) → slice_get roles i ≡ Some role → IsBadAs c role (old.held role) at role.kind → ⊥
+  pub stored : (role : RoleId) → (s ≡ status.StoreFault role → ⊥) → new.stores role ≡ old.stores role

@@ -36,11 +36,11 @@ abbrev pub Runs : {K : Type 0} → Appending K → Cluster → ℕ → RunEnd �
 Runs gives c turns end old new =
     (takes : Takes) × Does gives c takes (node_run c takes (hosted_in old.guests)) old new × IsEnd c turns (hosted_in old.guests) takes end
 
--- a front of it was made, with the first of its takes
-abbrev pub RunsPart : {K : Type 0} → Appending K → (K → List Record) → (K → Bool) → Cluster → ℕ → Scene K → Scene K → Type 0
-RunsPart gives kept tells c turns old new =
+-- A front of it was made, with the first of its takes. Of no other role than these has an append failed.
+abbrev pub RunsPart : {K : Type 0} → Appending K → (RoleId → Type 0) → Cluster → ℕ → Scene K → Scene K → Type 0
+RunsPart gives failing c turns old new =
     (takes : Takes) × (made : ℕ) × (length takes ≤ turns)
-    × DoesPart gives kept tells c (take made takes) (node_run c takes (hosted_in old.guests)) old new
+    × DoesPart gives failing c (take made takes) (node_run c takes (hosted_in old.guests)) old new
 
 -- in a run with these takes the keeper of this role failed
 abbrev pub RunFails : {K : Type 0} → Appending K → Cluster → RoleId → List (Guest K) → List (Guest K) → Type 0

@@ -1,5 +1,5 @@
 -- Hosted roles as they are opened, and the stores that are lent to them.
-use Rattle.std.specs.Prelude.{◌≡◌, ℕ, Bool, true, false, List, [], ◌∷◌, Option, None, Some, Ok, is_some, if◌then◌else◌, slice_get}
+use Rattle.std.specs.Prelude.{◌≡◌, ◌<◌, ℕ, Bool, true, false, List, [], ◌∷◌, Option, None, Some, Ok, is_some, if◌then◌else◌, slice_get}
 use Rattle.cx_base.specs.declared.cluster.Cluster.{Cluster}
 use Rattle.cx_base.specs.declared.event.Event.{Event}
 use Rattle.cx_base.specs.declared.role.Kind.{Kind}
@@ -64,32 +64,40 @@ IsBadAs c me file at kind.Matchmaker = IsBadStore matchmaker_rules c me file at
 IsBadAs c me file at kind.Replica = IsBadStore replica_rules c me file at
 IsBadAs c me file at other = ⊥
 
--- a journal has these records, as far as its disk tells, and no append to it has failed
-pub record HasRecords {D : Type 0} (seen : D → Option (List ℕ)) (tells : Bool) (records : List Record) (j : JournalState D) : Type 0 where
+-- the first of these roles whose store is none of its own, and the place of the first fault in it
+pub record IsFirstBad (roles : List RoleId) (c : Cluster) (held : RoleId → List ℕ) (role : RoleId) (at : ℕ) : Type 0 where
+  pub place : ℕ
+  pub here : slice_get roles place ≡ Some role
+  pub bad : IsBadAs c role (held role) at role.kind
+  pub first : (i : ℕ) (other : RoleId) (fault : ℕ) → i < place → slice_get roles i ≡ Some other → IsBadAs c other (held other) fault other.kind → ⊥
+
+-- a journal has these records, as far as its disk tells, and nothing has failed
+pub record HasRecords {D : Type 0} (seen : D → Option (List ℕ)) (disk_faults : D → ℕ) (tells : Bool) (records : List Record) (j : JournalState D) : Type 0 where
   pub whole : j.whole ≡ true
   pub told : tells ≡ true → is_some (seen j.disk) ≡ true
   pub kept : tells ≡ true → told_records (seen j.disk) ≡ records
+  pub faultless : disk_faults j.disk ≡ 0
 
-abbrev pub HasJournal : {D : Type 0} → (D → Option (List ℕ)) → Bool → List Record → Bool → Option (JournalState D) → Type 0
-HasJournal seen tells records true None = ⊥
-HasJournal seen tells records true (Some j) = HasRecords seen tells records j
-HasJournal seen tells records false None = Unit {0}
-HasJournal seen tells records false (Some j) = ⊥
+abbrev pub HasJournal : {D : Type 0} → (D → Option (List ℕ)) → (D → ℕ) → Bool → List Record → Bool → Option (JournalState D) → Type 0
+HasJournal seen disk_faults tells records true None = ⊥
+HasJournal seen disk_faults tells records true (Some j) = HasRecords seen disk_faults tells records j
+HasJournal seen disk_faults tells records false None = Unit {0}
+HasJournal seen disk_faults tells records false (Some j) = ⊥
 
 -- A role was opened from the bytes of its store, if it has one: they are the image of records none of which it refuses, and its
 -- journal has them.
-pub record IsOpened {D : Type 0} (seen : D → Option (List ℕ)) (c : Cluster) (events : List Event) (tells : Bool) (file : List ℕ) (me : RoleId) (guest : Guest (JournalState D)) : Type 0 where
+pub record IsOpened {D : Type 0} (seen : D → Option (List ℕ)) (disk_faults : D → ℕ) (c : Cluster) (events : List Event) (tells : Bool) (file : List ℕ) (me : RoleId) (guest : Guest (JournalState D)) : Type 0 where
   pub records : List Record
   pub hosted : hosted_of guest ≡ opened_as c events me records me.kind
   pub accepted : refused_as c me records me.kind ≡ None
   pub read : tells ≡ true → is_durable me.kind ≡ true → image (Some me.kind) file ≡ Ok records
-  pub journal : HasJournal seen tells records (is_durable me.kind) (keeper_of guest)
+  pub journal : HasJournal seen disk_faults tells records (is_durable me.kind) (keeper_of guest)
 
 -- the first roles of a list were opened, each from what its store held
-abbrev pub AreOpened : {D : Type 0} → (D → Option (List ℕ)) → Cluster → List Event → Bool → (RoleId → List ℕ) → List RoleId → List (Guest (JournalState D)) → Type 0
-AreOpened {D} seen c events tells held roles guests =
+abbrev pub AreOpened : {D : Type 0} → (D → Option (List ℕ)) → (D → ℕ) → Cluster → List Event → Bool → (RoleId → List ℕ) → List RoleId → List (Guest (JournalState D)) → Type 0
+AreOpened {D} seen disk_faults c events tells held roles guests =
     (i : ℕ) (guest : Guest (JournalState D)) → slice_get guests i ≡ Some guest
-    → (me : RoleId) × (slice_get roles i ≡ Some me) × IsOpened seen c events tells (held me) me guest
+    → (me : RoleId) × (slice_get roles i ≡ Some me) × IsOpened seen disk_faults c events tells (held me) me guest
 
 -- the names of those that have a store, in their order
 abbrev pub lent_to : {K : Type 0} → List (Guest K) → List RoleId

@@ -20,7 +20,7 @@ use Rattle.cx_node.specs.declared.node.RunEnd.TheVariants as end
 use Rattle.cx_node.specs.Hosted.{Hosted, Moved}
 use Rattle.cx_node.specs.Input.{input_of, refused_of}
 use Rattle.cx_node.specs.Node.{IsEnd, Takes}
-use Rattle.cx_node.specs.Opening.{IsBadAs, is_durable, opened_as}
+use Rattle.cx_node.specs.Opening.{IsBadAs, IsFirstBad, is_durable, opened_as}
 use Rattle.cx_node.specs.Ports.{bind_of, sendings}
 use Rattle.cx_node.specs.Run.{node_run}
 
@@ -131,13 +131,14 @@ pub record Answered (roles : List RoleId) (turns : ℕ) (old new : Outside) (s :
   pub link_fault : s ≡ status.LinkFault → Rises old.links new.links × EndsEarly roles old new
   pub write_fault : s ≡ status.WriteFault → Rises old.writes new.writes × EndsEarly roles old new
   pub store_fault : (role : RoleId) → s ≡ status.StoreFault role → Rises (old.stores role) (new.stores role) × EndsEarly roles old new
-  -- A store that is none of its role is told with the place of its first fault.
+  -- The first store that is none of its role's is told with the place of its first fault.
   pub bad_store : (role : RoleId) (at : ℕ) → s ≡ status.BadStore role at → EndsEarly roles old new
-  pub bad_place : (role : RoleId) (at : ℕ) → s ≡ status.BadStore role at → old.tells ≡ true → (c : Cluster) × (events : List Event) × Says roles old.left c events × IsBadAs c role (old.held role) at role.kind
+  pub bad_place : (role : RoleId) (at : ℕ) → s ≡ status.BadStore role at → old.tells ≡ true → (c : Cluster) × (events : List Event) × Says roles old.left c events × IsFirstBad roles c old.held role at
   pub no_memory : s ≡ status.NoMemory → IsUntouched old new ⊎ EndsEarly roles old new
-  -- A failed write or take is always told.
+  -- A failed write or take, and a store that failed, is always told.
   pub written : (s ≡ status.WriteFault → ⊥) → new.writes ≡ old.writes
   pub linked : (s ≡ status.LinkFault → ⊥) → new.links ≡ old.links
+  pub stored : (role : RoleId) → (s ≡ status.StoreFault role → ⊥) → new.stores role ≡ old.stores role
 
 -- nothing outside has failed
 pub record NoFault (old new : Outside) : Type 0 where
@@ -164,3 +165,10 @@ EndsWell other = ⊥
 -- Where all is good and nothing fails, the run comes to its end, or memory is wanting.
 abbrev pub Completes : List RoleId → Outside → Outside → Status → Type 0
 Completes roles old new s = NoFault old new → IsGood roles old → EndsWell s
+
+-- Where the input is accepted and nothing fails, a store that is none of its role's is always told, or memory is wanting.
+abbrev pub TellsBad : List RoleId → Outside → Outside → Status → Type 0
+TellsBad roles old new s =
+    NoFault old new → old.tells ≡ true → (c : Cluster) (events : List Event) (role : RoleId) (at : ℕ)
+    → Says roles old.left c events → IsFirstBad roles c old.held role at
+    → (s ≡ status.BadStore role at) ⊎ (s ≡ status.NoMemory)

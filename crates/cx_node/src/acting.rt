@@ -5,7 +5,7 @@ ghost use Rattle.std.specs.List.{position};
 ghost use Rattle.cx_base.specs.declared.role.RoleId.{RoleId};
 ghost use Rattle.cx_base.specs.Role.{same_role};
 ghost use Rattle.cx_node.specs.declared.node.Stop.TheVariants as stop;
-ghost use Rattle.cx_node.specs.Acts.{Acts, Blames, failures};
+ghost use Rattle.cx_node.specs.Acts.{Acts, Blames, fails_by, failures};
 ghost use Rattle.cx_node.specs.Doing.{scene};
 ghost use Rattle.cx_node.specs.Guest.{AreReady, GuestFails, GuestGrows, GuestGrowsPart, hosted_in, hosted_of, who};
 ghost use Rattle.cx_node.specs.Hosted.{does, is_live};
@@ -30,7 +30,7 @@ fn ask<K: Keeper>(
     ensures kept { OnOk result (GuestGrows K.append_gives (does (hosted_of seat.old) what.now).kept seat.old seat.new) }
     ensures sends { OnOk result (outbox.new.list ≡ (does (hosted_of seat.old) what.now).sends) }
     ensures text { OnOk result (text.new.items ≡ (does (hosted_of seat.old) what.now).text) }
-    ensures part { OnErr result (GuestGrowsPart K.append_gives K.kept K.tells (does (hosted_of seat.old) what.now).kept seat.old seat.new) }
+    ensures part { OnErr result (GuestGrowsPart K.append_gives (fails_by result (who seat.old)) (does (hosted_of seat.old) what.now).kept seat.old seat.new) }
     ensures failed { (role : RoleId) → result ≡ Err (stop.StoreFault role) → (who seat.old ≡ role) × GuestFails K.append_gives (does (hosted_of seat.old) what.now).kept seat.old seat.new }
     ensures no_write { result ≡ Err stop.WriteFault → ⊥ }
     ensures no_link { result ≡ Err stop.LinkFault → ⊥ }
@@ -64,7 +64,7 @@ impl<K: Keeper + Drop> Node<K> {
     ) -> Result<(), Stop>
         requires place { place < length self.old.guests }
         requires ready { AreReady self.old.cluster self.old.guests }
-        ensures acts { Acts K.append_gives K.kept K.tells self.old.cluster [] (does_at place what.now (hosted_in self.old.guests)) result (scene self.old.guests (L.told link.old) (W.taken out.old)) (scene self.new.guests (L.told link.new) (W.taken out.new)) }
+        ensures acts { Acts K.append_gives self.old.cluster [] (does_at place what.now (hosted_in self.old.guests)) result (scene self.old.guests (L.told link.old) (W.taken out.old)) (scene self.new.guests (L.told link.new) (W.taken out.new)) }
         ensures blames { Blames result (failures (L.faults link.old) (W.faults out.old)) (failures (L.faults link.new) (W.faults out.new)) }
         ensures cluster { self.new.cluster ≡ self.old.cluster }
     {
@@ -95,7 +95,7 @@ impl<K: Keeper + Drop> Node<K> {
         out: &mut W,
     ) -> Result<(), Stop>
         requires ready { AreReady self.old.cluster self.old.guests }
-        ensures acts { Acts K.append_gives K.kept K.tells self.old.cluster [] (all_do what.now (hosted_in self.old.guests)) result (scene self.old.guests (L.told link.old) (W.taken out.old)) (scene self.new.guests (L.told link.new) (W.taken out.new)) }
+        ensures acts { Acts K.append_gives self.old.cluster [] (all_do what.now (hosted_in self.old.guests)) result (scene self.old.guests (L.told link.old) (W.taken out.old)) (scene self.new.guests (L.told link.new) (W.taken out.new)) }
         ensures blames { Blames result (failures (L.faults link.old) (W.faults out.old)) (failures (L.faults link.new) (W.faults out.new)) }
         ensures cluster { self.new.cluster ≡ self.old.cluster }
     {
@@ -122,7 +122,7 @@ impl<K: Keeper + Drop> Node<K> {
         out: &mut W,
     ) -> Result<(), Stop>
         requires ready { AreReady self.old.cluster self.old.guests }
-        ensures acts { Acts K.append_gives K.kept K.tells self.old.cluster [] (at_place (place_of role (hosted_in self.old.guests)) what.now (hosted_in self.old.guests)) result (scene self.old.guests (L.told link.old) (W.taken out.old)) (scene self.new.guests (L.told link.new) (W.taken out.new)) }
+        ensures acts { Acts K.append_gives self.old.cluster [] (at_place (place_of role (hosted_in self.old.guests)) what.now (hosted_in self.old.guests)) result (scene self.old.guests (L.told link.old) (W.taken out.old)) (scene self.new.guests (L.told link.new) (W.taken out.new)) }
         ensures blames { Blames result (failures (L.faults link.old) (W.faults out.old)) (failures (L.faults link.new) (W.faults out.new)) }
         ensures cluster { self.new.cluster ≡ self.old.cluster }
     {

@@ -22,6 +22,8 @@ pub fn close_seats<D: Depot>(depot: &mut D, seats: Vec<Seat<Journal<D::Store>>>)
     ensures held { D.tells depot.old ≡ true → (i : ℕ) (guest : Guest (JournalState D.Store)) (j : JournalState D.Store) (file : List ℕ) → slice_get seats.items i ≡ Some guest → keeper_of guest ≡ Some j → D.Store.Disk.seen j.disk ≡ Some file → D.held depot.new (who guest) ≡ file }
     ensures others { (role : RoleId) → ((i : ℕ) (guest : Guest (JournalState D.Store)) (j : JournalState D.Store) → slice_get seats.items i ≡ Some guest → keeper_of guest ≡ Some j → who guest ≡ role → ⊥) → D.held depot.new role ≡ D.held depot.old role }
     ensures failed { (i : ℕ) (guest : Guest (JournalState D.Store)) (j : JournalState D.Store) → slice_get seats.items i ≡ Some guest → keeper_of guest ≡ Some j → Rises 0 (D.Store.Disk.faults j.disk) → Rises (D.faults depot.old (who guest)) (D.faults depot.new (who guest)) }
+    ensures still { (i : ℕ) (guest : Guest (JournalState D.Store)) (j : JournalState D.Store) → slice_get seats.items i ≡ Some guest → keeper_of guest ≡ Some j → D.Store.Disk.faults j.disk ≡ 0 → D.faults depot.new (who guest) ≡ D.faults depot.old (who guest) }
+    ensures others_still { (role : RoleId) → ((i : ℕ) (guest : Guest (JournalState D.Store)) (j : JournalState D.Store) → slice_get seats.items i ≡ Some guest → keeper_of guest ≡ Some j → who guest ≡ role → ⊥) → D.faults depot.new role ≡ D.faults depot.old role }
     ensures later { (role : RoleId) → D.faults depot.old role ≤ D.faults depot.new role }
 {
     for seat in seats {

@@ -5,7 +5,7 @@ ghost use Rattle.std.specs.List.{list_all, list_any};
 ghost use Rattle.cx_base.specs.declared.role.RoleId.{RoleId};
 ghost use Rattle.cx_base.specs.Faults.{Rises};
 ghost use Rattle.cx_node.specs.declared.node.Stop.TheVariants as stop;
-ghost use Rattle.cx_node.specs.Acts.{ActsLong, Blames, failures};
+ghost use Rattle.cx_node.specs.Acts.{ActsLong, Blames, fails_by, failures};
 ghost use Rattle.cx_node.specs.Doing.{scene};
 ghost use Rattle.cx_node.specs.Guest.{AreReady, hosted_in, hosted_of, who};
 ghost use Rattle.cx_node.specs.Node.{RunFails, Runs, RunsPart};
@@ -127,7 +127,7 @@ impl<K: Keeper + Drop> Node<K> {
         out: &mut W,
     ) -> Result<(), Stop>
         requires ready { AreReady self.old.cluster self.old.guests }
-        ensures acts { ActsLong K.append_gives K.kept K.tells self.old.cluster turns result (scene self.old.guests (L.told link.old) (W.taken out.old)) (scene self.new.guests (L.told link.new) (W.taken out.new)) }
+        ensures acts { ActsLong K.append_gives self.old.cluster turns result (scene self.old.guests (L.told link.old) (W.taken out.old)) (scene self.new.guests (L.told link.new) (W.taken out.new)) }
         ensures blames { Blames result (failures (L.faults link.old) (W.faults out.old)) (failures (L.faults link.new) (W.faults out.new)) }
         ensures cluster { self.new.cluster ≡ self.old.cluster }
     {
@@ -155,7 +155,7 @@ impl<K: Keeper + Drop> Node<K> {
     ) -> Result<RunEnd, Stop>
         requires ready { AreReady self.old.cluster self.old.guests }
         ensures done { IfOk result (λ end. Runs K.append_gives self.old.cluster turns end (scene self.old.guests (L.told link.old) (W.taken out.old)) (scene self.new.guests (L.told link.new) (W.taken out.new))) }
-        ensures part { OnErr result (RunsPart K.append_gives K.kept K.tells self.old.cluster turns (scene self.old.guests (L.told link.old) (W.taken out.old)) (scene self.new.guests (L.told link.new) (W.taken out.new))) }
+        ensures part { OnErr result (RunsPart K.append_gives (fails_by result) self.old.cluster turns (scene self.old.guests (L.told link.old) (W.taken out.old)) (scene self.new.guests (L.told link.new) (W.taken out.new))) }
         ensures store { (role : RoleId) → result ≡ Err (stop.StoreFault role) → RunFails K.append_gives self.old.cluster role self.old.guests self.new.guests }
         ensures written { result ≡ Err stop.WriteFault → Rises (W.faults out.old) (W.faults out.new) }
         ensures unwritten { (result ≡ Err stop.WriteFault → ⊥) → W.faults out.new ≡ W.faults out.old }

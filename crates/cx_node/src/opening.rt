@@ -12,7 +12,7 @@ ghost use Rattle.cx_model.specs.Names.{names_role};
 ghost use Rattle.cx_model.specs.Rules.{opened};
 ghost use Rattle.cx_script.specs.Requests.{IsScript, script_of};
 ghost use Rattle.cx_node.specs.declared.opening.OpenStop.TheVariants as open_stop;
-ghost use Rattle.cx_node.specs.Opening.{AreOpened, IsBadAs, IsOpened, lent_to};
+ghost use Rattle.cx_node.specs.Opening.{AreOpened, IsBadAs, IsFirstBad, IsOpened, lent_to};
 ghost use Rattle.cx_node.specs.Durable.{IsDurablyOpened};
 ghost use Rattle.cx_node.specs.Wake.{IsBadStore};
 
@@ -52,15 +52,15 @@ fn open_durable<D: Depot, R: Role>(
     requires kind { me.kind ≡ R.rules.kind }
     requires named { IsTrue (names_role cluster.now me) }
     requires in_depot { list_any (same_role me) (D.out depot.old) ≡ false }
-    ensures role { IfOk result (λ p. IsDurablyOpened R.rules D.Store.Disk.seen cluster.now (D.tells depot.old) (D.held depot.old me) me p.0 (R.state p.1)) }
+    ensures role { IfOk result (λ p. IsDurablyOpened R.rules D.Store.Disk.seen D.Store.Disk.faults cluster.now (D.tells depot.old) (D.held depot.old me) me p.0 (R.state p.1)) }
     ensures out { OnOk result (D.out depot.new ≡ D.out depot.old ++ me ∷ []) }
     ensures given_back { OnErr result (D.out depot.new ≡ D.out depot.old) }
     ensures told { D.tells depot.new ≡ D.tells depot.old }
     ensures stays { OnOk result ((who : RoleId) → D.held depot.new who ≡ D.held depot.old who) }
     ensures held { D.tells depot.old ≡ true → (who : RoleId) → told_records (Some (D.held depot.new who)) ≡ told_records (Some (D.held depot.old who)) }
-    ensures still { OnOk result ((who : RoleId) → D.faults depot.new who ≡ D.faults depot.old who) }
     ensures later { (who : RoleId) → D.faults depot.old who ≤ D.faults depot.new who }
     ensures bad { (role : RoleId) (at : ℕ) → result ≡ Err (open_stop.BadStore role at) → (role ≡ me) × (D.tells depot.old ≡ true → IsBadStore R.rules cluster.now me (D.held depot.old me) at) }
+    ensures others { (who : RoleId) → (result ≡ Err (open_stop.StoreFault who) → ⊥) → D.faults depot.new who ≡ D.faults depot.old who }
     ensures failed { (role : RoleId) → result ≡ Err (open_stop.StoreFault role) → (role ≡ me) × Rises (D.faults depot.old me) (D.faults depot.new me) }
 {
     let Ok(store) = depot.open(me) else {
@@ -122,15 +122,15 @@ fn open_guest<D: Depot>(
     requires named { IsTrue (names_role cluster.now me) }
     requires scripts { (client : ℕ) → IsScript cluster.now client (script_of client events.now) }
     requires in_depot { list_any (same_role me) (D.out depot.old) ≡ false }
-    ensures opened { IfOk result (λ guest. IsOpened D.Store.Disk.seen cluster.now events.now (D.tells depot.old) (D.held depot.old me) me guest) }
+    ensures opened { IfOk result (λ guest. IsOpened D.Store.Disk.seen D.Store.Disk.faults cluster.now events.now (D.tells depot.old) (D.held depot.old me) me guest) }
     ensures out { IfOk result (λ guest. D.out depot.new ≡ D.out depot.old ++ lent_to (guest ∷ [])) }
     ensures given_back { OnErr result (D.out depot.new ≡ D.out depot.old) }
     ensures told { D.tells depot.new ≡ D.tells depot.old }
     ensures stays { OnOk result ((who : RoleId) → D.held depot.new who ≡ D.held depot.old who) }
     ensures held { D.tells depot.old ≡ true → (who : RoleId) → told_records (Some (D.held depot.new who)) ≡ told_records (Some (D.held depot.old who)) }
-    ensures still { OnOk result ((who : RoleId) → D.faults depot.new who ≡ D.faults depot.old who) }
     ensures later { (who : RoleId) → D.faults depot.old who ≤ D.faults depot.new who }
     ensures bad { (role : RoleId) (at : ℕ) → result ≡ Err (open_stop.BadStore role at) → D.tells depot.old ≡ true → IsBadAs cluster.now role (D.held depot.old role) at role.kind }
+    ensures others { (who : RoleId) → (result ≡ Err (open_stop.StoreFault who) → ⊥) → D.faults depot.new who ≡ D.faults depot.old who }
     ensures failed { (role : RoleId) → result ≡ Err (open_stop.StoreFault role) → Rises (D.faults depot.old role) (D.faults depot.new role) }
 {
     match me.kind {
@@ -188,15 +188,18 @@ pub fn open_seats<D: Depot>(
     requires scripts { (client : ℕ) → IsScript cluster.now client (script_of client events.now) }
     requires empty { seats.old.items ≡ [] }
     requires not_out { D.out depot.old ≡ [] }
-    ensures opened { AreOpened D.Store.Disk.seen cluster.now events.now (D.tells depot.old) (D.held depot.old) roles.now seats.new.items }
+    ensures opened { AreOpened D.Store.Disk.seen D.Store.Disk.faults cluster.now events.now (D.tells depot.old) (D.held depot.old) roles.now seats.new.items }
     ensures all { OnOk result (length seats.new.items ≡ length roles.now) }
     ensures out { D.out depot.new ≡ lent_to seats.new.items }
     ensures told { D.tells depot.new ≡ D.tells depot.old }
 
     // What a store tells as its records stays, also where it could not be opened.
     ensures held { D.tells depot.old ≡ true → (who : RoleId) → told_records (Some (D.held depot.new who)) ≡ told_records (Some (D.held depot.old who)) }
-    ensures bad { (role : RoleId) (at : ℕ) → result ≡ Err (open_stop.BadStore role at) → D.tells depot.old ≡ true → IsBadAs cluster.now role (D.held depot.old role) at role.kind }
+    ensures bad { (role : RoleId) (at : ℕ) → result ≡ Err (open_stop.BadStore role at) → D.tells depot.old ≡ true → IsFirstBad roles.now cluster.now (D.held depot.old) role at }
     ensures later { (role : RoleId) → D.faults depot.old role ≤ D.faults depot.new role }
+
+    // A count rises only where the answer names its role.
+    ensures others { (who : RoleId) → (result ≡ Err (open_stop.StoreFault who) → ⊥) → D.faults depot.new who ≡ D.faults depot.old who }
     ensures failed { (role : RoleId) → result ≡ Err (open_stop.StoreFault role) → Rises (D.faults depot.old role) (D.faults depot.new role) }
 {
     for role in roles {

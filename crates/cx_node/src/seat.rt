@@ -50,7 +50,7 @@ fn step<R: Role, K: Keeper>(
     ensures state { OnOk result (R.state role.new ≡ running_after R.rules (R.state role.old) (outcome_of R.rules (R.state role.old) input.now)) }
     ensures kept { OnOk result (Appended K.append_gives (records_of (R.state role.old).me (kept_by (R.state role.old).me (outcome_of R.rules (R.state role.old) input.now).kept)) keeper.old keeper.new) }
     ensures sends { OnOk result (out.new.list ≡ (outcome_of R.rules (R.state role.old) input.now).sends) }
-    ensures part { OnErr result (AppendedPart K.append_gives K.kept K.tells (records_of (R.state role.old).me (kept_by (R.state role.old).me (outcome_of R.rules (R.state role.old) input.now).kept)) keeper.old keeper.new) }
+    ensures part { OnErr result (AppendedPart K.append_gives (IsErrOf result StepFault.Failed) (records_of (R.state role.old).me (kept_by (R.state role.old).me (outcome_of R.rules (R.state role.old) input.now).kept)) keeper.old keeper.new) }
     ensures failed { IsErrOf result StepFault.Failed → Fails K.append_gives (slice_get (records_of (R.state role.old).me (kept_by (R.state role.old).me (outcome_of R.rules (R.state role.old) input.now).kept)) 0) keeper.old keeper.new }
 
     // A role that can take no step any more may have another name.
@@ -152,7 +152,7 @@ fn give<K: Keeper>(
     ensures kept { OnOk result (GuestGrows K.append_gives (given (hosted_of guest.old) input.now).kept guest.old guest.new) }
     ensures sends { OnOk result (out.new.list ≡ (given (hosted_of guest.old) input.now).sends) }
     ensures text { OnOk result (text.new.items ≡ (given (hosted_of guest.old) input.now).text) }
-    ensures part { OnErr result (GrowsPart K.append_gives K.kept K.tells (records_of (who guest.old) (given (hosted_of guest.old) input.now).kept) (keeper_of guest.old) (keeper_of guest.new)) }
+    ensures part { OnErr result (GrowsPart K.append_gives (IsErrOf result StepFault.Failed) (records_of (who guest.old) (given (hosted_of guest.old) input.now).kept) (keeper_of guest.old) (keeper_of guest.new)) }
     ensures failed { IsErrOf result StepFault.Failed → FailsIn K.append_gives (slice_get (records_of (who guest.old) (given (hosted_of guest.old) input.now).kept) 0) (keeper_of guest.old) (keeper_of guest.new) }
     ensures name { OnOk result (who guest.new ≡ who guest.old) }
     ensures live { OnOk result (IsTrue (is_live (hosted_of guest.new))) }
@@ -251,7 +251,7 @@ impl<K: Keeper> Seat<K> {
         ensures kept { OnOk result (GuestGrows K.append_gives (does (hosted_of self.old) what.now).kept self.old self.new) }
         ensures sends { OnOk result (out.new.list ≡ (does (hosted_of self.old) what.now).sends) }
         ensures text { OnOk result (text.new.items ≡ (does (hosted_of self.old) what.now).text) }
-        ensures part { OnErr result (GuestGrowsPart K.append_gives K.kept K.tells (does (hosted_of self.old) what.now).kept self.old self.new) }
+        ensures part { OnErr result (GuestGrowsPart K.append_gives (IsErrOf result StepFault.Failed) (does (hosted_of self.old) what.now).kept self.old self.new) }
         ensures failed { IsErrOf result StepFault.Failed → GuestFails K.append_gives (does (hosted_of self.old) what.now).kept self.old self.new }
         ensures name { who self.new ≡ who self.old }
         ensures live { OnOk result (IsTrue (is_live (hosted_of self.new))) }

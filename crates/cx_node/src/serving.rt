@@ -14,7 +14,7 @@ ghost use Rattle.cx_node.specs.Doing.{scene};
 ghost use Rattle.cx_node.specs.Guest.{AreReady};
 ghost use Rattle.cx_node.specs.Hosting.{GivesBack, HostAnswered, Ran, ended_status, refused_status, unopened_status};
 ghost use Rattle.cx_node.specs.Opening.{lent_to};
-ghost use Rattle.cx_node.specs.Serving.{Answered, Completes, outside};
+ghost use Rattle.cx_node.specs.Serving.{Answered, Completes, TellsBad, outside};
 
 use crate::Seat;
 use crate::binding::bind_all;
@@ -77,7 +77,7 @@ fn run_seats<L: Link, D: Depot, W: Sink>(
     requires ready { AreReady cluster.now seats.items }
     requires lent { D.out depot.old ≡ lent_to seats.items }
     ensures ran { (after : List (Guest (JournalState D.Store))) × (answer : Result RunEnd Stop) × (result ≡ ended_status answer)
-        × Ran (IsJournalAppend D.Store.Disk.seen D.Store.Disk.may_leave D.Store.Disk.moment D.Store.Disk.left_since D.Store.Disk.faults) (λ j. told_records (D.Store.Disk.seen j.disk)) (λ j. is_some (D.Store.Disk.seen j.disk))
+        × Ran (IsJournalAppend D.Store.Disk.seen D.Store.Disk.may_leave D.Store.Disk.moment D.Store.Disk.left_since D.Store.Disk.faults)
         cluster.now turns answer (scene seats.items (L.told link.old) (W.taken out.old)) (scene after (L.told link.new) (W.taken out.new)) (L.faults link.old) (L.faults link.new) (W.faults out.old) (W.faults out.new)
         × GivesBack D.Store.Disk.seen D.Store.Disk.faults after (D.tells depot.old) (D.held depot.old) (D.held depot.new) (D.faults depot.old) (D.faults depot.new) }
     ensures told { D.tells depot.new ≡ D.tells depot.old }
@@ -147,6 +147,9 @@ pub fn serve<S: Source, L: Link, D: Depot, W: Sink>(
         (outside (S.left input.old) (S.faults input.old) (L.told link.old) (L.faults link.old) (W.taken out.old) (W.faults out.old) (D.tells depot.old) (D.held depot.old) (D.faults depot.old))
         (outside (S.left input.new) (S.faults input.new) (L.told link.new) (L.faults link.new) (W.taken out.new) (W.faults out.new) (D.tells depot.new) (D.held depot.new) (D.faults depot.new)) result }
     ensures complete { Completes roles.now
+        (outside (S.left input.old) (S.faults input.old) (L.told link.old) (L.faults link.old) (W.taken out.old) (W.faults out.old) (D.tells depot.old) (D.held depot.old) (D.faults depot.old))
+        (outside (S.left input.new) (S.faults input.new) (L.told link.new) (L.faults link.new) (W.taken out.new) (W.faults out.new) (D.tells depot.new) (D.held depot.new) (D.faults depot.new)) result }
+    ensures tells_bad { TellsBad roles.now
         (outside (S.left input.old) (S.faults input.old) (L.told link.old) (L.faults link.old) (W.taken out.old) (W.faults out.old) (D.tells depot.old) (D.held depot.old) (D.faults depot.old))
         (outside (S.left input.new) (S.faults input.new) (L.told link.new) (L.faults link.new) (W.taken out.new) (W.faults out.new) (D.tells depot.new) (D.held depot.new) (D.faults depot.new)) result }
     ensures given_back { D.out depot.new ≡ [] }

@@ -77,7 +77,7 @@ impl<K: Keeper + Drop> Node<K> {
     // Orders leader 0 to lead, if it is hosted and idle.
     fn lead<L: Link, W: Sink>(&mut self, link: &mut L, out: &mut W) -> Result<(), Stop>
         requires ready { AreReady self.old.cluster self.old.guests }
-        ensures acts { Acts K.append_gives K.kept K.tells self.old.cluster [] (lead_at self.old.cluster (place_of (role kind.Leader 0) (hosted_in self.old.guests)) (hosted_in self.old.guests)) result (scene self.old.guests (L.told link.old) (W.taken out.old)) (scene self.new.guests (L.told link.new) (W.taken out.new)) }
+        ensures acts { Acts K.append_gives self.old.cluster [] (lead_at self.old.cluster (place_of (role kind.Leader 0) (hosted_in self.old.guests)) (hosted_in self.old.guests)) result (scene self.old.guests (L.told link.old) (W.taken out.old)) (scene self.new.guests (L.told link.new) (W.taken out.new)) }
         ensures blames { Blames result (failures (L.faults link.old) (W.faults out.old)) (failures (L.faults link.new) (W.faults out.new)) }
         ensures cluster { self.new.cluster ≡ self.old.cluster }
     {
@@ -101,7 +101,7 @@ impl<K: Keeper + Drop> Node<K> {
     // The first part of the n-th turn.
     fn order<L: Link, W: Sink>(&mut self, n: u32, link: &mut L, out: &mut W) -> Result<(), Stop>
         requires ready { AreReady self.old.cluster self.old.guests }
-        ensures acts { Acts K.append_gives K.kept K.tells self.old.cluster [] (ordered self.old.cluster n (hosted_in self.old.guests)) result (scene self.old.guests (L.told link.old) (W.taken out.old)) (scene self.new.guests (L.told link.new) (W.taken out.new)) }
+        ensures acts { Acts K.append_gives self.old.cluster [] (ordered self.old.cluster n (hosted_in self.old.guests)) result (scene self.old.guests (L.told link.old) (W.taken out.old)) (scene self.new.guests (L.told link.new) (W.taken out.new)) }
         ensures blames { Blames result (failures (L.faults link.old) (W.faults out.old)) (failures (L.faults link.new) (W.faults out.new)) }
         ensures cluster { self.new.cluster ≡ self.old.cluster }
     {
@@ -114,7 +114,7 @@ impl<K: Keeper + Drop> Node<K> {
     // The second part of a turn: one take of the link.
     fn take<L: Link, W: Sink>(&mut self, link: &mut L, out: &mut W) -> Result<(), Stop>
         requires ready { AreReady self.old.cluster self.old.guests }
-        ensures acts { ActsOnce K.append_gives K.kept K.tells self.old.cluster (λ what. comes what (hosted_in self.old.guests)) result (scene self.old.guests (L.told link.old) (W.taken out.old)) (scene self.new.guests (L.told link.new) (W.taken out.new)) }
+        ensures acts { ActsOnce K.append_gives self.old.cluster (λ what. comes what (hosted_in self.old.guests)) result (scene self.old.guests (L.told link.old) (W.taken out.old)) (scene self.new.guests (L.told link.new) (W.taken out.new)) }
         ensures blames { Blames result (failures (L.faults link.old) (W.faults out.old)) (failures (L.faults link.new) (W.faults out.new)) }
         ensures cluster { self.new.cluster ≡ self.old.cluster }
     {
@@ -137,7 +137,7 @@ impl<K: Keeper + Drop> Node<K> {
     // The third part of the n-th turn.
     fn tick<L: Link, W: Sink>(&mut self, n: u32, link: &mut L, out: &mut W) -> Result<(), Stop>
         requires ready { AreReady self.old.cluster self.old.guests }
-        ensures acts { Acts K.append_gives K.kept K.tells self.old.cluster [] (ticked n (hosted_in self.old.guests)) result (scene self.old.guests (L.told link.old) (W.taken out.old)) (scene self.new.guests (L.told link.new) (W.taken out.new)) }
+        ensures acts { Acts K.append_gives self.old.cluster [] (ticked n (hosted_in self.old.guests)) result (scene self.old.guests (L.told link.old) (W.taken out.old)) (scene self.new.guests (L.told link.new) (W.taken out.new)) }
         ensures blames { Blames result (failures (L.faults link.old) (W.faults out.old)) (failures (L.faults link.new) (W.faults out.new)) }
         ensures cluster { self.new.cluster ≡ self.old.cluster }
     {
@@ -150,7 +150,7 @@ impl<K: Keeper + Drop> Node<K> {
     // The n-th turn.
     pub fn turn<L: Link, W: Sink>(&mut self, n: u32, link: &mut L, out: &mut W) -> Result<(), Stop>
         requires ready { AreReady self.old.cluster self.old.guests }
-        ensures acts { ActsOnce K.append_gives K.kept K.tells self.old.cluster (λ what. turn self.old.cluster n what (hosted_in self.old.guests)) result (scene self.old.guests (L.told link.old) (W.taken out.old)) (scene self.new.guests (L.told link.new) (W.taken out.new)) }
+        ensures acts { ActsOnce K.append_gives self.old.cluster (λ what. turn self.old.cluster n what (hosted_in self.old.guests)) result (scene self.old.guests (L.told link.old) (W.taken out.old)) (scene self.new.guests (L.told link.new) (W.taken out.new)) }
         ensures blames { Blames result (failures (L.faults link.old) (W.faults out.old)) (failures (L.faults link.new) (W.faults out.new)) }
         ensures cluster { self.new.cluster ≡ self.old.cluster }
     {

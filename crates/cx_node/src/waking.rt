@@ -25,8 +25,8 @@ pub enum WakeStop {
     NoMemory,
 }
 
-/// Wakes a role from its store: its journal is opened, and the role from the records that were read. `Failed` comes only where the
-/// disk's count rose; `Bad` names exactly the first break of the bytes, or the place of the first record that the role
+/// Wakes a role from its store: its journal is opened, and the role from the records that were read. `Failed` comes exactly where
+/// the disk's count rose; `Bad` names exactly the first break of the bytes, or the place of the first record that the role
 /// could not have appended. The disk is given back with the fault, and its records are as they were.
 pub fn wake<D: Disk, R: Role>(
     alloc: Global,
@@ -44,6 +44,7 @@ pub fn wake<D: Disk, R: Role>(
     ensures tells { IfErr result (λ e. is_some (D.seen e.1) ≡ is_some (D.seen disk)) }
     ensures failed { IfErr result (λ e. e.0 ≡ wake_stop.Failed → Rises (D.faults disk) (D.faults e.1)) }
     ensures later { MatchResult result (λ p. D.faults disk ≤ D.faults p.0.disk) (λ e. D.faults disk ≤ D.faults e.1) }
+    ensures still { MatchResult result (λ p. D.faults p.0.disk ≡ D.faults disk) (λ e. (e.0 ≡ wake_stop.Failed → ⊥) → D.faults e.1 ≡ D.faults disk) }
 {
     match Journal::open(alloc, disk, me.kind) {
         Ok((journal, records)) => match R::open(alloc, cluster, me, &records) {

@@ -35,7 +35,7 @@ impl Replica {
         requires slot { IsTrue (field.slot.fits slot) }
         requires value { IsTrue (is_own self.old.cluster value.now) }
         ensures ok { IfOk result (λ why. Steps K.append_gives replica_rules self.old (chosen_row self.old.cluster self.old.me self.old.durable self.old.volatile slot value.now) why keeper.old keeper.new self.new out.new.list) }
-        ensures no_memory { IsErrOf result StepFault.NoMemory → StaysAt K.kept self.old self.new keeper.old keeper.new out.new.list }
+        ensures no_memory { IsErrOf result StepFault.NoMemory → StaysAt K.append_gives self.old self.new keeper.old keeper.new out.new.list }
         ensures told { K.tells keeper.new ≡ K.tells keeper.old }
         ensures failed { IsErrOf result StepFault.Failed → FailsAt K.append_gives (chosen_row self.old.cluster self.old.me self.old.durable self.old.volatile slot value.now) keeper.old keeper.new self.new out.new.list }
         ensures fits { IsFit replica_rules self.old.cluster self.old.me self.old.durable (chosen_row self.old.cluster self.old.me self.old.durable self.old.volatile slot value.now).kept }
@@ -60,7 +60,7 @@ impl Replica {
         requires slot { length self.old.durable.log < 2 ^ 40 }
         requires value { IsTrue (is_own self.old.cluster value.now) }
         ensures ok { IfOk result (λ why. Steps K.append_gives replica_rules self.old (apply self.old.cluster self.old.me self.old.durable self.old.volatile (ready_values (length self.old.durable.log) self.old.volatile.early value.now)) why keeper.old keeper.new self.new out.new.list) }
-        ensures no_memory { IsErrOf result StepFault.NoMemory → StaysAt K.kept self.old self.new keeper.old keeper.new out.new.list }
+        ensures no_memory { IsErrOf result StepFault.NoMemory → StaysAt K.append_gives self.old self.new keeper.old keeper.new out.new.list }
         ensures told { K.tells keeper.new ≡ K.tells keeper.old }
         ensures failed { IsErrOf result StepFault.Failed → FailsAt K.append_gives (apply self.old.cluster self.old.me self.old.durable self.old.volatile (ready_values (length self.old.durable.log) self.old.volatile.early value.now)) keeper.old keeper.new self.new out.new.list }
     {

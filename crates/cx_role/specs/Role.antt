@@ -1,8 +1,8 @@
 -- The law of a role's step.
-use Rattle.std.specs.Prelude.{◌≡◌, false, List, [], Option, None, Some, Result, Ok, Err}
+use Rattle.std.specs.Prelude.{◌≡◌, ◌⊎◌, false, List, [], Option, None, Some, Result, Ok, Err}
 use Rattle.cx_base.specs.declared.why.Why.{Why}
 use Rattle.cx_keeper.specs.declared.keeper.KeepFault.{KeepFault}
-use Rattle.cx_keeper.specs.declared.keeper.KeepFault.TheVariants.{Failed}
+use Rattle.cx_keeper.specs.declared.keeper.KeepFault.TheVariants.{Failed, NoMemory}
 use Rattle.cx_model.specs.Outcome.{Outcome}
 use Rattle.cx_model.specs.Rules.{Rules, Running, running_after}
 use Rattle.cx_msg.specs.Letter.{Letter}
@@ -31,9 +31,13 @@ pub record Replies {D V : Type 0} (rules : Rules D V) (before : Running D V) (ou
   pub state : after ≡ running_after rules before outcome
   pub sends : sent ≡ outcome.sends
 
--- nothing has changed, and nothing was sent
-pub record StaysAt {K S : Type 0} (kept_of : K → List Record) (before after : S) (old new : K) (sent : List Letter) : Type 0 where
-  pub kept : kept_of new ≡ kept_of old
+-- no append was asked for, or one was refused for want of memory
+abbrev pub Refuses : {K : Type 0} → Appending K → K → K → Type 0
+Refuses append_gives old new = (new ≡ old) ⊎ ((r : Record) × append_gives old r (Err NoMemory) new)
+
+-- the state is as it was, nothing was kept, and nothing was sent
+pub record StaysAt {K S : Type 0} (append_gives : Appending K) (before after : S) (old new : K) (sent : List Letter) : Type 0 where
+  pub kept : Refuses append_gives old new
   pub state : after ≡ before
   pub sends : sent ≡ []
 

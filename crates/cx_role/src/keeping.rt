@@ -3,6 +3,7 @@
 ghost use Rattle.std.specs.Prelude.{◌≡◌, false, Ok, Err, IfOk, IsErrOf, IsTrue, OnOk};
 ghost use Rattle.cx_keeper.specs.declared.keeper.KeepFault.TheVariants as keep_fault;
 ghost use Rattle.cx_msg.specs.Records.{fits};
+ghost use Rattle.cx_role.specs.Role.{Refuses};
 
 use crate::StepFault;
 use cx_keeper::{KeepFault, Keeper};
@@ -13,7 +14,7 @@ pub fn keep<K: Keeper>(keeper: &mut K, live: &mut bool, what: &Record) -> Result
     requires { IsTrue (fits what.now) }
     ensures kept { IfOk result (λ _. K.append_gives keeper.old what.now (Ok tt) keeper.new) }
     ensures lives { OnOk result (live.new ≡ live.old) }
-    ensures same { IsErrOf result StepFault.NoMemory → K.kept keeper.new ≡ K.kept keeper.old }
+    ensures refused { IsErrOf result StepFault.NoMemory → Refuses K.append_gives keeper.old keeper.new }
     ensures told { K.tells keeper.new ≡ K.tells keeper.old }
     ensures lives_on { IsErrOf result StepFault.NoMemory → live.new ≡ live.old }
     ensures failed { IsErrOf result StepFault.Failed → K.append_gives keeper.old what.now (Err keep_fault.Failed) keeper.new }

@@ -118,7 +118,7 @@ pub trait Role: Sized {
         requires live { (state self.old).live ≡ true }
         requires empty { out.old.list ≡ [] }
         ensures ok { IfOk result (λ why. Steps K.append_gives rules (state self.old) (outcome_of rules (state self.old) (input.Take datagram.now)) why keeper.old keeper.new (state self.new) out.new.list) }
-        ensures no_memory { IsErrOf result StepFault.NoMemory → StaysAt K.kept (state self.old) (state self.new) keeper.old keeper.new out.new.list }
+        ensures no_memory { IsErrOf result StepFault.NoMemory → StaysAt K.append_gives (state self.old) (state self.new) keeper.old keeper.new out.new.list }
         ensures told { K.tells keeper.new ≡ K.tells keeper.old }
         ensures failed { IsErrOf result StepFault.Failed → FailsAt K.append_gives (outcome_of rules (state self.old) (input.Take datagram.now)) keeper.old keeper.new (state self.new) out.new.list }
         ensures fits { IsFit rules (state self.old).cluster (state self.old).me (state self.old).durable (outcome_of rules (state self.old) (input.Take datagram.now)).kept };
@@ -133,7 +133,7 @@ pub trait Role: Sized {
         requires live { (state self.old).live ≡ true }
         requires empty { out.old.list ≡ [] }
         ensures ok { IfOk result (λ why. Steps K.append_gives rules (state self.old) (outcome_of rules (state self.old) (input.Order order.now)) why keeper.old keeper.new (state self.new) out.new.list) }
-        ensures no_memory { IsErrOf result StepFault.NoMemory → StaysAt K.kept (state self.old) (state self.new) keeper.old keeper.new out.new.list }
+        ensures no_memory { IsErrOf result StepFault.NoMemory → StaysAt K.append_gives (state self.old) (state self.new) keeper.old keeper.new out.new.list }
         ensures told { K.tells keeper.new ≡ K.tells keeper.old }
         ensures failed { IsErrOf result StepFault.Failed → FailsAt K.append_gives (outcome_of rules (state self.old) (input.Order order.now)) keeper.old keeper.new (state self.new) out.new.list }
         ensures fits { IsFit rules (state self.old).cluster (state self.old).me (state self.old).durable (outcome_of rules (state self.old) (input.Order order.now)).kept };

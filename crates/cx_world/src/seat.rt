@@ -1,7 +1,7 @@
 //! A role with its keeper, running or not.
 
 ghost use Rattle.std.specs.Prelude.{◌≡◌, [], IfOk, IsErrOf, None, Some, true};
-ghost use Rattle.cx_keeper.specs.MemKeeper.{kept_of, mem_append_gives};
+ghost use Rattle.cx_keeper.specs.MemKeeper.{mem_append_gives};
 ghost use Rattle.cx_model.specs.Names.{count_of};
 ghost use Rattle.cx_model.specs.Rules.{Rules, Running, outcome_of, IsFit};
 ghost use Rattle.cx_model.specs.World.{fresh_roles};
@@ -73,7 +73,7 @@ fn step<R: Role>(
     requires live { (R.state role.old).live ≡ true }
     requires empty { out.old.list ≡ [] }
     ensures ok { IfOk result (λ why. Steps mem_append_gives R.rules (R.state role.old) (outcome_of R.rules (R.state role.old) input.now) why keeper.old keeper.new (R.state role.new) out.new.list) }
-    ensures no_memory { IsErrOf result StepFault.NoMemory → StaysAt kept_of (R.state role.old) (R.state role.new) keeper.old keeper.new out.new.list }
+    ensures no_memory { IsErrOf result StepFault.NoMemory → StaysAt mem_append_gives (R.state role.old) (R.state role.new) keeper.old keeper.new out.new.list }
     ensures failed { IsErrOf result StepFault.Failed → FailsAt mem_append_gives (outcome_of R.rules (R.state role.old) input.now) keeper.old keeper.new (R.state role.new) out.new.list }
     ensures fits_ok { IfOk result (λ _. IsFit R.rules (R.state role.old).cluster (R.state role.old).me (R.state role.old).durable (outcome_of R.rules (R.state role.old) input.now).kept) }
     ensures fits_failed { IsErrOf result StepFault.Failed → IsFit R.rules (R.state role.old).cluster (R.state role.old).me (R.state role.old).durable (outcome_of R.rules (R.state role.old) input.now).kept }
