@@ -12,7 +12,7 @@ use Rattle.cx_node.proofs.seat.Seat.act.Goals as goal
 pub returns-in_err-begin-in-Begin-clause-part : goal.returns-in_err-begin-in-Begin-clause-part
 returns-in_err-begin-in-Begin-clause-part g c =
     let same = ap (λ (h : Guest _). named c.self.inside.me h) c.begin.ensures.state ∙ c.self.view_is in
-    let part = stays_part g.K.Keeper.append_gives g.K.Keeper.kept g.K.Keeper.tells (does (hosted_of c.args.self.now) c.args.what.now).kept c.args.self.now (named c.self.inside.me c.begin.new.guest) same in
+    let part = stays_part g.K.Keeper.append_gives (does (hosted_of c.args.self.now) c.args.what.now).kept c.args.self.now (named c.self.inside.me c.begin.new.guest) same in
     search (rules, part)
 
 pub returns-in_err-give-in-Give-clause-failed : goal.returns-in_err-give-in-Give-clause-failed
