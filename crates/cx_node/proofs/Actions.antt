@@ -66,7 +66,7 @@ module _ {K : Type 0} (gives : Appending K) (c : Cluster) where
         done = tt;
         ready = tt;
         names = tt;
-        part = (k.0, subst (λ l. DoesPart gives (fails_by (Err e)) c l (then_do m f) a d) (sym k.1) (does_then_part gives (fails_by (Err e)) c ts (take q.part.0 us) m f a b d p.names p.done q.part.1));
+        part = (k.0, subst (λ l. DoesPart gives (fails_by {T = Unit {0}} (Err e)) c l (then_do m f) a d) (sym k.1) (does_then_part gives (fails_by {T = Unit {0}} (Err e)) c ts (take q.part.0 us) m f a b d p.names p.done q.part.1));
         store = λ role s. store_behind gives m.kept (f m.next).kept role a.guests b.guests d.guests p.names p.done.kept (q.store role s);
       }
 
@@ -83,7 +83,7 @@ module _ {K : Type 0} (gives : Appending K) (c : Cluster) where
         done = tt;
         ready = tt;
         names = tt;
-        part = (k.0, subst (λ l. DoesPart gives (fails_by (Err e)) c l (then_do m f) a b) (sym k.1) (part_then gives (fails_by (Err e)) c (take p.part.0 ts) m f a b p.part.1));
+        part = (k.0, subst (λ l. DoesPart gives (fails_by {T = Unit {0}} (Err e)) c l (then_do m f) a b) (sym k.1) (part_then gives (fails_by {T = Unit {0}} (Err e)) c (take p.part.0 ts) m f a b p.part.1));
         store = λ role s. store_before gives m.kept (f m.next).kept role a.guests b.guests (p.store role s);
       }
 
@@ -98,7 +98,7 @@ module _ {K : Type 0} (gives : Appending K) (c : Cluster) where
         done = tt;
         ready = tt;
         names = tt;
-        part = (0, record { kept = guests_nothing gives (fails_by (Err e)) m.kept a.guests; sent = part_none c [] m.sends a.link a.link (asks_nothing c a.link); printed = text_none m.text a.out });
+        part = (0, record { kept = guests_nothing gives (fails_by {T = Unit {0}} (Err e)) m.kept a.guests; sent = part_none c [] m.sends a.link a.link (asks_nothing c a.link); printed = text_none m.text a.out });
         store = λ role s. absurd (other role (ap (error_or e) s));
       }
 

@@ -174,7 +174,7 @@ module _ {K : Type 0} (gives : Appending K) {A B : Type 0} (cause : A → B) whe
   stops_as next a b (inl s) = inl s
   stops_as next a b (inr f) = inr (cause f.0, f.1)
 
-  part_as : (rs : List Record) (a b : K) → AppendedPart gives A rs a b → AppendedPart gives B rs a b
+  pub part_as : (rs : List Record) (a b : K) → AppendedPart gives A rs a b → AppendedPart gives B rs a b
   part_as rs a b p = record { count = p.count; mid = p.mid; front = p.front; stop = stops_as (slice_get rs p.count) p.mid b p.stop }
 
   pub grows_as : (rs : List Record) (a b : Option K) → GrowsPart gives A rs a b → GrowsPart gives B rs a b

@@ -140,7 +140,7 @@ module _ {K : Type 0} (gives : Appending K) (c : Cluster) (gs : List (Guest K)) 
       })
 
   pub acts_seated_part : (l k : Option LinkHistory) (o p : Option (List ℕ)) (e : Stop)
-      → GuestGrowsPart gives (fails_by (Err e) (who h)) (does (hosted_of h) what).kept h after → AsksPart c [] (does (hosted_of h) what).sends l k → AppendsPart o p (does (hosted_of h) what).text
+      → GuestGrowsPart gives (fails_by {T = Unit {0}} (Err e) (who h)) (does (hosted_of h) what).kept h after → AsksPart c [] (does (hosted_of h) what).sends l k → AppendsPart o p (does (hosted_of h) what).text
       → ((role : RoleId) → e ≡ StoreFault role → (who h ≡ role) × GuestFails gives (does (hosted_of h) what).kept h after)
       → Acts gives c [] (does_at i what (hosted_in gs)) (Err e) (scene gs l o) (scene (slice_set gs i after) k p)
   acts_seated_part l k o p e grows asked printed failed =
@@ -153,7 +153,7 @@ module _ {K : Type 0} (gives : Appending K) (c : Cluster) (gs : List (Guest K)) 
         part = (
           0,
           record {
-            kept = (length-set gs i after, each_at (λ a b. GuestGrowsPart gives (fails_by (Err e) (who a)) ks a b) grows (λ j a differs at. guest_nothing gives (fails_by (Err e) (who a)) ks a));
+            kept = (length-set gs i after, each_at (λ a b. GuestGrowsPart gives (fails_by {T = Unit {0}} (Err e) (who a)) ks a b) grows (λ j a differs at. guest_nothing gives (fails_by {T = Unit {0}} (Err e) (who a)) ks a));
             sent = asked;
             printed = printed;
           },

@@ -1,17 +1,20 @@
 -- Turns, one after the other, and the end of a run.
 use Rattle.std.proofs.Common.{◌≡◌, ◌⊎◌, ◌<◌, ℕ, suc, ◌+◌, Bool, false, List, [], ◌∷◌, ◌++◌, length, length-append, take, take_at, arith, Option, Result, Ok, Err, refl, sym, ap, ◌∙◌, subst, append_assoc, append-nil, add-zero, inl, inr}
 use Rattle.std.proofs.lemmas.List.{take-append-le}
+use Rattle.std.specs.Prelude.{OnErr}
 use Rattle.cx_base.specs.declared.cluster.Cluster.{Cluster}
 use Rattle.cx_role.specs.Role.{Appending}
 use Rattle.cx_node.specs.declared.doing.Doing.TheVariants.{Begin}
+use Rattle.cx_node.specs.declared.node.RunEnd.{RunEnd}
 use Rattle.cx_node.specs.declared.node.Stop.{Stop}
-use Rattle.cx_node.specs.Acts.{Acts, ActsLong, ActsOnce, Ends}
+use Rattle.cx_node.specs.Acts.{Acts, ActsLong, ActsOnce, Ends, fails_by}
 use Rattle.cx_node.specs.Doing.{Scene}
 use Rattle.cx_node.specs.Guest.{hosted_in}
 use Rattle.cx_node.specs.Hosted.{Hosted, Moved, stays}
-use Rattle.cx_node.specs.Node.{Takes}
+use Rattle.cx_node.specs.Node.{RunsPart, Takes}
 use Rattle.cx_node.specs.Run.{all_do, all_finished, node_run, then_do, turn, turns_from}
-use Rattle.cx_node.proofs.Actions.{acts_before, acts_nothing, acts_then}
+use Rattle.cx_node.proofs.Actions.{acts_before, acts_nothing, acts_then, error_or}
+use Rattle.cx_node.proofs.Done.{does_part_as}
 
 abbrev with_next : Moved (List Hosted) → Moved (List Hosted) → Moved (List Hosted)
 with_next m n = then_do m (λ hs. n)
@@ -99,3 +102,12 @@ module _ {K : Type 0} (gives : Appending K) (c : Cluster) (limit : ℕ) where
   pub stopped_turn : (n : ℕ) (e : Stop) (a b d : Scene K) → n < limit → all_finished (hosted_in b.guests) ≡ false
       → Underway n a b → ActsOnce gives c (λ what. turn c (n + 1) what (hosted_in b.guests)) (Err e) b d → ActsLong gives c limit (Err e) a d
   stopped_turn n e a b d more not_yet u t = let p = turned n (Err e) a b d more not_yet u t in (u.0 ++ t.0 ∷ [], p.0, p.1, tt)
+
+  -- what is said of the turns, under the answer of the whole run
+  pub run_stops : (e : Stop) (r : Result RunEnd Stop) (a b : Scene K) → r ≡ Err e → ActsLong gives c limit (Err e) a b → OnErr r (RunsPart gives (fails_by r) c limit a b)
+  run_stops e r a b is p =
+      let ts = p.0 in
+      let front = p.1.part in
+      let m = node_run c ts (hosted_in a.guests) in
+      subst (λ (x : Result RunEnd Stop). OnErr x (RunsPart gives (fails_by x) c limit a b)) (sym is)
+          (ts, front.0, p.2.most, does_part_as gives (fails_by {T = Unit {0}} (Err e)) (fails_by {T = RunEnd} (Err e)) (λ role f. ap Err (ap (error_or e) f)) c (take front.0 ts) m a b front.1)
