@@ -1,5 +1,5 @@
 -- What a seat's role did is what the seat shows.
-use Rattle.std.proofs.Common.{◌≡◌, ℕ, Bool, List, Option, None, Some, ap, sym, ◌∙◌, refl, inl, subst}
+use Rattle.std.proofs.Common.{◌≡◌, ℕ, List, Option, None, Some, ap, sym, ◌∙◌, refl, inl, subst}
 use Rattle.std.specs.Prelude.{slice_get}
 use Rattle.cx_model.specs.World.{records_of}
 use Rattle.cx_msg.specs.Letter.{Letter}

@@ -1,5 +1,5 @@
 -- One part of a run after another: what both did to the roles, the link and the output.
-use Rattle.std.proofs.Common.{◌≡◌, ℕ, zero, suc, pred, Bool, List, [], ◌∷◌, ◌++◌, length, map, arith, Some, option_map, slice_get, refl, sym, ap, ◌∙◌, subst}
+use Rattle.std.proofs.Common.{◌≡◌, ℕ, zero, suc, pred, List, [], ◌∷◌, ◌++◌, length, map, arith, Some, option_map, slice_get, refl, sym, ap, ◌∙◌, subst}
 use Rattle.std.proofs.KnownBytes.{Appends-nil, Appends-trans}
 use Rattle.std.proofs.lemmas.Option.{none-some, same_Some, slice_get-map}
 use Rattle.cx_base.specs.declared.cluster.Cluster.{Cluster}

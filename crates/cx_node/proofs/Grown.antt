@@ -1,5 +1,5 @@
 -- What keepers were given: one list of records after another, and fronts of both.
-use Rattle.std.proofs.Common.{◌≡◌, ℕ, zero, suc, Bool, List, [], ◌∷◌, ◌++◌, length, take, take_all, le_refl, Option, None, Some, slice_get, refl, sym, ap, ◌∙◌, subst, inl, inr}
+use Rattle.std.proofs.Common.{◌≡◌, ℕ, zero, suc, List, [], ◌∷◌, ◌++◌, length, take, take_all, le_refl, Option, None, Some, slice_get, refl, sym, ap, ◌∙◌, subst, inl, inr}
 use Rattle.std.proofs.lemmas.Option.{none-some}
 use Rattle.cx_model.specs.Lists.{records_append}
 use Rattle.cx_model.specs.World.{records_of}

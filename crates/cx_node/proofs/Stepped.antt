@@ -1,5 +1,5 @@
 -- What a step that failed left its keeper: an append failed only where the step is answered so.
-use Rattle.std.proofs.Common.{◌≡◌, List, Result, Ok, Err, Option, None, Some, ap, refl, sym, ◌∙◌, subst, inl, inr}
+use Rattle.std.proofs.Common.{◌≡◌, List, Result, Err, Some, ap, refl, sym, subst, inl, inr}
 use Rattle.std.specs.Prelude.{IsErrOf, OnErr, slice_get}
 use Rattle.cx_base.specs.declared.role.RoleId.{RoleId}
 use Rattle.cx_base.specs.declared.why.Why.{Why}
@@ -32,4 +32,4 @@ module _ {K D V : Type 0} (gives : Appending K) (before after : Running D V) (ou
       → OnErr r (AppendedPart gives (IsErrOf r Failed) (records_of me (kept_by me outcome.kept)) old new)
   stepped_part r e is stays fails =
       subst (λ (x : Result (Unit {0}) StepFault). OnErr x (AppendedPart gives (IsErrOf x Failed) (records_of me (kept_by me outcome.kept)) old new)) (sym is)
-          (part_as gives (λ (f : e ≡ Failed). ap Err f) (records_of me (kept_by me outcome.kept)) old new (part_of e (λ f. stays (ap Err f)) (λ f. fails (ap Err f))))
+      (part_as gives (λ (f : e ≡ Failed). ap Err f) (records_of me (kept_by me outcome.kept)) old new (part_of e (λ f. stays (ap Err f)) (λ f. fails (ap Err f))))

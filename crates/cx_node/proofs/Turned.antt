@@ -1,5 +1,5 @@
 -- Turns, one after the other, and the end of a run.
-use Rattle.std.proofs.Common.{◌≡◌, ◌⊎◌, ◌<◌, ℕ, suc, ◌+◌, Bool, false, List, [], ◌∷◌, ◌++◌, length, length-append, take, take_at, arith, Option, Result, Ok, Err, refl, sym, ap, ◌∙◌, subst, append_assoc, append-nil, add-zero, inl, inr}
+use Rattle.std.proofs.Common.{◌≡◌, ◌⊎◌, ◌<◌, ℕ, suc, ◌+◌, false, List, [], ◌∷◌, ◌++◌, length, length-append, take, take_at, arith, Option, Result, Ok, Err, refl, sym, ap, ◌∙◌, subst, append_assoc, append-nil, add-zero, inl, inr}
 use Rattle.std.proofs.lemmas.List.{take-append-le}
 use Rattle.std.specs.Prelude.{OnErr}
 use Rattle.cx_base.specs.declared.cluster.Cluster.{Cluster}
@@ -110,4 +110,4 @@ module _ {K : Type 0} (gives : Appending K) (c : Cluster) (limit : ℕ) where
       let front = p.1.part in
       let m = node_run c ts (hosted_in a.guests) in
       subst (λ (x : Result RunEnd Stop). OnErr x (RunsPart gives (fails_by x) c limit a b)) (sym is)
-          (ts, front.0, p.2.most, does_part_as gives (fails_by {T = Unit {0}} (Err e)) (fails_by {T = RunEnd} (Err e)) (λ role f. ap Err (ap (error_or e) f)) c (take front.0 ts) m a b front.1)
+      (ts, front.0, p.2.most, does_part_as gives (fails_by {T = Unit {0}} (Err e)) (fails_by {T = RunEnd} (Err e)) (λ role f. ap Err (ap (error_or e) f)) c (take front.0 ts) m a b front.1)
