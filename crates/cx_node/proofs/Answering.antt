@@ -16,7 +16,7 @@ use Rattle.cx_node.specs.declared.input.Refusal.TheVariants as refusal
 use Rattle.cx_node.specs.Hosting.{HasRun, HostAnswered, HostDid, refused_status}
 use Rattle.cx_node.specs.Input.{input_of, refused_of}
 use Rattle.cx_node.specs.Opening.{IsFirstBad}
-use Rattle.cx_node.specs.Serving.{AllRead, Answered, Completes, EndsWell, IsGood, Outside, Says, TellsBad}
+use Rattle.cx_node.specs.Serving.{AllRead, Answered, Completes, EndsWell, Outside, Says, TellsBad}
 use Rattle.cx_node.proofs.FirstBad.{one_first}
 
 -- what was heard is what the input says, and it is refused for nothing

@@ -172,9 +172,9 @@ module _ {D : Type 0} (seen : D → Option (List ℕ)) (may_leave : D → List �
         grows_zero (records_of (who g.0) ks) (keeper_of g.0) (keeper_of h) k has (grow.1 i g.0 h g.1 at) (has_not_failed o.0 g.0 o.2))
 
     -- where they ran a part of the way, that of each role stands whose append has not failed
-    pub part_still_back : (failing : RoleId → Type 0) → AreOpened seen disk_faults c events told_by held roles guests → GuestsGrowPart (gives seen may_leave moment left_since disk_faults) failing ks guests after
+    pub front_still : (failing : RoleId → Type 0) → AreOpened seen disk_faults c events told_by held roles guests → GuestsGrowPart (gives seen may_leave moment left_since disk_faults) failing ks guests after
         → (role : RoleId) → (failing role → ⊥) → faults_after role ≡ faults role
-    part_still_back failing all grow role never = stands after back role (λ i h k at has name.
+    front_still failing all grow role never = stands after back role (λ i h k at has name.
         let g = get_beside after guests i h (sym steady.count) at in
         let o = all i g.0 g.1 in
         let own : role ≡ who g.0 = sym name ∙ (steady.each i g.0 h g.1 at).0 in

@@ -1,5 +1,5 @@
 -- The first role whose store is none of its own: opening stops at it, and it is one role, bad at one place.
-use Rattle.std.proofs.Common.{◌≡◌, ◌⊎◌, ◌<◌, ◌≤◌, ℕ, arith, true, List, length, take, get_or, Option, None, Some, Bool, Ok, Err, refl, sym, ap, ◌∙◌, subst, inl, inr}
+use Rattle.std.proofs.Common.{◌≡◌, ◌⊎◌, ◌<◌, ◌≤◌, ℕ, arith, true, List, length, take, get_or, Option, None, Some, Bool, Ok, Err, sym, ap, ◌∙◌, subst, inl, inr}
 use Rattle.std.specs.Prelude.{slice_get}
 use Rattle.std.proofs.lemmas.Option.{same_Some, slice_get_cases}
 use Rattle.cx_base.specs.declared.cluster.Cluster.{Cluster}

@@ -29,7 +29,7 @@ use Rattle.cx_node.specs.Opening.{AreOpened, IsBadAs, IsFirstBad, is_durable}
 use Rattle.cx_node.specs.Ports.{bind_of, sendings}
 use Rattle.cx_node.specs.Run.{node_run}
 use Rattle.cx_node.specs.Serving.{Outside, hosts, told_to}
-use Rattle.cx_node.proofs.ClosedStores.{part_still_back, part_stores, ran_still, ran_stores, store_rises}
+use Rattle.cx_node.proofs.ClosedStores.{front_still, part_stores, ran_still, ran_stores, store_rises}
 use Rattle.cx_node.proofs.OpenedRoles.{AreApart, AreTold, get_beside, good_opened, hosts_opened, told_opened}
 use Rattle.cx_node.proofs.SteadySeats.{IsSteady, steady_run}
 use Rattle.cx_node.proofs.StoredRecords.{gives}
@@ -181,7 +181,7 @@ module _ {D : Type 0} (seen : D → Option (List ℕ)) (may_leave : D → List �
       ∙ still role
   stored_so (Err s) is role unsaid =
       let runs = subst (λ a. OnErr a (RunsPart (gives seen may_leave moment left_since disk_faults) (fails_by answer) c turns (scene guests mid old.out) (scene after new.link new.out))) is ran.part in
-      part_still_back seen may_leave moment left_since disk_faults c events old.tells old.held held_mid new.held faults new.stores roles guests told.0 told.2 count after steady back
+      front_still seen may_leave moment left_since disk_faults c events old.tells old.held held_mid new.held faults new.stores roles guests told.0 told.2 count after steady back
       (node_run c runs.0 (hosted_in guests)).kept (fails_by answer) all runs.3.kept role (λ e. unsaid (ap ended_status e))
       ∙ still role
 
