@@ -1,5 +1,5 @@
 -- What a node answered, from what hosting answered over an input that was accepted.
-use Rattle.std.proofs.Common.{◌≡◌, ℕ, true, List, Option, None, Some, refl, sym, ap, ◌∙◌, subst, inr}
+use Rattle.std.proofs.Common.{◌≡◌, ◌⊎◌, ℕ, true, List, Option, None, Some, refl, sym, ap, ◌∙◌, subst, inl, inr}
 use Rattle.std.specs.Prelude.{IfSome}
 use Rattle.std.specs.List.{list_all}
 use Rattle.cx_base.specs.declared.cluster.Cluster.{Cluster}
@@ -9,12 +9,15 @@ use Rattle.cx_base.specs.declared.status.Status.{Status}
 use Rattle.cx_base.specs.declared.status.Status.TheVariants as status
 use Rattle.cx_model.specs.Names.{names_role}
 use Rattle.cx_script.specs.Lines.{Spelled}
+use Rattle.cx_node.specs.declared.input.Heard.{Heard}
 use Rattle.cx_node.specs.declared.input.Heard.TheVariants.{Lines}
 use Rattle.cx_node.specs.declared.input.Refusal.{Refusal}
 use Rattle.cx_node.specs.declared.input.Refusal.TheVariants as refusal
-use Rattle.cx_node.specs.Hosting.{HostAnswered, HostDid}
+use Rattle.cx_node.specs.Hosting.{HasRun, HostAnswered, HostDid, refused_status}
 use Rattle.cx_node.specs.Input.{input_of, refused_of}
-use Rattle.cx_node.specs.Serving.{AllRead, Answered, Completes, EndsWell, IsGood, Outside, Says}
+use Rattle.cx_node.specs.Opening.{IsFirstBad}
+use Rattle.cx_node.specs.Serving.{AllRead, Answered, Completes, EndsWell, Outside, Says, TellsBad}
+use Rattle.cx_node.proofs.FirstBad.{one_first}
 
 -- what was heard is what the input says, and it is refused for nothing
 pub says_heard : (roles : List RoleId) (left : Option (List ℕ)) (c : Cluster) (spelled : Spelled) → IfSome left (λ all. input_of all ≡ Lines c spelled) → spelled.bad ≡ None
@@ -40,15 +43,17 @@ answered_so roles c events turns old new s says reads host = record {
   no_memory = λ e. let h = did status.NoMemory e in inr (c, events, h.0, h.1, says, reads, h.2);
   written = host.written;
   linked = host.linked;
+  stored = host.stored;
 }
   where
     did : (t : Status) → s ≡ t → HostDid roles c events turns old new t
     did t e = subst (HostDid roles c events turns old new) e host.did
 
-not_refused : (roles : List RoleId) (old : Outside) (why : Refusal) → IsGood roles old → IfSome old.left (λ all. refused_of roles (input_of all) ≡ Some why) → ⊥
-not_refused roles old why good refused =
-    let here : refused_of roles (input_of good.all) ≡ Some why = subst (λ o. IfSome o (λ all. refused_of roles (input_of all) ≡ Some why)) good.left refused in
-    none_some (sym good.accepted ∙ here)
+not_refused : (roles : List RoleId) (left : Option (List ℕ)) (why : Refusal) (all : List ℕ) → left ≡ Some all → refused_of roles (input_of all) ≡ None
+    → IfSome left (λ all. refused_of roles (input_of all) ≡ Some why) → ⊥
+not_refused roles left why all known accepted refused =
+    let here : refused_of roles (input_of all) ≡ Some why = subst (λ o. IfSome o (λ all. refused_of roles (input_of all) ≡ Some why)) known refused in
+    none_some (sym accepted ∙ here)
   where
     none_some : {x : Refusal} → None ≡ Some x → ⊥
     none_some e = cc
@@ -61,10 +66,64 @@ completes_so roles turns old new s is whole good = go s refl
     go status.Done e = tt
     go status.Turns e = tt
     go status.NoMemory e = tt
-    go status.BadWords e = absurd (not_refused roles old refusal.BadWords good (is.bad_words e).0)
-    go (status.BadInput line) e = absurd (not_refused roles old (refusal.BadInput line) good (is.bad_input line e).0)
+    go status.BadWords e = absurd (not_refused roles old.left refusal.BadWords good.all good.left good.accepted (is.bad_words e).0)
+    go (status.BadInput line) e = absurd (not_refused roles old.left (refusal.BadInput line) good.all good.left good.accepted (is.bad_input line e).0)
     go status.ReadFault e = absurd (whole.reads (is.read_fault e).0)
     go status.LinkFault e = absurd (whole.links (is.link_fault e).0)
     go status.WriteFault e = absurd (whole.writes (is.write_fault e).0)
     go (status.StoreFault role) e = absurd (whole.stores role (is.store_fault role e).0)
-    go (status.BadStore role at) e = let p = is.bad_place role at e good.tells in absurd (good.stores p.0 p.1 role at p.2 p.3)
+    go (status.BadStore role at) e = let p = is.bad_place role at e good.tells in absurd (good.stores p.0 p.1 role at p.2 p.3.bad)
+
+-- ---- stores that are none of their roles'
+
+-- a whole input says one cluster
+one_cluster : (roles : List RoleId) (left : Option (List ℕ)) (all : List ℕ) (c d : Cluster) (events more : List Event) → left ≡ Some all → Says roles left c events → Says roles left d more → c ≡ d
+one_cluster roles left all c d events more known one two = same_cluster (sym (says c events one).0 ∙ (says d more two).0)
+  where
+    says : (e : Cluster) (es : List Event) → Says roles left e es → (input_of all ≡ Lines e (record { events = es; bad = None })) × (refused_of roles (input_of all) ≡ None)
+    says e es so = subst (λ o. Says roles o e es) known so
+
+    same_cluster : ◌≡◌ {A = Heard} (Lines c (record { events = events; bad = None })) (Lines d (record { events = more; bad = None })) → c ≡ d
+    same_cluster e = cc
+
+-- what is answered where the whole input is known and the store of a hosted role is none of its own
+pub tells_bad_so : (roles : List RoleId) (c : Cluster) (events : List Event) (turns : ℕ) (old new : Outside) (s : Status) → Says roles old.left c events → HostAnswered roles c events turns old new s
+    → (all : List ℕ) → old.left ≡ Some all → TellsBad roles old new s
+tells_bad_so roles c events turns old new s says host all known whole tells d more role at said bad = go s refl
+  where
+    first : IsFirstBad roles c old.held role at
+    first = subst (λ e. IsFirstBad roles e old.held role at) (one_cluster roles old.left all d c more events known said says) bad
+
+    did : (t : Status) → s ≡ t → HostDid roles c events turns old new t
+    did t e = subst (HostDid roles c events turns old new) e host.did
+
+    not_run : (t : Status) → s ≡ t → HasRun t → ⊥
+    not_run t e run = host.good (subst HasRun (sym e) run) tells first.place role at first.here first.bad
+
+    go : (t : Status) → s ≡ t → (s ≡ status.BadStore role at) ⊎ (s ≡ status.NoMemory)
+    go status.Done e = absurd (not_run status.Done e tt)
+    go status.Turns e = absurd (not_run status.Turns e tt)
+    go status.NoMemory e = inr e
+    go status.BadWords e = absurd (did status.BadWords e)
+    go (status.BadInput line) e = absurd (did (status.BadInput line) e)
+    go status.ReadFault e = absurd (did status.ReadFault e)
+    go status.LinkFault e = absurd (whole.links (did status.LinkFault e).1)
+    go status.WriteFault e = absurd (whole.writes (did status.WriteFault e).1)
+    go (status.StoreFault other) e = absurd (whole.stores other (did (status.StoreFault other) e).1)
+    go (status.BadStore other place) e =
+        let one = one_first roles c old.held other role place at ((did (status.BadStore other place) e).1 tells) first in
+        inl (e ∙ ap (λ r. status.BadStore r place) one.0 ∙ ap (λ n. status.BadStore role n) one.1)
+
+-- the same where the input was refused
+pub refused_tells_bad : (roles : List RoleId) (turns : ℕ) (old new : Outside) (why : Refusal) → Answered roles turns old new (refused_status why)
+    → (all : List ℕ) → old.left ≡ Some all → TellsBad roles old new (refused_status why)
+refused_tells_bad roles turns old new why is all known whole tells c events role at said bad = go why is
+  where
+    accepted : refused_of roles (input_of all) ≡ None
+    accepted = (subst (λ o. Says roles o c events) known said).1
+
+    go : (why : Refusal) → Answered roles turns old new (refused_status why) → (refused_status why ≡ status.BadStore role at) ⊎ (refused_status why ≡ status.NoMemory)
+    go refusal.NoMemory so = inr refl
+    go refusal.ReadFault so = absurd (whole.reads (so.read_fault refl).0)
+    go (refusal.BadInput line) so = absurd (not_refused roles old.left (refusal.BadInput line) all known accepted (so.bad_input line refl).0)
+    go refusal.BadWords so = absurd (not_refused roles old.left refusal.BadWords all known accepted (so.bad_words refl).0)

@@ -51,6 +51,18 @@ module _ {D S : Type 0} (shown : Shown D S) where
   others_all (g ∷ gs) old new (mid, first, rest) a other =
       others_all gs mid new rest a (λ i. other (suc i)) ∙ others_once (who g) (keeper_of g) old mid first a (λ j. other 0 g j refl)
 
+  counts_once : (role : RoleId) (k : Option (JournalState S)) (old new : D) → GivesBack shown role k old new
+      → (a : RoleId) → ((j : JournalState S) → k ≡ Some j → role ≡ a → ⊥) → shown.faults new a ≡ shown.faults old a
+  counts_once role None old new same a other = ap (λ (d : D). shown.faults d a) same
+  counts_once role (Some j) old new back a other = back.others a (λ e. other j refl (sym e))
+
+  pub counts_all : (gs : List (Guest (JournalState S))) (old new : D) → GiveBack shown gs old new
+      → (a : RoleId) → ((i : ℕ) (g : Guest (JournalState S)) (j : JournalState S) → slice_get gs i ≡ Some g → keeper_of g ≡ Some j → who g ≡ a → ⊥)
+      → shown.faults new a ≡ shown.faults old a
+  counts_all [] old new same a other = ap (λ (d : D). shown.faults d a) same
+  counts_all (g ∷ gs) old new (mid, first, rest) a other =
+      counts_all gs mid new rest a (λ i. other (suc i)) ∙ counts_once (who g) (keeper_of g) old mid first a (λ j. other 0 g j refl)
+
   held_once : (role : RoleId) (k : Option (JournalState S)) (old new : D) → GivesBack shown role k old new → shown.tells old ≡ true
       → (j : JournalState S) (file : List ℕ) → k ≡ Some j → shown.seen j.disk ≡ Some file → shown.held new role ≡ file
   held_once role None old new same tells j file is holds = cc
@@ -81,6 +93,29 @@ module _ {D S : Type 0} (shown : Shown D S) where
       one x y e = cc
   held_all (h ∷ gs) old new (mid, first, rest) distinct tells (suc i) g j file at keeps holds =
       held_all gs mid new rest (λ m n a b x y e. less_one m n (distinct (suc m) (suc n) a b x y e)) (told_once (who h) (keeper_of h) old mid first ∙ tells) i g j file at keeps holds
+
+  still_once : (role : RoleId) (k : Option (JournalState S)) (old new : D) → GivesBack shown role k old new
+      → (j : JournalState S) → k ≡ Some j → shown.failures j.disk ≡ 0 → shown.faults new role ≡ shown.faults old role
+  still_once role None old new same j is none = ap (λ (d : D). shown.faults d role) same
+  still_once role (Some k) old new back j is none = back.still (subst (λ (x : JournalState S). shown.failures x.disk ≡ 0) (sym (one k j is)) none)
+    where
+      one : (x y : JournalState S) → Some x ≡ Some y → x ≡ y
+      one x y e = cc
+
+  pub still_all : (gs : List (Guest (JournalState S))) (old new : D) → GiveBack shown gs old new → AreDistinct (hosted_in gs)
+      → (i : ℕ) (g : Guest (JournalState S)) (j : JournalState S) → slice_get gs i ≡ Some g → keeper_of g ≡ Some j → shown.failures j.disk ≡ 0
+      → shown.faults new (who g) ≡ shown.faults old (who g)
+  still_all [] old new same distinct i g j at keeps none = cc
+  still_all (h ∷ gs) old new (mid, first, rest) distinct zero g j at keeps none =
+      subst (λ (x : Guest (JournalState S)). shown.faults new (who x) ≡ shown.faults old (who x)) (one h g at)
+      (counts_all gs mid new rest (who h) (λ k x y is has same. zero_is_suc k (distinct zero (suc k) (hosted_of h) (hosted_of x) refl (hosted_at gs k x is) (sym same)))
+      ∙ still_once (who h) (keeper_of h) old mid first j (ap keeper_of (one h g at) ∙ keeps) none)
+    where
+      one : (x y : Guest (JournalState S)) → Some x ≡ Some y → x ≡ y
+      one x y e = cc
+  still_all (h ∷ gs) old new (mid, first, rest) distinct (suc i) g j at keeps none =
+      still_all gs mid new rest (λ m n a b x y e. less_one m n (distinct (suc m) (suc n) a b x y e)) i g j at keeps none
+      ∙ counts_once (who h) (keeper_of h) old mid first (who g) (λ k has same. zero_is_suc i (distinct zero (suc i) (hosted_of h) (hosted_of g) refl (hosted_at gs i g at) same))
 
   cause_once : (role : RoleId) (k : Option (JournalState S)) (old new : D) → GivesBack shown role k old new
       → (j : JournalState S) → k ≡ Some j → Rises 0 (shown.failures j.disk) → Rises (shown.faults old role) (shown.faults new role)

@@ -21,6 +21,7 @@ mod GivenBack
 pub mod AnyKind
 pub mod StoredRecords
 pub mod OpenedRoles
+pub mod FirstBad
 pub mod SteadySeats
 pub mod ClosedStores
 pub mod HostedRuns

@@ -1,5 +1,5 @@
 -- Roles that were opened: they are who they were named to be, they may run, and what was told to each.
-use Rattle.std.proofs.Common.{◌≡◌, ℕ, zero, suc, arith, Bool, true, false, List, [], ◌∷◌, length, map, Option, None, Some, option_map, refl, sym, ap, ◌∙◌, subst, if◌then◌else◌}
+use Rattle.std.proofs.Common.{◌≡◌, ℕ, zero, suc, arith, Bool, true, false, List, [], ◌∷◌, length, map, Option, None, Some, option_map, Ok, Err, refl, sym, ap, ◌∙◌, subst, inl, inr, if◌then◌else◌}
 use Rattle.std.specs.Prelude.{slice_get, IsTrue}
 use Rattle.std.specs.List.{list_all}
 use Rattle.std.proofs.lemmas.Option.{none-some, same_Some}
@@ -9,16 +9,23 @@ use Rattle.cx_base.specs.declared.role.Kind.{Kind}
 use Rattle.cx_base.specs.declared.role.Kind.TheVariants.{Client, Batcher, Leader, Proxy, Acceptor, Matchmaker, Replica, Unbatcher, Reader}
 use Rattle.cx_base.specs.declared.role.RoleId.{RoleId}
 use Rattle.cx_base.specs.Role.{same_role}
+use Rattle.cx_journal.specs.Image.{Image, image}
 use Rattle.cx_journal.specs.State.{JournalState, records_or_none}
 use Rattle.cx_journal.proofs.Payloads.{both_so}
+use Rattle.cx_model.specs.Acceptor.{acceptor_rules}
+use Rattle.cx_model.specs.Leader.{leader_rules}
 use Rattle.cx_model.specs.Lists.{by_role, differ_role, same_role-itself}
+use Rattle.cx_model.specs.Matchmaker.{matchmaker_rules}
 use Rattle.cx_model.specs.Names.{names_role}
+use Rattle.cx_model.specs.Replica.{replica_rules}
+use Rattle.cx_model.specs.Rules.{Rules, refused}
 use Rattle.cx_msg.specs.declared.kept.Record.{Record}
 use Rattle.cx_node.specs.declared.guest.Guest.{Guest}
 use Rattle.cx_node.specs.Guest.{AreDistinct, AreReady, hosted_in, hosted_of, keeper_of, who}
 use Rattle.cx_node.specs.Hosted.{Hosted, is_live, name_of}
-use Rattle.cx_node.specs.Opening.{AreOpened, HasJournal, HasRecords, IsOpened, is_durable, opened_as}
+use Rattle.cx_node.specs.Opening.{AreOpened, HasJournal, HasRecords, IsBadAs, IsOpened, is_durable, opened_as, refused_as}
 use Rattle.cx_node.specs.Serving.{hosts, told_to}
+use Rattle.cx_node.specs.Wake.{IsBadStore}
 
 -- ---- places in two lists
 
@@ -70,28 +77,61 @@ live_opened c events me records Replica = refl
 live_opened c events me records Unbatcher = refl
 live_opened c events me records Reader = refl
 
-module _ {D : Type 0} (seen : D → Option (List ℕ)) (tells : Bool) where
-  has_journal : (records : List Record) (b : Bool) (o : Option (JournalState D)) → b ≡ true → HasJournal seen tells records b o → (j : JournalState D) × (o ≡ Some j) × HasRecords seen tells records j
+-- ---- stores of their own
+
+-- one that is read, and refused for no record, is none at no place
+good_store : {D V : Type 0} (rules : Rules D V) (c : Cluster) (me : RoleId) (file : List ℕ) (records : List Record) (at : ℕ) → image (Some me.kind) file ≡ Ok records → refused rules c me records ≡ None
+    → IsBadStore rules c me file at → ⊥
+good_store rules c me file records at read accepted (inl broken) = ok_is_err (sym read ∙ broken)
+  where
+    ok_is_err : ◌≡◌ {A = Image} (Ok records) (Err at) → ⊥
+    ok_is_err e = cc
+good_store rules c me file records at read accepted (inr bad) =
+    let same : records ≡ bad.0 = same_records records bad.0 (sym read ∙ bad.1) in
+    none-some bad.2 (sym accepted ∙ ap (refused rules c me) same ∙ bad.3)
+  where
+    same_records : (rs ts : List Record) → ◌≡◌ {A = Image} (Ok rs) (Ok ts) → rs ≡ ts
+    same_records rs ts e = cc
+
+-- the same of a role of any kind
+pub good_as : (c : Cluster) (me : RoleId) (file : List ℕ) (records : List Record) (at : ℕ) (k : Kind) → (is_durable k ≡ true → image (Some me.kind) file ≡ Ok records) → refused_as c me records k ≡ None
+    → IsBadAs c me file at k → ⊥
+good_as c me file records at Client read accepted bad = bad
+good_as c me file records at Batcher read accepted bad = bad
+good_as c me file records at Leader read accepted bad = good_store leader_rules c me file records at (read refl) accepted bad
+good_as c me file records at Proxy read accepted bad = bad
+good_as c me file records at Acceptor read accepted bad = good_store acceptor_rules c me file records at (read refl) accepted bad
+good_as c me file records at Matchmaker read accepted bad = good_store matchmaker_rules c me file records at (read refl) accepted bad
+good_as c me file records at Replica read accepted bad = good_store replica_rules c me file records at (read refl) accepted bad
+good_as c me file records at Unbatcher read accepted bad = bad
+good_as c me file records at Reader read accepted bad = bad
+
+module _ {D : Type 0} (seen : D → Option (List ℕ)) (disk_faults : D → ℕ) (tells : Bool) where
+  has_journal : (records : List Record) (b : Bool) (o : Option (JournalState D)) → b ≡ true → HasJournal seen disk_faults tells records b o → (j : JournalState D) × (o ≡ Some j) × HasRecords seen disk_faults tells records j
   has_journal records true None durable has = absurd has
   has_journal records true (Some j) durable has = (j, refl, has)
   has_journal records false o durable has = cc
 
-  pub has_records : (records : List Record) (b : Bool) (o : Option (JournalState D)) (j : JournalState D) → o ≡ Some j → HasJournal seen tells records b o → HasRecords seen tells records j
+  pub has_records : (records : List Record) (b : Bool) (o : Option (JournalState D)) (j : JournalState D) → o ≡ Some j → HasJournal seen disk_faults tells records b o → HasRecords seen disk_faults tells records j
   has_records records b None j e has = absurd (none-some j e)
-  has_records records true (Some k) j e has = subst (HasRecords seen tells records) (same_Some k j e) has
+  has_records records true (Some k) j e has = subst (HasRecords seen disk_faults tells records) (same_Some k j e) has
   has_records records false (Some k) j e has = absurd has
 
-module _ {D : Type 0} (seen : D → Option (List ℕ)) (c : Cluster) (events : List Event) (tells : Bool) (held : RoleId → List ℕ) where
-  pub name_is : (me : RoleId) (guest : Guest (JournalState D)) → IsOpened seen c events tells (held me) me guest → who guest ≡ me
+module _ {D : Type 0} (seen : D → Option (List ℕ)) (disk_faults : D → ℕ) (c : Cluster) (events : List Event) (tells : Bool) (held : RoleId → List ℕ) where
+  pub name_is : (me : RoleId) (guest : Guest (JournalState D)) → IsOpened seen disk_faults c events tells (held me) me guest → who guest ≡ me
   name_is me guest o = ap name_of o.hosted ∙ name_opened c events me o.records me.kind
 
-  pub keeps_journal : (me : RoleId) (guest : Guest (JournalState D)) (o : IsOpened seen c events tells (held me) me guest) → is_durable me.kind ≡ true
-      → (j : JournalState D) × (keeper_of guest ≡ Some j) × HasRecords seen tells o.records j
-  keeps_journal me guest o durable = has_journal seen tells o.records (is_durable me.kind) (keeper_of guest) durable o.journal
+  pub keeps_journal : (me : RoleId) (guest : Guest (JournalState D)) (o : IsOpened seen disk_faults c events tells (held me) me guest) → is_durable me.kind ≡ true
+      → (j : JournalState D) × (keeper_of guest ≡ Some j) × HasRecords seen disk_faults tells o.records j
+  keeps_journal me guest o durable = has_journal seen disk_faults tells o.records (is_durable me.kind) (keeper_of guest) durable o.journal
+
+  -- the store of a role that was opened is its own
+  pub good_opened : (me : RoleId) (guest : Guest (JournalState D)) (at : ℕ) → IsOpened seen disk_faults c events tells (held me) me guest → tells ≡ true → IsBadAs c me (held me) at me.kind → ⊥
+  good_opened me guest at o t bad = good_as c me (held me) o.records at me.kind (o.read t) o.accepted bad
 
   -- ---- all roles
 
-  pub distinct_opened : (roles : List RoleId) (guests : List (Guest (JournalState D))) → AreApart roles → AreOpened seen c events tells held roles guests → AreDistinct (hosted_in guests)
+  pub distinct_opened : (roles : List RoleId) (guests : List (Guest (JournalState D))) → AreApart roles → AreOpened seen disk_faults c events tells held roles guests → AreDistinct (hosted_in guests)
   distinct_opened roles guests apart all i j a b here there same =
       let g = get_map hosted_of guests i a here in
       let h = get_map hosted_of guests j b there in
@@ -101,7 +141,7 @@ module _ {D : Type 0} (seen : D → Option (List ℕ)) (c : Cluster) (events : L
       apart i j p.0 (o.1 ∙ ap Some name) p.1
 
   pub ready_opened : (roles : List RoleId) (guests : List (Guest (JournalState D))) → AreApart roles → ((i : ℕ) (me : RoleId) → slice_get roles i ≡ Some me → IsTrue (names_role c me))
-      → AreOpened seen c events tells held roles guests → AreReady c guests
+      → AreOpened seen disk_faults c events tells held roles guests → AreReady c guests
   ready_opened roles guests apart named all = record {
     each = λ i h at. let o = all i h at in record {
       live = subst IsTrue (sym (ap is_live o.2.hosted ∙ live_opened c events o.0 o.2.records o.0.kind)) refl;
@@ -112,7 +152,7 @@ module _ {D : Type 0} (seen : D → Option (List ℕ)) (c : Cluster) (events : L
 
   -- these records were told to a role as it was opened
   abbrev pub IsOpenedFrom : List Record → RoleId → Guest (JournalState D) → Type 0
-  IsOpenedFrom records me guest = (o : IsOpened seen c events tells (held me) me guest) × (o.records ≡ records)
+  IsOpenedFrom records me guest = (o : IsOpened seen disk_faults c events tells (held me) me guest) × (o.records ≡ records)
 
   -- each role of a list was opened from what was told to it
   abbrev pub AreOpenedFrom : (RoleId → List Record) → List RoleId → List (Guest (JournalState D)) → Type 0
@@ -126,7 +166,7 @@ module _ {D : Type 0} (seen : D → Option (List ℕ)) (c : Cluster) (events : L
   AreTold roles guests = (told : RoleId → List Record) × (tells ≡ true → (me : RoleId) → is_durable me.kind ≡ true → told me ≡ told_to held me) × AreOpenedFrom told roles guests
 
   told_more : (r : RoleId) (rs : List RoleId) (g : Guest (JournalState D)) (gs : List (Guest (JournalState D))) → AreApart (r ∷ rs)
-      → IsOpened seen c events tells (held r) r g → AreTold rs gs → AreTold (r ∷ rs) (g ∷ gs)
+      → IsOpened seen disk_faults c events tells (held r) r g → AreTold rs gs → AreTold (r ∷ rs) (g ∷ gs)
   told_more r rs g gs apart first rest = (told, is_told, from)
     where
       told : RoleId → List Record
@@ -149,12 +189,12 @@ module _ {D : Type 0} (seen : D → Option (List ℕ)) (c : Cluster) (events : L
           let same : told me ≡ rest.0 me = rw other refl in
           subst (λ rs. IsOpenedFrom rs me guest) (sym same) (rest.2 i me guest a b)
 
-  pub told_opened : (roles : List RoleId) (guests : List (Guest (JournalState D))) → AreApart roles → AreOpened seen c events tells held roles guests → AreTold roles guests
+  pub told_opened : (roles : List RoleId) (guests : List (Guest (JournalState D))) → AreApart roles → AreOpened seen disk_faults c events tells held roles guests → AreTold roles guests
   told_opened roles [] apart all = (told_to held, (λ t me d. refl), λ i me guest a b. absurd (none-some guest b))
   told_opened [] (g ∷ gs) apart all = let o = all 0 g refl in absurd (none-some o.0 o.1)
   told_opened (r ∷ rs) (g ∷ gs) apart all =
       let one = all 0 g refl in
-      told_more r rs g gs apart (subst (λ me. IsOpened seen c events tells (held me) me g) (sym (same_Some r one.0 one.1)) one.2)
+      told_more r rs g gs apart (subst (λ me. IsOpened seen disk_faults c events tells (held me) me g) (sym (same_Some r one.0 one.1)) one.2)
       (told_opened rs gs (λ i j me a b. let e = apart (suc i) (suc j) me a b in omega (arith, e)) (λ i. all (suc i)))
 
   pub hosts_opened : (told : RoleId → List Record) (roles : List RoleId) (guests : List (Guest (JournalState D))) → length guests ≡ length roles → AreOpenedFrom told roles guests

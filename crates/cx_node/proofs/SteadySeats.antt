@@ -13,6 +13,7 @@ use Rattle.cx_role.specs.Role.{Appending}
 use Rattle.cx_node.specs.declared.guest.Guest.{Guest}
 use Rattle.cx_node.specs.declared.node.RunEnd.{RunEnd}
 use Rattle.cx_node.specs.declared.node.Stop.{Stop}
+use Rattle.cx_node.specs.Acts.{fails_by}
 use Rattle.cx_node.specs.Doing.{GuestsGrowPart, Scene}
 use Rattle.cx_node.specs.Guest.{AreDistinct, Grows, GrowsPart, GuestGrowsPart, hosted_in, hosted_of, keeper_of, who}
 use Rattle.cx_node.specs.Hosted.{name_of}
@@ -49,28 +50,28 @@ distinct_steady old new steady distinct i j a b here there same =
     distinct i j (hosted_of o.0) (hosted_of p.0) (map_get hosted_of old i o.0 o.1) (map_get hosted_of old j p.0 p.1)
     (sym (steady.each i o.0 g.0 o.1 g.1).0 ∙ ap name_of (sym g.2) ∙ same ∙ ap name_of h.2 ∙ (steady.each j p.0 h.0 p.1 h.1).0)
 
-module _ {K : Type 0} (gives : Appending K) (kept : K → List Record) (tells : K → Bool) where
+module _ {K : Type 0} (gives : Appending K) where
   grows_stays : (rs : List Record) (o p : Option K) → Grows gives rs o p → is_some p ≡ is_some o
   grows_stays rs None None g = refl
   grows_stays rs None (Some k) g = absurd g
   grows_stays rs (Some k) None g = absurd g
   grows_stays rs (Some j) (Some k) g = refl
 
-  part_stays : (rs : List Record) (o p : Option K) → GrowsPart gives kept tells rs o p → is_some p ≡ is_some o
-  part_stays rs None None g = refl
-  part_stays rs None (Some k) g = absurd g
-  part_stays rs (Some k) None g = absurd g
-  part_stays rs (Some j) (Some k) g = refl
+  part_stays : (may_fail : Type 0) (rs : List Record) (o p : Option K) → GrowsPart gives may_fail rs o p → is_some p ≡ is_some o
+  part_stays may_fail rs None None g = refl
+  part_stays may_fail rs None (Some k) g = absurd g
+  part_stays may_fail rs (Some k) None g = absurd g
+  part_stays may_fail rs (Some j) (Some k) g = refl
 
-  pub steady_part : (ks : List KeptRecord) (old new : List (Guest K)) → GuestsGrowPart gives kept tells ks old new → IsSteady old new
-  steady_part ks old new grow = record {
+  pub steady_part : (failing : RoleId → Type 0) (ks : List KeptRecord) (old new : List (Guest K)) → GuestsGrowPart gives failing ks old new → IsSteady old new
+  steady_part failing ks old new grow = record {
     count = grow.0;
-    each = λ i g h a b. let one = grow.1 i g h a b in (one.name, part_stays (records_of (who g) ks) (keeper_of g) (keeper_of h) one.grows);
+    each = λ i g h a b. let one = grow.1 i g h a b in (one.name, part_stays (failing (who g)) (records_of (who g) ks) (keeper_of g) (keeper_of h) one.grows);
   }
 
   -- a run leaves all of it
   pub steady_run : (c : Cluster) (turns : ℕ) (answer : Result RunEnd Stop) (old new : Scene K) → IfOk answer (λ e. Runs gives c turns e old new) → OnOk answer (map who new.guests ≡ map who old.guests)
-      → OnErr answer (RunsPart gives kept tells c turns old new) → IsSteady old.guests new.guests
+      → OnErr answer (RunsPart gives (fails_by answer) c turns old new) → IsSteady old.guests new.guests
   steady_run c turns (Ok e) old new done names part =
       let grow = done.1.kept in
       record {
@@ -81,23 +82,23 @@ module _ {K : Type 0} (gives : Appending K) (kept : K → List Record) (tells : 
         );
       }
   steady_run c turns (Err s) old new done names part =
-      steady_part (node_run c part.0 (hosted_in old.guests)).kept old.guests new.guests part.3.kept
+      steady_part (fails_by {T = RunEnd} (Err s)) (node_run c part.0 (hosted_in old.guests)).kept old.guests new.guests part.3.kept
 
-  none_kept : (rs : List Record) (o : Option K) → GrowsPart gives kept tells rs o o
-  none_kept rs None = tt
-  none_kept rs (Some k) = record { count = 0; mid = k; front = refl; stop = inl (refl, refl) }
+  none_kept : (may_fail : Type 0) (rs : List Record) (o : Option K) → GrowsPart gives may_fail rs o o
+  none_kept may_fail rs None = tt
+  none_kept may_fail rs (Some k) = record { count = 0; mid = k; front = refl; stop = inl (inl refl) }
 
   -- nothing is a front of every run
-  pub runs_none : (c : Cluster) (turns : ℕ) (s : Scene K) → RunsPart gives kept tells c turns s s
-  runs_none c turns s = (
+  pub runs_none : (failing : RoleId → Type 0) (c : Cluster) (turns : ℕ) (s : Scene K) → RunsPart gives failing c turns s s
+  runs_none failing c turns s = (
     [],
     0,
     omega arith,
     record {
       kept = (
         refl,
-        λ i g h a b. subst (λ x. GuestGrowsPart gives kept tells (node_run c [] (hosted_in s.guests)).kept g x) (same_Some g h (sym a ∙ b))
-            (record { grows = none_kept (records_of (who g) (node_run c [] (hosted_in s.guests)).kept) (keeper_of g); name = refl }),
+        λ i g h a b. subst (λ x. GuestGrowsPart gives (failing (who g)) (node_run c [] (hosted_in s.guests)).kept g x) (same_Some g h (sym a ∙ b))
+            (record { grows = none_kept (failing (who g)) (records_of (who g) (node_run c [] (hosted_in s.guests)).kept) (keeper_of g); name = refl }),
       );
       sent = (0, λ h e. (h, e, asks_none h));
       printed = (0, Appends-nil s.out);

@@ -23,6 +23,7 @@ pub record IsGivenBack {D S : Type 0} (shown : Shown D S) (role : RoleId) (store
   pub held : shown.tells old ≡ true → (file : List ℕ) → shown.seen store ≡ Some file → shown.held new role ≡ file
   pub others_held : (a : RoleId) → (a ≡ role → ⊥) → shown.held new a ≡ shown.held old a
   pub cause : Rises 0 (shown.failures store) → Rises (shown.faults old role) (shown.faults new role)
+  pub still : shown.failures store ≡ 0 → shown.faults new role ≡ shown.faults old role
   pub others : (a : RoleId) → (a ≡ role → ⊥) → shown.faults new a ≡ shown.faults old a
   pub later : shown.faults old role ≤ shown.faults new role
 

@@ -130,6 +130,7 @@ fn open_guest<D: Depot>(
     ensures held { D.tells depot.old ≡ true → (who : RoleId) → told_records (Some (D.held depot.new who)) ≡ told_records (Some (D.held depot.old who)) }
     ensures later { (who : RoleId) → D.faults depot.old who ≤ D.faults depot.new who }
     ensures bad { (role : RoleId) (at : ℕ) → result ≡ Err (open_stop.BadStore role at) → D.tells depot.old ≡ true → IsBadAs cluster.now role (D.held depot.old role) at role.kind }
+    ensures own { (role : RoleId) (at : ℕ) → result ≡ Err (open_stop.BadStore role at) → role ≡ me }
     ensures others { (who : RoleId) → (result ≡ Err (open_stop.StoreFault who) → ⊥) → D.faults depot.new who ≡ D.faults depot.old who }
     ensures failed { (role : RoleId) → result ≡ Err (open_stop.StoreFault role) → Rises (D.faults depot.old role) (D.faults depot.new role) }
 {

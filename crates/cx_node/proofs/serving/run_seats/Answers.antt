@@ -1,7 +1,8 @@
-use Rattle.std.proofs.Common.{◌∙◌, is_some, Err, refl, sym, ap, subst}
+use Rattle.std.proofs.Common.{◌∙◌, Err, refl, sym, ap, subst}
 use Rattle.cx_journal.specs.Appends.{IsJournalAppend}
-use Rattle.cx_journal.specs.State.{told_records}
+use Rattle.cx_node.specs.declared.node.RunEnd.{RunEnd}
 use Rattle.cx_node.specs.declared.node.Stop.TheVariants as stop
+use Rattle.cx_node.specs.Acts.{fails_by}
 use Rattle.cx_node.specs.Doing.{scene}
 use Rattle.cx_node.specs.Guest.{AreDistinct, hosted_in}
 use Rattle.cx_node.specs.Hosting.{GivesBack, Ran}
@@ -13,7 +14,7 @@ pub close_seats-requires-clause-out : goal.close_seats-requires-clause-out
 close_seats-requires-clause-out g c =
     let disk = g.D.Store.Disk in
     let run = c.run-end.ensures in
-    let steady = steady_run (IsJournalAppend disk.seen disk.may_leave disk.moment disk.left_since disk.faults) (λ j. told_records (disk.seen j.disk)) (λ j. is_some (disk.seen j.disk))
+    let steady = steady_run (IsJournalAppend disk.seen disk.may_leave disk.moment disk.left_since disk.faults)
     c.in-Ok.node.cluster c.args.turns c.run-end.result (scene c.in-Ok.node.guests (g.L.Link.told c.args.link.now) (g.W.Sink.taken c.args.out.now))
     (scene c.run-end.new.self.guests (g.L.Link.told c.run-end.new.link) (g.W.Sink.taken c.run-end.new.out)) run.done run.names run.part in
     c.requires.lent ∙ ap (λ n. lent_to n.guests) (sym c.in-Ok.ensures.node) ∙ sym (lent_steady c.in-Ok.node.guests c.run-end.new.self.guests steady) ∙ ap lent_to (sym c.into_seats.ensures)
@@ -22,7 +23,7 @@ pub close_seats-requires-clause-distinct : goal.close_seats-requires-clause-dist
 close_seats-requires-clause-distinct g c =
     let disk = g.D.Store.Disk in
     let run = c.run-end.ensures in
-    let steady = steady_run (IsJournalAppend disk.seen disk.may_leave disk.moment disk.left_since disk.faults) (λ j. told_records (disk.seen j.disk)) (λ j. is_some (disk.seen j.disk))
+    let steady = steady_run (IsJournalAppend disk.seen disk.may_leave disk.moment disk.left_since disk.faults)
     c.in-Ok.node.cluster c.args.turns c.run-end.result (scene c.in-Ok.node.guests (g.L.Link.told c.args.link.now) (g.W.Sink.taken c.args.out.now))
     (scene c.run-end.new.self.guests (g.L.Link.told c.run-end.new.link) (g.W.Sink.taken c.run-end.new.out)) run.done run.names run.part in
     subst (λ hs. AreDistinct (hosted_in hs)) (sym c.into_seats.ensures)
@@ -39,14 +40,14 @@ returns-in-Ok-clause-ran g c =
       c.into_seats.result.items,
       c.run-end.result,
       c.ended.ensures,
-      subst (λ hs. Ran (IsJournalAppend disk.seen disk.may_leave disk.moment disk.left_since disk.faults) (λ j. told_records (disk.seen j.disk)) (λ j. is_some (disk.seen j.disk)) c.args.cluster.now c.args.turns c.run-end.result
+      subst (λ hs. Ran (IsJournalAppend disk.seen disk.may_leave disk.moment disk.left_since disk.faults) c.args.cluster.now c.args.turns c.run-end.result
           (scene c.args.seats.items (g.L.Link.told c.args.link.now) (g.W.Sink.taken c.args.out.now)) (scene hs (g.L.Link.told c.run-end.new.link) (g.W.Sink.taken c.run-end.new.out))
           (g.L.Link.faults c.args.link.now) (g.L.Link.faults c.run-end.new.link) (g.W.Sink.faults c.args.out.now) (g.W.Sink.faults c.run-end.new.out)) (sym c.into_seats.ensures)
-          (subst (λ n. Ran (IsJournalAppend disk.seen disk.may_leave disk.moment disk.left_since disk.faults) (λ j. told_records (disk.seen j.disk)) (λ j. is_some (disk.seen j.disk)) n.cluster c.args.turns c.run-end.result
+          (subst (λ n. Ran (IsJournalAppend disk.seen disk.may_leave disk.moment disk.left_since disk.faults) n.cluster c.args.turns c.run-end.result
           (scene n.guests (g.L.Link.told c.args.link.now) (g.W.Sink.taken c.args.out.now)) (scene c.run-end.new.self.guests (g.L.Link.told c.run-end.new.link) (g.W.Sink.taken c.run-end.new.out))
           (g.L.Link.faults c.args.link.now) (g.L.Link.faults c.run-end.new.link) (g.W.Sink.faults c.args.out.now) (g.W.Sink.faults c.run-end.new.out)) c.in-Ok.ensures.node
           (record { done = run.done; names = run.names; part = run.part; store = run.store; written = run.written; unwritten = run.unwritten; linked = run.linked; unlinked = run.unlinked })),
-      record { holds = close.held; others = close.others; failed = close.failed; later = close.later },
+      record { holds = close.held; others = close.others; failed = close.failed; still = close.still; others_still = close.others_still; later = close.later },
     )
 
 pub returns-in-Err-clause-ran : goal.returns-in-Err-clause-ran
@@ -59,7 +60,7 @@ returns-in-Err-clause-ran g c =
       record {
         done = tt;
         names = tt;
-        part = runs_none (IsJournalAppend disk.seen disk.may_leave disk.moment disk.left_since disk.faults) (λ j. told_records (disk.seen j.disk)) (λ j. is_some (disk.seen j.disk))
+        part = runs_none (IsJournalAppend disk.seen disk.may_leave disk.moment disk.left_since disk.faults) (fails_by {T = RunEnd} (Err stop.NoMemory))
             c.args.cluster.now c.args.turns (scene c.args.seats.items (g.L.Link.told c.args.link.now) (g.W.Sink.taken c.args.out.now));
         store = λ role e. cc;
         written = λ e. cc;
@@ -69,5 +70,5 @@ returns-in-Err-clause-ran g c =
       },
       subst (λ hs. GivesBack disk.seen disk.faults hs (g.D.Depot.tells c.args.depot.now) (g.D.Depot.held c.args.depot.now) (g.D.Depot.held c.close_seats-in-Err.new.depot)
           (g.D.Depot.faults c.args.depot.now) (g.D.Depot.faults c.close_seats-in-Err.new.depot)) c.in-Err.ensures.given_back
-          (record { holds = close.held; others = close.others; failed = close.failed; later = close.later }),
+          (record { holds = close.held; others = close.others; failed = close.failed; still = close.still; others_still = close.others_still; later = close.later }),
     )
