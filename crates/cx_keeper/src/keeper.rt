@@ -1,6 +1,6 @@
 //! A keeper of records, and why it may refuse.
 
-ghost use Rattle.std.specs.Prelude.{◌≡◌, ◌≤◌, ℕ, Bool, true, List, Result, IfOk, IsTrue, Err};
+ghost use Rattle.std.specs.Prelude.{◌≡◌, ◌≤◌, ℕ, Bool, true, List, Option, Result, IfOk, IsTrue, Err};
 ghost use Rattle.cx_base.specs.Faults.{Rises};
 ghost use Rattle.cx_msg.specs.declared.kept.Record.{Record};
 ghost use Rattle.cx_msg.specs.Records.{fits};
@@ -88,13 +88,14 @@ pub trait Keeper {
         ensures gives { append_gives self.old what.now result self.new }
         ensures told { tells self.new ≡ tells self.old };
 
-    /// Reads the records again. `Failed` only where the count of faults rose.
+    /// Reads the records again. `Failed` only where the count of faults rose; `NotJournal` never where it tells what it keeps.
     fn recover(&mut self) -> Result<Vec<Record>, OpenFault>
         ensures list { IfOk result (λ records. tells self.old ≡ true → records.items ≡ kept self.old) }
         ensures ranges { IfOk result (λ records. IsTrue (all_fit records.items)) }
         ensures same { kept self.new ≡ kept self.old }
         ensures told { tells self.new ≡ tells self.old }
         ensures cause { result ≡ Err open_fault.Failed → Rises (faults self.old) (faults self.new) }
+        ensures never { tells self.old ≡ true → (at : ℕ) (byte : Option ℕ) → result ≡ Err (open_fault.NotJournal at byte) → ⊥ }
         ensures later { faults self.old ≤ faults self.new };
 
     ghost append_is: { (old : Self) (r : Record) (answer : Result (Unit {0}) KeepFault) (new : Self) → append_gives old r answer new → IsAppend tells kept faults old r answer new };
