@@ -292,3 +292,36 @@ fails_along c left now next held held_next n w old out a h open_yet =
     ap (λ l. of_header (header_of l) (if is_long_header (counted 16384 bytes) then BadHeader else Nothing)) (counted_open 1024 a.ls held_next a.free open_yet.0 open_yet.1)
     ∙ same_found (header_of (lines_text a.ls)) (if is_long_header (counted 16384 bytes) then BadHeader else Nothing) c (record { events = a.es; bad = None }) whole in
     (bytes, hands_held left now next (lines_text a.ls) held held_next a.consumed h, ap bad_line heard, subst (Appends old out) (sym (ap trace_of heard)) a.written)
+
+-- what the loop knows of the next line, and how it stops there
+module _ (c : Cluster) (left now next : Option (List ℕ)) (n : ℕ) (w : World) (lines lines_next : LinesState) (old mid out : Option (List ℕ)) (reads reads_after writes writes_mid writes_after : ℕ)
+    (read : reads_after ≡ reads) (wrote : writes_mid ≡ writes) (a : Along c left now lines.held n w old mid) where
+  pub stops_at_line : (text : List ℕ) → text ≡ lines_next.text → GivesLine 1024 now next lines lines_next → (s : Status) → StopsIn c (n + 1) text w mid out writes_mid writes_after s
+      → Replayed left next reads reads_after old out writes writes_after s
+  stops_at_line text is gives s stops =
+      stops_replayed c left next reads reads_after old mid out writes writes_after a.es (n + 1) text w read a.world a.written
+      (subst (Faces left c a.es (n + 1)) (sym (is ∙ gives.text)) (faces_line c left now lines.held n w old mid a next lines_next.held gives.part gives.free gives.hands))
+      s (subst (λ k. StopsIn c (n + 1) text w mid out k writes_after s) wrote stops)
+
+  pub stops_at_last : (text : List ℕ) → text ≡ lines_next.text → GivesLast 1024 now next lines lines_next → (s : Status) → StopsIn c (n + 1) text w mid out writes_mid writes_after s
+      → Replayed left next reads reads_after old out writes writes_after s
+  stops_at_last text is gives s stops =
+      stops_replayed c left next reads reads_after old mid out writes writes_after a.es (n + 1) text w read a.world a.written
+      (subst (Faces left c a.es (n + 1)) (sym (is ∙ gives.text)) (faces_last c left now lines.held n w old mid a next gives.part gives.free gives.some gives.hands gives.at_end))
+      s (subst (λ k. StopsIn c (n + 1) text w mid out k writes_after s) wrote stops)
+
+  pub stops_long : Hands now next lines.held lines_next.held [] → BeginsLong 1024 lines_next.held → Replayed left next reads reads_after old mid writes writes_mid (status.BadInput (n + 1))
+  stops_long hands long =
+      bad_stops c left next reads reads_after old mid writes writes_mid a.es (n + 1) (faces_long c left now lines.held n w old mid a next lines_next.held hands long) a.written read wrote
+
+  pub sums_at_end : Hands now next lines.held [] [] → IsAtEnd next → (s : Status) → Sums w mid out writes_mid writes_after s → Replayed left next reads reads_after old out writes writes_after s
+  sums_at_end hands at_end s sums =
+      sums_replayed c left next w old mid out reads reads_after writes writes_after read (ends_along c left now next lines.held n w old mid a hands at_end)
+      s (subst (λ k. Sums w mid out k writes_after s) wrote sums)
+
+-- a read has failed there
+module _ (c : Cluster) (left now next : Option (List ℕ)) (n : ℕ) (w : World) (lines lines_next : LinesState) (old mid out : Option (List ℕ)) (reads reads_after writes writes_mid writes_after : ℕ)
+    (wrote : writes_mid ≡ writes) (a : Along c left now lines.held n w old mid) where
+  pub stops_failed : Rises reads reads_after → Hands now next lines.held lines_next.held [] → IsOpen 1024 lines_next.held → Replayed left next reads reads_after old mid writes writes_mid status.ReadFault
+  stops_failed rises hands open_yet =
+      fault_replayed left next reads reads_after old mid writes writes_mid rises (fails_along c left now next lines.held lines_next.held n w old mid a hands open_yet) wrote

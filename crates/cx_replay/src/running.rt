@@ -121,17 +121,17 @@ pub fn run_lines<S: Source, W: Sink>(
         number += 1;
         match lines.next(input, MAX_LINE_LENGTH) {
             Next::Line => {
-                if let Err(status) =
-                    run_line(alloc, &cluster, number, lines.text(), &mut world, out)
-                {
+                let text = lines.text();
+                if let Err(status) = run_line(alloc, &cluster, number, text, &mut world, out) {
                     return status;
                 }
             }
             Next::Last => {
-                return match run_line(alloc, &cluster, number, lines.text(), &mut world, out) {
-                    Ok(()) => sum(alloc, &world, out),
-                    Err(status) => status,
-                };
+                let last = lines.text();
+                if let Err(status) = run_line(alloc, &cluster, number, last, &mut world, out) {
+                    return status;
+                }
+                return sum(alloc, &world, out);
             }
             Next::End => return sum(alloc, &world, out),
             Next::Long => return Status::BadInput { line: number },

@@ -3,8 +3,8 @@ use Rattle.cx_replay.specs.Streamed.{StandsBehind}
 use Rattle.cx_replay.proofs.Along.{Along}
 use Rattle.cx_replay.proofs.running.run_lines.Given as goal
 
-abbrev pub invariant-loop-cluster : goal.invariant-loop-cluster
-invariant-loop-cluster g l = record {
+abbrev pub invariant-loop-lines : goal.invariant-loop-lines
+invariant-loop-lines g l = record {
   along : (left : Option (List ℕ)) → StandsBehind left (g.S.Source.left l.fn.input) l.fn.lines.held l.cluster
       → Along l.cluster left (g.S.Source.left l.input) l.lines.held l.number l.world.world (g.W.Sink.taken l.fn.out) (g.W.Sink.taken l.out);
   running : l.world.spent ≡ false;
@@ -13,5 +13,5 @@ invariant-loop-cluster g l = record {
   wrote : g.W.Sink.faults l.out ≡ g.W.Sink.faults l.fn.out;
 }
 
-abbrev pub decreases-loop-cluster : goal.decreases-loop-cluster
-decreases-loop-cluster g l = 65536 - l.number
+abbrev pub decreases-loop-lines : goal.decreases-loop-lines
+decreases-loop-lines g l = 65536 - l.number
