@@ -63,11 +63,3 @@ module _ (left now : Option (List ℕ)) (reads reads_after : ℕ) (out : Option 
       (some_map left (λ all. input_of all ≡ BadHeader) (λ all. bad_line (input_of all) ≡ Some 0) (λ all is. ap bad_line is) bad)
       (some_map left (λ all. input_of all ≡ BadHeader) (λ all. Appends out out (trace_of (input_of all))) (λ all is. subst (Appends out out) (sym (ap trace_of is)) (Appends-nil out)) bad)
       read refl
-
-  pub failed : ((bytes : List ℕ) × Consumes left now bytes × (lines bytes ≡ Nothing)) → Rises reads reads_after → Replayed left now reads reads_after out out writes writes status.ReadFault
-  failed (bytes, consumed, nothing) rises =
-      fault_replayed left now reads reads_after out out writes writes rises
-      (bytes, consumed, ap bad_line nothing, subst (Appends out out) (sym (ap trace_of nothing)) (Appends-nil out)) refl
-
-  pub wanting : Replayed left now reads reads_after out out writes writes status.NoMemory
-  wanting = memory_replayed left now reads reads_after out out writes writes (some_any left (λ all. AppendsPart out out (text_of (input_of all))) (λ all. part_none out (text_of (input_of all)))) refl
