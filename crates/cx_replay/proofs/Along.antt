@@ -69,10 +69,12 @@ module _ (c : Cluster) (left now : Option (List ℕ)) (held : List ℕ) (n : ℕ
       let line = part ++ 10 ∷ [] in
       of_all left next ((lines_text a.ls ++ line) ++ held_next) (λ all. (later : List (List ℕ)) × (input_of all ≡ Lines c (after a.es (spelled_from c (n + 1) (strip_carriage_return part ∷ later)))))
       (hands_on left now next (lines_text a.ls) held held_next line a.consumed h)
-      (λ more. (lines_of (held_next ++ more),
-      ap input_of (append_assoc (lines_text a.ls ++ line) held_next more ∙ append_assoc (lines_text a.ls) line (held_next ++ more))
-      ∙ a.input (line ++ (held_next ++ more))
-      ∙ ap (λ ls. Lines c (after a.es (spelled_from c (n + 1) ls))) (line_first part (held_next ++ more) free)))
+      (λ more. (
+        lines_of (held_next ++ more),
+        ap input_of (append_assoc (lines_text a.ls ++ line) held_next more ∙ append_assoc (lines_text a.ls) line (held_next ++ more))
+            ∙ a.input (line ++ (held_next ++ more))
+            ∙ ap (λ ls. Lines c (after a.es (spelled_from c (n + 1) ls))) (line_first part (held_next ++ more) free),
+      ))
 
   pub faces_last : (next : Option (List ℕ)) (part : List ℕ) → IsFree part → 0 < length part → Hands now next held [] part → IsAtEnd next → Faces left c a.es (n + 1) (strip_carriage_return part)
   faces_last next part free some h at_end =
@@ -185,8 +187,11 @@ module _ (c : Cluster) (left now : Option (List ℕ)) (w : World) (old mid out :
   summed : Appends mid out (summary w) → IfSome left (λ all. Prints (input_of all) old out)
   summed whole =
       some_map left (λ all. input_of all ≡ Lines c (record { events = a.es; bad = None })) (λ all. Prints (input_of all) old out)
-      (λ all is. (ap bad_line is, subst (Appends old out) (text_is all is)
-      (Appends-trans old mid out (trace (start c) a.es) (summary (run c a.es)) a.written (subst (λ v. Appends mid out (summary v)) a.world whole)))) a.input
+      (λ all is. (
+        ap bad_line is,
+        subst (Appends old out) (text_is all is)
+            (Appends-trans old mid out (trace (start c) a.es) (summary (run c a.es)) a.written (subst (λ v. Appends mid out (summary v)) a.world whole)),
+      )) a.input
 
   pub sums_replayed : (s : Status) → Sums w mid out writes writes_after s → Replayed left now reads reads_after old out writes writes_after s
   sums_replayed status.Done t = done_replayed left now reads reads_after old out writes writes_after (summed t.0) a.at_end still t.1

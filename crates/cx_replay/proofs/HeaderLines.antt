@@ -180,9 +180,11 @@ module _ (left now : Option (List ℕ)) (held text : List ℕ) (h : InHeader lef
       let short : is_long_header (counted 16384 bytes) ≡ false = ap is_long_header (counted_open 16384 h.ls held_next h.free open_yet.0 open_yet.1) ∙ not_long in
       let none : header_of (counted 1024 bytes) ≡ None =
       ap header_of (counted_text 1024 h.ls held_next h.free open_yet.0) ∙ header_is (overlong 1024 held_next)
-      ∙ ap (λ found. option_and_then of_length (behind_text text found)) (none_open 1024 held_next (omega arith) open_yet.0) in
-      (bytes, hands_held left now next (lines_text h.ls) held held_next h.consumed hands,
-      ap (λ found. of_header found (if is_long_header (counted 16384 bytes) then BadHeader else Nothing)) none ∙ ap (λ (b : Bool). if b then BadHeader else Nothing) short)
+      ∙ ap (λ found. option_and_then of_length (behind_text text found)) (none_open 1024 held_next (omega arith) open_yet.0) in (
+        bytes,
+        hands_held left now next (lines_text h.ls) held held_next h.consumed hands,
+        ap (λ found. of_header found (if is_long_header (counted 16384 bytes) then BadHeader else Nothing)) none ∙ ap (λ (b : Bool). if b then BadHeader else Nothing) short,
+      )
     where
       not_long : is_long_header (lines_text h.ls) ≡ false
       not_long =

@@ -65,11 +65,7 @@ fn join(text: &mut Vec<u8>, line: &[u8]) -> Joined
 }
 
 /// Reads the lines of a header up to the one that ends it, and puts each of them with a line feed behind the others.
-pub fn read_header<S: Source>(
-    lines: &mut Lines,
-    input: &mut S,
-    text: &mut Vec<u8>,
-) -> HeaderEnd
+pub fn read_header<S: Source>(lines: &mut Lines, input: &mut S, text: &mut Vec<u8>) -> HeaderEnd
     requires none_held { lines.old.held ≡ [] }
     requires no_text { text.old.items ≡ [] }
     ensures reads { ReadsHeader (S.left input.old) (S.left input.new) lines.new.held text.new.items result }
