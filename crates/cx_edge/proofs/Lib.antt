@@ -1,5 +1,6 @@
 mod DeskLaws
 mod FileLaws
 mod HeldLaws
+mod LineLaws
 mod NotesLaws
 mod SlotLaws

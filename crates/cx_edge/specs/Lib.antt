@@ -3,6 +3,7 @@ pub mod Desk
 pub mod FileDepot
 pub mod FileDisk
 pub mod Held
+pub mod Lines
 pub mod Link
 pub mod MemDepot
 pub mod MemLink

@@ -19,6 +19,7 @@ mod depot_tests;
 mod desk;
 mod file_depot;
 mod file_disk;
+mod lines;
 mod link;
 #[cfg(test)]
 mod link_tests;
@@ -41,6 +42,7 @@ pub use counted_disk::CountedDisk;
 pub use depot::Depot;
 pub use file_depot::FileDepot;
 pub use file_disk::FileDisk;
+pub use lines::{LONGEST, Lines, Next};
 pub use link::{Link, TakeEnd};
 pub use mem_depot::MemDepot;
 pub use mem_link::{LinkFailing, MemLink};

@@ -6,8 +6,7 @@ use Rattle.cx_promises.proofs.Lawful.{lawful}
 use Rattle.cx_replay.specs.Generated.{gen_events}
 use Rattle.cx_replay.specs.Input.{heard_of}
 use Rattle.cx_replay.specs.Lawful.{IsLawfulAlong, IsLawfulRun, IsLawfulInput, IsLawfulGenerated}
-use Rattle.cx_replay.specs.declared.input.Heard.{Heard}
-use Rattle.cx_replay.specs.declared.input.Heard.TheVariants.{Nothing, BadHeader, Lines}
+use Rattle.cx_replay.specs.Heard.{Heard, Nothing, BadHeader, Lines}
 use Rattle.cx_script.specs.Generator.{gen_cluster}
 
 pub lawful_along : (c : Cluster) (es : List Event) → IsLawfulAlong c es

@@ -5,8 +5,7 @@ use Rattle.cx_base.specs.Asked.{takes_event}
 use Rattle.cx_base.specs.declared.cluster.Cluster.{Cluster}
 use Rattle.cx_cluster.specs.declared.fault.ClusterFault.{ClusterFault}
 use Rattle.cx_cluster.specs.Reading.{header_cluster}
-use Rattle.cx_replay.specs.declared.input.Heard.{Heard}
-use Rattle.cx_replay.specs.declared.input.Heard.TheVariants.{Nothing, BadHeader, Lines}
+use Rattle.cx_replay.specs.Heard.{Heard, Nothing, BadHeader, Lines}
 use Rattle.cx_script.specs.Header.{header_of}
 use Rattle.cx_script.specs.Lines.{schedule_of}
 use Rattle.cx_script.specs.Unended.{counted, is_long_header}
@@ -40,9 +39,3 @@ lines bytes = of_header (header_of (counted 1024 bytes)) (if is_long_header (cou
 abbrev pub heard_of : Bool → List ℕ → Heard
 heard_of true bytes = input_of bytes
 heard_of false bytes = lines bytes
-
--- the world takes each event
-abbrev pub IsTaken : Heard → Type 0
-IsTaken Nothing = Unit {0}
-IsTaken BadHeader = Unit {0}
-IsTaken (Lines c spelled) = IsTrue (list_all takes_event spelled.events)

@@ -7,8 +7,7 @@ use Rattle.cx_model.specs.Member.{Begins}
 use Rattle.cx_promises.specs.Lawful.{IsLawful}
 use Rattle.cx_replay.specs.Generated.{gen_events}
 use Rattle.cx_replay.specs.Input.{heard_of}
-use Rattle.cx_replay.specs.declared.input.Heard.{Heard}
-use Rattle.cx_replay.specs.declared.input.Heard.TheVariants.{Nothing, BadHeader, Lines}
+use Rattle.cx_replay.specs.Heard.{Heard, Nothing, BadHeader, Lines}
 use Rattle.cx_script.specs.Generator.{gen_cluster}
 
 -- the run of these events is lawful, and so it was after each of them

@@ -1,4 +1,6 @@
 pub mod Generated
+pub mod Heard
 pub mod Input
 pub mod Replay
 pub mod Lawful
+pub mod Streamed

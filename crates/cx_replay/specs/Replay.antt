@@ -11,8 +11,7 @@ use Rattle.cx_edge.specs.Sink.{AppendsPart}
 use Rattle.cx_model.specs.Chosen.{chosen_prefix}
 use Rattle.cx_model.specs.World.{World, change, step, run, start}
 use Rattle.cx_replay.specs.Input.{bad_line, input_of, lines}
-use Rattle.cx_replay.specs.declared.input.Heard.{Heard}
-use Rattle.cx_replay.specs.declared.input.Heard.TheVariants.{Nothing, BadHeader, Lines}
+use Rattle.cx_replay.specs.Heard.{Heard, Nothing, BadHeader, Lines}
 use Rattle.cx_trace.specs.Trace.{event_text, datagrams_text}
 use Rattle.cx_trace.specs.Summary.{summary_text}
 use Rattle.cx_world.specs.Folded.{folded_of}
@@ -35,10 +34,6 @@ summary w = summary_text (chosen_prefix w.kept) (map (λ p. folded_of p w.kept) 
 abbrev pub ending : Bool → World → List ℕ
 ending true w = summary w
 ending false w = []
-
--- the text of a run, with its summary where that is wanted
-unfoldable pub run_text : Bool → Cluster → List Event → List ℕ
-run_text summed c es = trace (start c) es ++ ending summed (run c es)
 
 -- the text of the events before the first bad line
 abbrev pub trace_of : Heard → List ℕ
@@ -112,25 +107,3 @@ answer_of (Some line) = status.BadInput line
 abbrev pub Completes : Option (List ℕ) → ℕ → ℕ → ℕ → ℕ → Status → Type 0
 Completes left reads reads_after writes writes_after s =
     IfSome left (λ all. (Rises reads reads_after → ⊥) → (Rises writes writes_after → ⊥) → (s ≡ answer_of (bad_line (input_of all))) ⊎ (s ≡ status.NoMemory))
-
--- what is written of these bytes: the summary only behind a whole input
-abbrev pub written_of : Bool → Heard → List ℕ
-written_of ended heard = trace_of heard ++ (if ended then summary_of heard else [])
-
--- what is answered to bytes that say this, of a whole input or not: with the sink before and after
-abbrev pub Answers : Bool → Heard → Option (List ℕ) → Option (List ℕ) → ℕ → ℕ → Status → Type 0
-Answers ended heard out out_after writes writes_after status.Done =
-    (ended ≡ true) × (bad_line heard ≡ None) × Appends out out_after (written_of ended heard) × (writes_after ≡ writes)
-Answers ended heard out out_after writes writes_after (status.BadInput line) =
-    (bad_line heard ≡ Some line) × Appends out out_after (written_of ended heard) × (writes_after ≡ writes)
-Answers ended heard out out_after writes writes_after status.ReadFault =
-    (ended ≡ false) × (bad_line heard ≡ None) × Appends out out_after (written_of ended heard) × (writes_after ≡ writes)
-Answers ended heard out out_after writes writes_after status.WriteFault =
-    AppendsPart out out_after (written_of ended heard) × Rises writes writes_after
-Answers ended heard out out_after writes writes_after status.NoMemory =
-    AppendsPart out out_after (written_of ended heard) × (writes_after ≡ writes)
-Answers ended heard out out_after writes writes_after status.BadWords = ⊥
-Answers ended heard out out_after writes writes_after status.LinkFault = ⊥
-Answers ended heard out out_after writes writes_after (status.StoreFault role) = ⊥
-Answers ended heard out out_after writes writes_after status.Turns = ⊥
-Answers ended heard out out_after writes writes_after (status.BadStore role at) = ⊥

@@ -7,8 +7,9 @@
 #![tactic(auto)]
 
 mod generating;
-mod input;
+mod header;
 mod replaying;
+mod running;
 mod short;
 mod step;
 

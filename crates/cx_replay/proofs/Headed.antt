@@ -1,0 +1,65 @@
+-- What a header says of the whole input, and how a replay ends in it.
+use Rattle.std.proofs.Common.{◌≡◌, ◌++◌, List, [], ℕ, Option, None, Some, Result, Ok, Err, refl, sym, ap, ◌∙◌, subst, append_assoc}
+use Rattle.std.specs.Prelude.{IfSome}
+use Rattle.std.specs.Io.KnownBytes.{Appends, Consumes}
+use Rattle.std.proofs.KnownBytes.{Appends-nil, Consumes-whole}
+use Rattle.cx_base.specs.declared.cluster.Cluster.{Cluster}
+use Rattle.cx_base.specs.declared.status.Status.{Status}
+use Rattle.cx_base.specs.declared.status.Status.TheVariants as status
+use Rattle.cx_base.specs.Faults.{Rises}
+use Rattle.cx_cluster.specs.declared.fault.ClusterFault.{ClusterFault}
+use Rattle.cx_cluster.specs.Reading.{header_cluster}
+use Rattle.cx_edge.specs.Sink.{AppendsPart}
+use Rattle.cx_model.specs.World.{start}
+use Rattle.cx_replay.specs.Heard.{Nothing, BadHeader, Lines}
+use Rattle.cx_replay.specs.Input.{bad_line, behind, of_header, input_of, lines}
+use Rattle.cx_replay.specs.Replay.{trace_of, text_of, PrintsLines, Replayed}
+use Rattle.cx_replay.specs.Streamed.{HasHeader, IsHeader, StandsBehind, Says, Sums}
+use Rattle.cx_replay.proofs.Along.{AtEnd, ends_alone, sums_replayed}
+use Rattle.cx_replay.proofs.Ends.{bad_replayed, fault_replayed, memory_replayed}
+use Rattle.cx_replay.proofs.Texts.{part_none}
+use Rattle.cx_replay.proofs.WholeText.{of_all, some_map, some_any}
+use Rattle.cx_script.specs.Header.{header_of}
+use Rattle.cx_script.specs.Lines.{schedule_of}
+
+-- no header says a cluster
+abbrev IsBadHeader : Option (List ℕ) → Type 0
+IsBadHeader left = IfSome left (λ all. input_of all ≡ BadHeader)
+
+pub no_header : (left : Option (List ℕ)) → IfSome left (λ all. header_of all ≡ None) → IsBadHeader left
+unfolding input_of
+no_header left none = some_map left (λ all. header_of all ≡ None) (λ all. input_of all ≡ BadHeader) (λ all is. ap (λ found. of_header found BadHeader) is) none
+
+input_is : (bytes text rest : List ℕ) → header_of bytes ≡ Some (text, rest) → input_of bytes ≡ behind (header_cluster text) rest
+unfolding input_of
+input_is bytes text rest is = ap (λ found. of_header found BadHeader) is
+
+pub header_refused : (left now : Option (List ℕ)) (held text : List ℕ) → HasHeader left now held text → Says None (header_cluster text) → IsBadHeader left
+header_refused left now held text h says =
+    of_all left now (h.bytes ++ held) (λ all. input_of all ≡ BadHeader) h.consumed
+    (λ more. ap input_of (append_assoc h.bytes held more) ∙ input_is (h.bytes ++ (held ++ more)) text (held ++ more) (h.header (held ++ more)) ∙ ap (λ said. behind said (held ++ more)) says.1)
+
+pub alone_refused : (left now : Option (List ℕ)) (text : List ℕ) → IsHeader left now text → Says None (header_cluster text) → IsBadHeader left
+alone_refused left now text h says =
+    Consumes-whole left now h.bytes (λ all. input_of all ≡ BadHeader) h.consumed h.at_end (input_is h.bytes text [] h.header ∙ ap (λ said. behind said []) says.1)
+
+pub header_taken : (left now : Option (List ℕ)) (held text : List ℕ) (c : Cluster) → HasHeader left now held text → Says (Some c) (header_cluster text) → StandsBehind left now held c
+header_taken left now held text c h says =
+    record {
+      bytes = h.bytes;
+      whole = h.whole;
+      consumed = h.consumed;
+      input = λ more. input_is (h.bytes ++ more) text more (h.header more) ∙ ap (λ said. behind said more) says;
+    }
+
+pub alone_taken : (left now old : Option (List ℕ)) (text : List ℕ) (c : Cluster) → IsHeader left now text → Says (Some c) (header_cluster text) → AtEnd c left now (start c) old old
+alone_taken left now old text c h says =
+    ends_alone c left now old h.bytes h.consumed h.at_end (input_is h.bytes text [] h.header ∙ ap (λ said. behind said []) says)
+
+module _ (left now : Option (List ℕ)) (reads reads_after : ℕ) (out : Option (List ℕ)) (writes : ℕ) where
+  pub refused : IsBadHeader left → reads_after ≡ reads → Replayed left now reads reads_after out out writes writes (status.BadInput 0)
+  refused bad read =
+      bad_replayed left now reads reads_after out out writes writes 0
+      (some_map left (λ all. input_of all ≡ BadHeader) (λ all. bad_line (input_of all) ≡ Some 0) (λ all is. ap bad_line is) bad)
+      (some_map left (λ all. input_of all ≡ BadHeader) (λ all. Appends out out (trace_of (input_of all))) (λ all is. subst (Appends out out) (sym (ap trace_of is)) (Appends-nil out)) bad)
+      read refl

@@ -1,0 +1,118 @@
+-- What was read of an input so far, line by line, and what of it was written.
+use Rattle.std.specs.Prelude.{◌≡◌, ◌≤◌, ◌<◌, ◌+◌, ℕ, false, true, List, [], ◌∷◌, ◌++◌, length, Option, None, Some, option_to_list, IfSome, Result, Ok, Err}
+use Rattle.std.specs.Io.KnownBytes.{Appends, Consumes, IsAtEnd}
+use Rattle.cx_base.specs.declared.cluster.Cluster.{Cluster}
+use Rattle.cx_base.specs.declared.event.Event.{Event}
+use Rattle.cx_base.specs.declared.status.Status.{Status}
+use Rattle.cx_base.specs.declared.status.Status.TheVariants as status
+use Rattle.cx_base.specs.Faults.{Rises}
+use Rattle.cx_cluster.specs.declared.fault.ClusterFault.{ClusterFault}
+use Rattle.cx_edge.specs.Sink.{AppendsPart}
+use Rattle.cx_model.specs.World.{World, run_from}
+use Rattle.cx_replay.specs.Heard.{Nothing, Lines}
+use Rattle.cx_replay.specs.Input.{input_of, lines}
+use Rattle.cx_replay.specs.Replay.{summary, trace}
+use Rattle.cx_replay.specs.declared.header.HeaderEnd.{HeaderEnd}
+use Rattle.cx_replay.specs.declared.header.HeaderEnd.TheVariants as header
+use Rattle.cx_replay.specs.declared.header.Joined.{Joined}
+use Rattle.cx_replay.specs.declared.header.Joined.TheVariants as joined
+use Rattle.cx_script.specs.Grammar.{line_event}
+use Rattle.cx_script.specs.Header.{is_rule, header_of}
+use Rattle.cx_script.specs.Lines.{Spelled, with_line, spelled_from, schedule_of}
+use Rattle.cx_script.specs.Unended.{whole_lines}
+use Rattle.cx_world.specs.World.{WorldState}
+
+-- a line of a header ends it, or stands behind those before with its line feed, which fit or don't
+abbrev pub Joins : List ℕ → List ℕ → List ℕ → Joined → Type 0
+Joins line old new joined.Rule = (is_rule line ≡ true) × (new ≡ old)
+Joins line old new joined.Line = (is_rule line ≡ false) × (new ≡ old ++ (line ++ 10 ∷ [])) × (length new ≤ 16384)
+Joins line old new joined.Long = (is_rule line ≡ false) × (16384 < length (old ++ (line ++ 10 ∷ [])))
+Joins line old new joined.NoMemory = Unit {0}
+
+-- Whole lines were handed out, and what was read behind them is held; they are a header with this text, whatever comes behind.
+pub record HasHeader (left now : Option (List ℕ)) (held text : List ℕ) : Type 0 where
+  pub bytes : List ℕ
+  pub whole : whole_lines bytes ≡ bytes
+  pub consumed : Consumes left now (bytes ++ held)
+  pub header : (more : List ℕ) → header_of (bytes ++ more) ≡ Some (text, more)
+
+-- the input was read to its end, and it is a header with this text and nothing behind it
+pub record IsHeader (left now : Option (List ℕ)) (text : List ℕ) : Type 0 where
+  pub bytes : List ℕ
+  pub consumed : Consumes left now bytes
+  pub at_end : IsAtEnd now
+  pub header : header_of bytes ≡ Some (text, [])
+
+-- what the reading of a header came to
+abbrev pub ReadsHeader : Option (List ℕ) → Option (List ℕ) → List ℕ → List ℕ → HeaderEnd → Type 0
+ReadsHeader left now held text header.Whole = HasHeader left now held text
+ReadsHeader left now held text header.Alone = IsHeader left now text
+ReadsHeader left now held text header.Bad = IfSome left (λ all. header_of all ≡ None)
+ReadsHeader left now held text header.Failed = (bytes : List ℕ) × Consumes left now bytes × (lines bytes ≡ Nothing)
+ReadsHeader left now held text header.NoMemory = Unit {0}
+
+-- the cluster that a header says, if it says one
+abbrev pub Says : Option Cluster → Result Cluster ClusterFault → Type 0
+Says (Some c) said = said ≡ Ok c
+Says None said = (fault : ClusterFault) × (said ≡ Err fault)
+
+-- Whole lines were handed out, and what was read behind them is held; whatever comes behind them is the schedule of this cluster.
+pub record StandsBehind (left now : Option (List ℕ)) (held : List ℕ) (c : Cluster) : Type 0 where
+  pub bytes : List ℕ
+  pub whole : whole_lines bytes ≡ bytes
+  pub consumed : Consumes left now (bytes ++ held)
+  pub input : (more : List ℕ) → input_of (bytes ++ more) ≡ Lines c (schedule_of c more)
+
+-- the n-th line is an event or none, whatever lines come behind it
+abbrev pub Spells : Cluster → ℕ → List ℕ → Option Event → Type 0
+Spells c n line event = (later : List (List ℕ)) → spelled_from c n (line ∷ later) ≡ with_line n (Ok event) (spelled_from c (n + 1) later)
+
+-- or it is bad
+abbrev pub IsBadAt : Cluster → ℕ → List ℕ → Type 0
+IsBadAt c n line = (later : List (List ℕ)) → spelled_from c n (line ∷ later) ≡ record { events = []; bad = Some n }
+
+-- the line was run: the world made its event's step, whose text was written
+pub record RanLine (c : Cluster) (n : ℕ) (line : List ℕ) (old new : WorldState) (out out_after : Option (List ℕ)) (writes writes_after : ℕ) : Type 0 where
+  pub event : Option Event
+  pub spells : Spells c n line event
+  pub counted : n ≤ 65535
+  pub world : new ≡ record { world = run_from old.world (option_to_list event); spent = false }
+  pub written : Appends out out_after (trace old.world (option_to_list event))
+  pub still : writes_after ≡ writes
+
+-- a part of its text was written
+pub record RanPart (c : Cluster) (n : ℕ) (line : List ℕ) (w : World) (out out_after : Option (List ℕ)) : Type 0 where
+  pub event : Option Event
+  pub spells : Spells c n line event
+  pub written : AppendsPart out out_after (trace w (option_to_list event))
+
+-- why a replay stops in the n-th line, and what was written of it
+abbrev pub StopsIn : Cluster → ℕ → List ℕ → World → Option (List ℕ) → Option (List ℕ) → ℕ → ℕ → Status → Type 0
+StopsIn c n line w out out_after writes writes_after (status.BadInput at) = (at ≡ n) × IsBadAt c n line × Appends out out_after [] × (writes_after ≡ writes)
+StopsIn c n line w out out_after writes writes_after status.WriteFault = RanPart c n line w out out_after × Rises writes writes_after
+StopsIn c n line w out out_after writes writes_after status.NoMemory = RanPart c n line w out out_after × (writes_after ≡ writes)
+StopsIn c n line w out out_after writes writes_after status.Done = ⊥
+StopsIn c n line w out out_after writes writes_after status.BadWords = ⊥
+StopsIn c n line w out out_after writes writes_after status.ReadFault = ⊥
+StopsIn c n line w out out_after writes writes_after status.LinkFault = ⊥
+StopsIn c n line w out out_after writes writes_after (status.StoreFault role) = ⊥
+StopsIn c n line w out out_after writes writes_after status.Turns = ⊥
+StopsIn c n line w out out_after writes writes_after (status.BadStore role at) = ⊥
+
+-- what running the n-th line came to
+abbrev pub RunsLine : Cluster → ℕ → List ℕ → WorldState → WorldState → Option (List ℕ) → Option (List ℕ) → ℕ → ℕ → Result (Unit {0}) Status → Type 0
+RunsLine c n line old new out out_after writes writes_after (Ok done) = RanLine c n line old new out out_after writes writes_after
+RunsLine c n line old new out out_after writes writes_after (Err s) = StopsIn c n line old.world out out_after writes writes_after s
+
+-- what writing the summary of a run came to
+abbrev pub Sums : World → Option (List ℕ) → Option (List ℕ) → ℕ → ℕ → Status → Type 0
+Sums w out out_after writes writes_after status.Done = Appends out out_after (summary w) × (writes_after ≡ writes)
+Sums w out out_after writes writes_after status.WriteFault = AppendsPart out out_after (summary w) × Rises writes writes_after
+Sums w out out_after writes writes_after status.NoMemory = AppendsPart out out_after (summary w) × (writes_after ≡ writes)
+Sums w out out_after writes writes_after (status.BadInput line) = ⊥
+Sums w out out_after writes writes_after status.BadWords = ⊥
+Sums w out out_after writes writes_after status.ReadFault = ⊥
+Sums w out out_after writes writes_after status.LinkFault = ⊥
+Sums w out out_after writes writes_after (status.StoreFault role) = ⊥
+Sums w out out_after writes writes_after status.Turns = ⊥
+Sums w out out_after writes writes_after (status.BadStore role at) = ⊥
