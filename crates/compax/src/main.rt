@@ -8,7 +8,11 @@
 #![tactic(auto)]
 
 #[cfg(test)]
+mod fault_tests;
+#[cfg(test)]
 mod generated;
+#[cfg(test)]
+mod hosting;
 #[cfg(test)]
 mod later_rounds;
 #[cfg(test)]
