@@ -1,6 +1,7 @@
 //! Everything outside fails once, at each of its calls: what the program then says, and what it has written.
 
 ghost use Rattle.std.specs.Prelude.{◌≡◌, [], None};
+ghost use Rattle.cx_edge.specs.Memory.{sink_faults, source_faults};
 
 use crate::hosting::{Fate, STORED, depot_over, link_over, nothing_fails, stores_with};
 use crate::node_tests::{ENOUGH, NODE, PUT, host_over, is, stores};
@@ -39,7 +40,7 @@ struct PieceSource {
 impl Source for PieceSource {
     ghost left = { λ _. None };
 
-    ghost faults = { λ s. Rattle.cx_edge.specs.Memory.source_faults s.inner };
+    ghost faults = { λ s. source_faults s.inner };
 
     fn read(&mut self, buffer: &mut [u8]) -> ReadEnd {
         let most = buffer.len().min(self.size);
@@ -56,7 +57,7 @@ struct ByteSink {
 impl Sink for ByteSink {
     ghost taken = { λ _. None };
 
-    ghost faults = { λ s. Rattle.cx_edge.specs.Memory.sink_faults s.inner };
+    ghost faults = { λ s. sink_faults s.inner };
 
     fn write(&mut self, piece: &[u8]) -> WriteEnd {
         let most = piece.len().min(1);

@@ -8,7 +8,11 @@
 #![tactic(auto)]
 
 #[cfg(test)]
+mod crash_tests;
+#[cfg(test)]
 mod fault_tests;
+#[cfg(test)]
+mod foreign_tests;
 #[cfg(test)]
 mod generated;
 #[cfg(test)]
