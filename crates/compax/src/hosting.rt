@@ -1,5 +1,7 @@
 //! What the tests of faults and of strange bytes share: links that fail, stores that fail or stop, and bytes in hexadecimal.
 
+ghost use Rattle.std.specs.Prelude.{◌≡◌, [], IfOk};
+
 use cx_base::{Kind, NoMemory, RoleId};
 use cx_disk::{MemDisk, Room};
 use cx_edge::{Front, LinkFailing, LinkRoom, MemDepot, MemLink};
@@ -88,7 +90,9 @@ pub fn stores_with(
 }
 
 /// A depot of these stores, in which no opening fails.
-pub fn depot_over(alloc: Global, stores: Vec<(RoleId, MemDisk)>) -> Result<MemDepot, Fail> {
+pub fn depot_over(alloc: Global, stores: Vec<(RoleId, MemDisk)>) -> Result<MemDepot, Fail>
+    ensures { IfOk result (λ depot. depot.out ≡ []) }
+{
     Ok(MemDepot::new(alloc, stores, 1_024, Vec::new(alloc))?)
 }
 
