@@ -77,15 +77,15 @@ fn ends_of(alloc: Global, image: &[u8]) -> Result<Vec<usize>, Fail> {
     let mut ends = Vec::new(alloc);
     let mut end = 0_usize;
     ends.push(end)?;
-    while image.get(end).copied() == Some(1) {
+    for _ in 0..image.len() {
+        if image.get(end).copied() != Some(1) {
+            return Ok(ends);
+        }
         let len = *image.get(end.saturating_add(4)).ok_or("no length")?;
         end = end.saturating_add(usize::from(len)).saturating_add(5);
         ends.push(end)?;
-        if ends.len() > image.len() {
-            return Err("no end".into());
-        }
     }
-    Ok(ends)
+    Err("no end".into())
 }
 
 // The first records of an image.

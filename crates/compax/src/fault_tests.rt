@@ -8,7 +8,7 @@ use crate::node_tests::{ENOUGH, NODE, PUT, host_over, is, stores};
 use crate::pieces::{
     ANSWERED, ANSWERED_TRACE, ASKED, ASKED_TRACE, HEADER, LED, LED_TRACE, VOTED, VOTED_TRACE,
 };
-use crate::tests::{joined, no_link, owned, run_program};
+use crate::tests::{Outcome, joined, no_link, owned, run_program};
 use crate::top::top;
 use cx_base::{RoleId, Status};
 use cx_edge::{LinkFailing, MemDepot, MemSink, MemSource, ReadEnd, Sink, Source, WriteEnd};
@@ -327,15 +327,25 @@ const ANSWER: &str = "answer client:0 1 at 1 ok\n";
 // What a node comes to over a link with these failures.
 fn ends_over(
     alloc: Global,
-    words: &[&str],
+    words: &[String],
     failing: LinkFailing,
     status: Status,
     printed: &str,
     line: &str,
 ) -> Result<bool, Fail> {
     let mut link = link_over(alloc, failing, &[])?;
-    let mut depot = MemDepot::new(alloc, stores(alloc, &[])?, 4_096, Vec::new(alloc))?;
-    let outcome = host_over(alloc, words, PUT, &mut link, &mut depot)?;
+    let mut depot = depot_over(alloc, stores(alloc, &[])?)?;
+    let mut input = MemSource::new(joined(alloc, &[PUT])?, Vec::new(alloc));
+    let mut out = sink(alloc, Vec::new(alloc))?;
+    let mut err = sink(alloc, Vec::new(alloc))?;
+    let ended = top(
+        alloc, words, &mut input, &mut out, &mut err, &mut link, &mut depot,
+    );
+    let outcome = Outcome {
+        status: ended,
+        out,
+        err,
+    };
     Ok(is(&outcome, status, printed, line))
 }
 
@@ -343,6 +353,7 @@ fn ends_over(
 #[test]
 fn a_take_that_fails_ends_a_node(rt: HostRuntime) -> Result<(), Fail> {
     let alloc = rt.alloc();
+    let words = owned(alloc, NODE)?;
     for take in 0..75 {
         let failing = LinkFailing {
             takes: only(alloc, take)?,
@@ -350,7 +361,7 @@ fn a_take_that_fails_ends_a_node(rt: HostRuntime) -> Result<(), Fail> {
         };
         let fault = Status::LinkFault;
         assert!(rt;
-            ends_over(alloc, NODE, failing, fault, "", "link failed\n")?,
+            ends_over(alloc, &words, failing, fault, "", "link failed\n")?,
             "{take}"
         );
     }
@@ -358,7 +369,7 @@ fn a_take_that_fails_ends_a_node(rt: HostRuntime) -> Result<(), Fail> {
         takes: only(alloc, 75)?,
         ..nothing_fails(alloc)
     };
-    assert!(rt; ends_over(alloc, NODE, failing, Status::Done, ANSWER, "")?);
+    assert!(rt; ends_over(alloc, &words, failing, Status::Done, ANSWER, "")?);
     Ok(())
 }
 
@@ -366,6 +377,7 @@ fn a_take_that_fails_ends_a_node(rt: HostRuntime) -> Result<(), Fail> {
 #[test]
 fn a_bind_that_fails_ends_a_node(rt: HostRuntime) -> Result<(), Fail> {
     let alloc = rt.alloc();
+    let words = owned(alloc, NODE)?;
     for bind in 0..9 {
         let failing = LinkFailing {
             binds: only(alloc, bind)?,
@@ -373,7 +385,7 @@ fn a_bind_that_fails_ends_a_node(rt: HostRuntime) -> Result<(), Fail> {
         };
         let fault = Status::LinkFault;
         assert!(rt;
-            ends_over(alloc, NODE, failing, fault, "", "link failed\n")?,
+            ends_over(alloc, &words, failing, fault, "", "link failed\n")?,
             "{bind}"
         );
     }
@@ -381,7 +393,7 @@ fn a_bind_that_fails_ends_a_node(rt: HostRuntime) -> Result<(), Fail> {
         binds: only(alloc, 9)?,
         ..nothing_fails(alloc)
     };
-    assert!(rt; ends_over(alloc, NODE, failing, Status::Done, ANSWER, "")?);
+    assert!(rt; ends_over(alloc, &words, failing, Status::Done, ANSWER, "")?);
     Ok(())
 }
 
@@ -397,12 +409,8 @@ fn is_answered_in(alloc: Global, send: u64, turns: u64) -> Result<bool, Fail> {
         (turns, Status::Done, ANSWER, ""),
         (turns.saturating_sub(1), Status::Turns, "", "turns ended\n"),
     ] {
-        let given = format!(in alloc; "--turns={given}")?;
-        let mut words = Vec::new(alloc);
-        words.push("compax")?;
-        words.push("node")?;
-        words.push(given.as_str())?;
-        words.extend_from_slice(NODE.get(2..).unwrap_or(&[]))?;
+        let mut words = owned(alloc, NODE)?;
+        words.push(format!(in alloc; "--turns={given}")?)?;
         let failing = LinkFailing {
             sends: only(alloc, send)?,
             ..nothing_fails(alloc)
