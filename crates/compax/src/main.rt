@@ -8,7 +8,17 @@
 #![tactic(auto)]
 
 #[cfg(test)]
+mod append_tests;
+#[cfg(test)]
+mod crash_tests;
+#[cfg(test)]
+mod fault_tests;
+#[cfg(test)]
+mod foreign_tests;
+#[cfg(test)]
 mod generated;
+#[cfg(test)]
+mod hosting;
 #[cfg(test)]
 mod later_rounds;
 #[cfg(test)]

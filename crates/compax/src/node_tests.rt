@@ -40,8 +40,8 @@ pub const NODE: &[&str] = &[
     "reader:0",
 ];
 
-// The same for so many turns that the first answer comes in the last one, and for one less.
-const ENOUGH: &[&str] = &[
+/// The same for so many turns that the first answer comes in the last one.
+pub const ENOUGH: &[&str] = &[
     "compax",
     "node",
     "--turns",
@@ -57,6 +57,7 @@ const ENOUGH: &[&str] = &[
     "reader:0",
 ];
 
+// And for one less.
 const TOO_FEW: &[&str] = &[
     "compax",
     "node",

@@ -18,7 +18,8 @@ pub fn owned(alloc: Global, words: &[&str]) -> Result<Vec<String>, Fail> {
     Ok(owned)
 }
 
-fn joined(alloc: Global, parts: &[&str]) -> Result<Vec<u8>, Fail> {
+/// These parts as one.
+pub fn joined(alloc: Global, parts: &[&str]) -> Result<Vec<u8>, Fail> {
     let mut bytes = Vec::new(alloc);
     for part in parts {
         bytes.extend_from_slice(part.as_bytes())?;
@@ -34,8 +35,8 @@ pub struct Outcome {
     pub err: MemSink,
 }
 
-// A link that has room for nothing.
-fn no_link(alloc: Global) -> Result<MemLink, Fail> {
+/// A link that has room for nothing.
+pub fn no_link(alloc: Global) -> Result<MemLink, Fail> {
     let room = LinkRoom {
         binds: 0,
         takes: 0,
