@@ -115,8 +115,8 @@ impl Model for Lines {
     ghost Value = { LinesState };
 
     ghost view = { λ s. record {
-        held = take (s.end - s.start) (drop s.start s.bytes.items);
-        text = take (s.text_end - s.text_start) (drop s.text_start s.bytes.items);
+      held = take (s.end - s.start) (drop s.start s.bytes.items);
+      text = take (s.text_end - s.text_start) (drop s.text_start s.bytes.items);
     } };
 
     ghost invariant = { λ s. (s.start ≤ s.end) × (s.end ≤ vec_len s.bytes) × (s.text_start ≤ s.text_end) × (s.text_end ≤ vec_len s.bytes) × (vec_len s.bytes ≡ 20480) };
