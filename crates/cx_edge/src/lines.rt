@@ -13,11 +13,8 @@ use cx_base::NoMemory;
 use std::alloc::Global;
 use std::marker::Model;
 
-/// The greatest length that may be asked for: of a line in bytes, without its line feed and a carriage return.
-pub const LONGEST: usize = 16_384;
-
-/// A line of that length with its carriage return, and room behind it for the bytes of a read.
-pub const ROOM: usize = 20_480;
+// A line of 16,384 bytes with its carriage return, and room behind it for the bytes of a read.
+const ROOM: usize = 20_480;
 
 /// What the next line of a source is.
 #[derive(Clone, Copy, Debug, PartialEq, Eq)]
@@ -115,8 +112,8 @@ impl Model for Lines {
     ghost Value = { LinesState };
 
     ghost view = { λ s. record {
-        held = take (s.end - s.start) (drop s.start s.bytes.items);
-        text = take (s.text_end - s.text_start) (drop s.text_start s.bytes.items);
+      held = take (s.end - s.start) (drop s.start s.bytes.items);
+      text = take (s.text_end - s.text_start) (drop s.text_start s.bytes.items);
     } };
 
     ghost invariant = { λ s. (s.start ≤ s.end) × (s.end ≤ vec_len s.bytes) × (s.text_start ≤ s.text_end) × (s.text_end ≤ vec_len s.bytes) × (vec_len s.bytes ≡ 20480) };
