@@ -1,8 +1,8 @@
 -- Lines in bytes, and bytes that are read and held.
-use Rattle.std.proofs.Common.{◌≡◌, ◌≤◌, ◌<◌, ◌+◌, ◌-◌, ◌==◌, ◌++◌, ℕ, false, List, [], ◌∷◌, Option, None, Some, unwrap_or, length, take, drop, get_or, refl, sym, ap, ◌∙◌, subst, append_assoc, append-nil, arith, take-append-drop, take_all, length-append, length-take, length-drop, drop-drop, take-take, get_or-take, eqb-true, nat_lt}
+use Rattle.std.proofs.Common.{◌≡◌, ◌≤◌, ◌<◌, ◌+◌, ◌-◌, ◌==◌, ◌++◌, ℕ, false, List, [], ◌∷◌, Option, None, Some, unwrap_or, length, take, drop, get_or, sym, ap, ◌∙◌, subst, append_assoc, append-nil, arith, take-append-drop, take_all, length-append, length-take, drop-drop, take-take, get_or-take, eqb-true, nat_lt}
 use Rattle.std.specs.Io.KnownBytes.{Keeps, Consumes}
 use Rattle.std.proofs.KnownBytes.{Consumes-nil, Consumes-trans, Consumes-kept}
-use Rattle.std.specs.List.{list_any, position, position_or_len, slice_index}
+use Rattle.std.specs.List.{position, position_or_len, slice_index}
 use Rattle.std.specs.Str.Lines.{strip_carriage_return}
 use Rattle.std.proofs.lemmas.Bool.{cond_both}
 use Rattle.std.proofs.lemmas.Bool.Decides.{nat_tests}

@@ -1,11 +1,12 @@
-//! What is read, written, sent and stored: sources, sinks, links and depots, with counts of their faults.
+//! What is read, written, sent and stored: sources and their lines, sinks, links and depots, with counts of their faults.
 //!
 //! Stands on the roles and counts of cx_base and the disks of cx_disk; all that a program reads, writes, sends and keeps goes
-//! through it. Bytes come from a `Source` and go to a `Sink`; datagrams go over a `Link` between ports; a `Depot` keeps a store
+//! through it. Bytes come from a `Source`, also line by line (`Lines`), and go to a `Sink`; datagrams go over a `Link` between ports; a `Depot` keeps a store
 //! for each role, hands it out and takes it back. A failure is always counted, and nothing else is; a datagram that is lost
 //! is a loss, which is no fault.
 //!
-//! Proved: over readers and writers, and in memory, what was read or written is told exactly; a `MemLink` tells each bind, what
+//! Proved: over readers and writers, and in memory, what was read or written is told exactly; `Lines` gives each line of a source,
+//! says of one that it is too long as soon as it is, and loses nothing where a read fails; a `MemLink` tells each bind, what
 //! each take gave and what it was asked to send, until it lacks room; a `MemDepot` hands out what a role's store held when it
 //! came back, and a crash then leaves just that; every adapter is safe and keeps its counts. Only tested: what sockets
 //! (`UdpLink`) and files (`FileDisk`, `FileDepot`) do, and in what order a `MemLink` gives its datagrams.
@@ -19,7 +20,10 @@ mod depot_tests;
 mod desk;
 mod file_depot;
 mod file_disk;
+mod in_pieces;
 mod lines;
+#[cfg(test)]
+mod lines_tests;
 mod link;
 #[cfg(test)]
 mod link_tests;
@@ -42,7 +46,8 @@ pub use counted_disk::CountedDisk;
 pub use depot::Depot;
 pub use file_depot::FileDepot;
 pub use file_disk::FileDisk;
-pub use lines::{LONGEST, Lines, Next};
+pub use in_pieces::InPieces;
+pub use lines::{Lines, Next};
 pub use link::{Link, TakeEnd};
 pub use mem_depot::MemDepot;
 pub use mem_link::{LinkFailing, MemLink};

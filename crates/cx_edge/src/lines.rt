@@ -13,11 +13,8 @@ use cx_base::NoMemory;
 use std::alloc::Global;
 use std::marker::Model;
 
-/// The greatest length that may be asked for: of a line in bytes, without its line feed and a carriage return.
-pub const LONGEST: usize = 16_384;
-
-/// A line of that length with its carriage return, and room behind it for the bytes of a read.
-pub const ROOM: usize = 20_480;
+// A line of 16,384 bytes with its carriage return, and room behind it for the bytes of a read.
+const ROOM: usize = 20_480;
 
 /// What the next line of a source is.
 #[derive(Clone, Copy, Debug, PartialEq, Eq)]

@@ -1,4 +1,4 @@
-use Rattle.std.proofs.Common.{◌≡◌, ◌≤◌, ◌+◌, ◌-◌, ◌∙◌, ℕ, List, length, take, drop, arith, sym, subst, length-take, length-drop}
+use Rattle.std.proofs.Common.{◌≤◌, ◌+◌, ◌-◌, ◌∙◌, ℕ, List, length, take, drop, arith, sym, subst, length-take}
 use Rattle.cx_edge.specs.Lines.{LinesState, CutsLine, IsFirstLine}
 use Rattle.cx_edge.proofs.LineLaws.{drop_between, take_between}
 use Rattle.cx_edge.proofs.lines.Lines.cut.Goals as goal

@@ -1,5 +1,4 @@
-use Rattle.std.proofs.Common.{◌≡◌, ◌≤◌, ◌<◌, ◌∙◌, [], length, arith, refl}
-use Rattle.cx_edge.specs.Lines.{Hands, IsOpen}
+use Rattle.std.proofs.Common.{refl}
 use Rattle.cx_edge.proofs.LineLaws.{hands_none}
 use Rattle.cx_edge.proofs.lines.Lines.next.Goals as goal
 
