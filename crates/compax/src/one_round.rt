@@ -6,6 +6,23 @@ use crate::pieces::{
 };
 use crate::worked::{REPLAY, Run};
 
+/// A put is chosen, executed and answered.
+pub const ONE_PUT: Run = Run {
+    name: "one put",
+    input: &[HEADER, LED, ASKED, VOTED, ANSWERED],
+    printed: &[
+        LED_TRACE,
+        ASKED_TRACE,
+        VOTED_TRACE,
+        ANSWERED_TRACE,
+        "chosen 1
+0 client:0 1 put a 1 acts
+replica:0 held 1 a=1
+",
+    ],
+    ..REPLAY
+};
+
 /// The runs of a cluster with one of each role.
 pub const RUNS: [Run; 8] = [
     Run {
@@ -23,21 +40,7 @@ pub const RUNS: [Run; 8] = [
         printed: &[LED_TRACE, NOTHING],
         ..REPLAY
     },
-    Run {
-        name: "one put",
-        input: &[HEADER, LED, ASKED, VOTED, ANSWERED],
-        printed: &[
-            LED_TRACE,
-            ASKED_TRACE,
-            VOTED_TRACE,
-            ANSWERED_TRACE,
-            "chosen 1
-0 client:0 1 put a 1 acts
-replica:0 held 1 a=1
-",
-        ],
-        ..REPLAY
-    },
+    ONE_PUT,
     Run {
         name: "a repeated question has one vote, and its answers one announcement",
         input: &[

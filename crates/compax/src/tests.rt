@@ -1,12 +1,14 @@
 //! The worked runs, the shipped schedules and the generator, over sources and sinks in memory.
 
+ghost use Rattle.std.specs.Prelude.{◌<◌};
+
 use crate::shipped::CASES;
 use crate::top::top;
 use crate::words::{Invocation, said};
 use crate::worked::{REPLAY, Run};
 use crate::{generated, later_rounds, one_round, refusals};
 use cx_base::{Kind, RoleId, Status};
-use cx_edge::{LinkFailing, LinkRoom, MemDepot, MemLink, MemSink, MemSource};
+use cx_edge::{InPieces, LinkFailing, LinkRoom, MemDepot, MemLink, MemSink, MemSource};
 use std::alloc::Global;
 use std::test::Fail;
 
@@ -91,6 +93,34 @@ fn runs_one_round(rt: HostRuntime) -> Result<(), Fail> {
     for run in &one_round::RUNS {
         assert!(rt; comes_to(alloc, run)?, "{}", run.name);
     }
+    Ok(())
+}
+
+// Whether the run of one put prints the same where each read gives at most so many bytes, and each write takes one.
+fn prints_in_pieces(alloc: Global, piece: usize) -> Result<bool, Fail>
+    requires { 0 < piece }
+{
+    let run = &one_round::ONE_PUT;
+    let words = owned(alloc, run.words)?;
+    let bytes = joined(alloc, run.input)?;
+    let mut input = InPieces::new(MemSource::new(bytes, Vec::new(alloc)), piece);
+    let mut out = InPieces::new(MemSink::new(alloc, 20_000, Vec::new(alloc))?, 1);
+    let mut err = MemSink::new(alloc, 100, Vec::new(alloc))?;
+    let mut link = no_link(alloc)?;
+    let mut depot = MemDepot::new(alloc, Vec::new(alloc), 0, Vec::new(alloc))?;
+    let status = top(
+        alloc, &words, &mut input, &mut out, &mut err, &mut link, &mut depot,
+    );
+    let printed = joined(alloc, run.printed)?;
+    Ok(status == Status::Done && out.inner().as_slice() == printed.as_slice())
+}
+
+#[test]
+fn replays_in_pieces(rt: HostRuntime) -> Result<(), Fail> {
+    let alloc = rt.alloc();
+    assert!(rt; prints_in_pieces(alloc, 1)?);
+    assert!(rt; prints_in_pieces(alloc, 7)?);
+    assert!(rt; prints_in_pieces(alloc, 4096)?);
     Ok(())
 }
 

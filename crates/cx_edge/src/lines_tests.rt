@@ -1,5 +1,7 @@
 //! Lines that come in pieces.
 
+ghost use Rattle.std.specs.Prelude.{◌<◌};
+
 use crate::{InPieces, Lines, MemSource, Next};
 use std::alloc::Global;
 use std::test::Fail;
