@@ -1,27 +1,59 @@
 #!/usr/bin/env bash
 # Refuses each growth of memory in turn while a crate's tests run, and says how many were refused and how the runs ended. A run may fail its test, since
-# a call answers that memory is wanting; it must not fault or hang. Use: tools/growths.sh CRATE..
+# a call answers that memory is wanting; it must not fault or hang. Use: tools/growths.sh CRATE.. (each proved and built by `rt test`), or
+# tools/growths.sh --program PROGRAM WORD.. for each growth of one run of a program, whose input is this script's own: it must end with status 9 and one
+# line, or as it ends when nothing is refused.
 set -u
 top="$(cd "$(dirname "${BASH_SOURCE[0]}")/.." && pwd)"
-said=$(mktemp)
-trap 'rm -f "$said"' EXIT
-worst=0
-for crate in "$@"; do
-  cd "$top/crates/$crate" || exit 2
-  n=1
-  faults=0
+room=$(mktemp -d)
+trap 'rm -rf "$room"' EXIT
+cc -O1 -shared -fPIC -o "$room/refuse.so" "$top/tools/refuse.c" -ldl || exit 2
+
+# refused N COMMAND..: runs it with its growth N refused, and leaves in `count` how many growths it asked for
+refused() {
+  local n=$1
+  shift
+  rm -f "$room/count"
+  REFUSE=$n REFUSE_COUNT="$room/count" timeout 60 env LD_PRELOAD="$room/refuse.so" "$@" >"$room/out" 2>"$room/err" <"$room/in"
+  status=$?
+  count=$(cat "$room/count" 2>/dev/null || echo 0)
+}
+
+# each COMMAND..: refuses each growth of it in turn; the ends that are well are `wanted`
+each() {
+  local n=1
   while :; do
-    rt try --test --fail-alloc "$n" >"$said" 2>&1
-    status=$?
-    [[ $status == 0 ]] && break
-    if [[ $status != 101 ]]; then
+    refused "$n" "$@"
+    [[ $count -lt $n && $status -lt 124 ]] && break
+    tried=$((tried + 1))
+    if [[ " $wanted " != *" $status "* ]]; then
       faults=$((faults + 1))
-      echo "$crate: growth $n: status $status"
-      tail -n 3 "$said"
+      echo "growth $n of $*: status $status"
+      tail -n 3 "$room/err"
     fi
+    [[ $status == 0 ]] && unseen=$((unseen + 1))
     n=$((n + 1))
   done
-  echo "$crate: $((n - 1)) growths refused, $faults faults"
+}
+
+worst=0
+if [[ ${1:-} == --program ]]; then
+  shift
+  cat >"$room/in"
+  tried=0 faults=0 unseen=0 wanted="0 9"
+  each "$@"
+  echo "$*: $tried growths refused, $unseen of them without a word, $faults faults"
+  exit $((faults > 0))
+fi
+: >"$room/in"
+for crate in "$@"; do
+  tests="$top/crates/$crate/out/${crate}_tests"
+  (cd "$top/crates/$crate" && rt test) >"$room/said" 2>&1 || { tail -n 5 "$room/said"; exit 2; }
+  tried=0 faults=0 unseen=0 wanted="0 101"
+  while read -r test; do
+    each "$tests" "$test"
+  done < <("$tests" --list | sed -n 's/: test$//p')
+  echo "$crate: $tried growths refused, $unseen of them without a word, $faults faults"
   [[ $faults == 0 ]] || worst=1
 done
 exit $worst

@@ -1,5 +1,5 @@
 -- What a seat's role did is what the seat shows.
-use Rattle.std.proofs.Common.{◌≡◌, ℕ, Bool, List, Option, None, Some, ap, sym, ◌∙◌, refl, inl, subst}
+use Rattle.std.proofs.Common.{◌≡◌, ℕ, List, Option, None, Some, ap, sym, ◌∙◌, refl, inl, subst}
 use Rattle.std.specs.Prelude.{slice_get}
 use Rattle.cx_model.specs.World.{records_of}
 use Rattle.cx_msg.specs.Letter.{Letter}
@@ -33,10 +33,10 @@ fails_first gives kept old new (Some keeper) None has has_last fails = absurd fa
 fails_first gives kept old new (Some keeper) (Some last) has has_last fails =
     record { keeper = keeper; last = last; has = has; has_last = has_last; count = 0; mid = keeper; front = refl; fails = fails }
 
-nothing_grown : {K : Type 0} (gives : Appending K) (kept_of : K → List Record) (tells : K → Bool) (rs : List Record) (keeper : Option K) → GrowsPart gives kept_of tells rs keeper keeper
-nothing_grown gives kept_of tells rs None = tt
-nothing_grown gives kept_of tells rs (Some keeper) = record { count = 0; mid = keeper; front = refl; stop = inl (refl, refl) }
+nothing_grown : {K : Type 0} (gives : Appending K) (may_fail : Type 0) (rs : List Record) (keeper : Option K) → GrowsPart gives may_fail rs keeper keeper
+nothing_grown gives may_fail rs None = tt
+nothing_grown gives may_fail rs (Some keeper) = record { count = 0; mid = keeper; front = refl; stop = inl (inl refl) }
 
-pub stays_part : {K : Type 0} (gives : Appending K) (kept_of : K → List Record) (tells : K → Bool) (kept : List KeptRecord) (old new : Guest K) → new ≡ old → GuestGrowsPart gives kept_of tells kept old new
-stays_part gives kept_of tells kept old new same =
-    subst (λ (h : Guest _). GuestGrowsPart gives kept_of tells kept old h) (sym same) (record { grows = nothing_grown gives kept_of tells (records_of (who old) kept) (keeper_of old); name = refl })
+pub stays_part : {K : Type 0} (gives : Appending K) (may_fail : Type 0) (kept : List KeptRecord) (old new : Guest K) → new ≡ old → GuestGrowsPart gives may_fail kept old new
+stays_part gives may_fail kept old new same =
+    subst (λ (h : Guest _). GuestGrowsPart gives may_fail kept old h) (sym same) (record { grows = nothing_grown gives may_fail (records_of (who old) kept) (keeper_of old); name = refl })

@@ -1,17 +1,16 @@
 -- A part of a run that was done or stopped, with what came before it, and behind it.
-use Rattle.std.proofs.Common.{◌≡◌, ℕ, Bool, List, [], ◌∷◌, ◌++◌, take, Option, None, Some, option_map, Result, Ok, Err, refl, sym, ap, ◌∙◌, subst, append-nil}
+use Rattle.std.proofs.Common.{◌≡◌, ℕ, List, [], ◌∷◌, ◌++◌, take, Option, None, Some, option_map, Result, Ok, Err, refl, sym, ap, ◌∙◌, subst, append-nil}
 use Rattle.std.proofs.KnownBytes.{Appends-nil}
 use Rattle.std.proofs.lemmas.Option.{none-some, same_Some}
 use Rattle.cx_base.specs.Faults.{Rises}
 use Rattle.cx_base.specs.declared.cluster.Cluster.{Cluster}
 use Rattle.cx_base.specs.declared.role.RoleId.{RoleId}
 use Rattle.cx_edge.specs.Link.{LinkHistory, with_taken}
-use Rattle.cx_msg.specs.declared.kept.Record.{Record}
 use Rattle.cx_role.specs.Role.{Appending}
 use Rattle.cx_node.specs.declared.guest.Guest.{Guest}
 use Rattle.cx_node.specs.declared.node.Stop.{Stop}
 use Rattle.cx_node.specs.declared.node.Stop.TheVariants.{LinkFault, NoMemory, StoreFault, WriteFault}
-use Rattle.cx_node.specs.Acts.{Acts, Blames, Failures}
+use Rattle.cx_node.specs.Acts.{Acts, Blames, Failures, fails_by}
 use Rattle.cx_node.specs.Doing.{Asks, DoesPart, Scene, scene}
 use Rattle.cx_node.specs.Guest.{AreReady, hosted_in}
 use Rattle.cx_node.specs.Hosted.{Hosted, Moved, stays}
@@ -50,9 +49,9 @@ blames_then r a b d p q =
       unlinked = λ other. q.unlinked other ∙ link;
     }
 
-module _ {K : Type 0} (gives : Appending K) (kept : K → List Record) (tells : K → Bool) (c : Cluster) where
+module _ {K : Type 0} (gives : Appending K) (c : Cluster) where
   then_more : (ts us : Takes) (m : Moved (List Hosted)) (f : List Hosted → Moved (List Hosted)) (r : Done) (a b d : Scene K)
-      → Acts gives kept tells c ts m (Ok tt) a b → Acts gives kept tells c us (f m.next) r b d → Acts gives kept tells c (ts ++ us) (then_do m f) r a d
+      → Acts gives c ts m (Ok tt) a b → Acts gives c us (f m.next) r b d → Acts gives c (ts ++ us) (then_do m f) r a d
   then_more ts us m f (Ok u) a b d p q =
       record {
         done = does_then gives c ts us m f a b d p.names p.done q.done;
@@ -67,39 +66,39 @@ module _ {K : Type 0} (gives : Appending K) (kept : K → List Record) (tells : 
         done = tt;
         ready = tt;
         names = tt;
-        part = (k.0, subst (λ l. DoesPart gives kept tells c l (then_do m f) a d) (sym k.1) (does_then_part gives kept tells c ts (take q.part.0 us) m f a b d p.names p.done q.part.1));
+        part = (k.0, subst (λ l. DoesPart gives (fails_by {T = Unit {0}} (Err e)) c l (then_do m f) a d) (sym k.1) (does_then_part gives (fails_by {T = Unit {0}} (Err e)) c ts (take q.part.0 us) m f a b d p.names p.done q.part.1));
         store = λ role s. store_behind gives m.kept (f m.next).kept role a.guests b.guests d.guests p.names p.done.kept (q.store role s);
       }
 
   pub acts_then : (ts us : Takes) (m : Moved (List Hosted)) (f : List Hosted → Moved (List Hosted)) (r : Done) (a b d : Scene K)
-      → Acts gives kept tells c ts m (Ok tt) a b → Acts gives kept tells c us (f (hosted_in b.guests)) r b d → Acts gives kept tells c (ts ++ us) (then_do m f) r a d
-  acts_then ts us m f r a b d p q = then_more ts us m f r a b d p (subst (λ hs. Acts gives kept tells c us (f hs) r b d) p.done.hosted q)
+      → Acts gives c ts m (Ok tt) a b → Acts gives c us (f (hosted_in b.guests)) r b d → Acts gives c (ts ++ us) (then_do m f) r a d
+  acts_then ts us m f r a b d p q = then_more ts us m f r a b d p (subst (λ hs. Acts gives c us (f hs) r b d) p.done.hosted q)
 
   -- it stopped, and what was to come didn't
   pub acts_before : (ts us : Takes) (m : Moved (List Hosted)) (f : List Hosted → Moved (List Hosted)) (e : Stop) (a b : Scene K)
-      → Acts gives kept tells c ts m (Err e) a b → Acts gives kept tells c (ts ++ us) (then_do m f) (Err e) a b
+      → Acts gives c ts m (Err e) a b → Acts gives c (ts ++ us) (then_do m f) (Err e) a b
   acts_before ts us m f e a b p =
       let k = before ts us p.part.0 in
       record {
         done = tt;
         ready = tt;
         names = tt;
-        part = (k.0, subst (λ l. DoesPart gives kept tells c l (then_do m f) a b) (sym k.1) (part_then gives kept tells c (take p.part.0 ts) m f a b p.part.1));
+        part = (k.0, subst (λ l. DoesPart gives (fails_by {T = Unit {0}} (Err e)) c l (then_do m f) a b) (sym k.1) (part_then gives (fails_by {T = Unit {0}} (Err e)) c (take p.part.0 ts) m f a b p.part.1));
         store = λ role s. store_before gives m.kept (f m.next).kept role a.guests b.guests (p.store role s);
       }
 
   -- nothing was to be done
-  pub acts_nothing : (a : Scene K) → AreReady c a.guests → Acts gives kept tells c [] (stays (hosted_in a.guests)) (Ok tt) a a
+  pub acts_nothing : (a : Scene K) → AreReady c a.guests → Acts gives c [] (stays (hosted_in a.guests)) (Ok tt) a a
   acts_nothing a ready = record { done = does_nothing gives c a; ready = ready; names = refl; part = tt; store = λ role e. absurd (not_failed (StoreFault role) e) }
 
   -- Nothing was done: no role kept a record.
-  pub acts_none : (ts : Takes) (m : Moved (List Hosted)) (e : Stop) (a : Scene K) → ((role : RoleId) → e ≡ StoreFault role → ⊥) → Acts gives kept tells c ts m (Err e) a a
+  pub acts_none : (ts : Takes) (m : Moved (List Hosted)) (e : Stop) (a : Scene K) → ((role : RoleId) → e ≡ StoreFault role → ⊥) → Acts gives c ts m (Err e) a a
   acts_none ts m e a other =
       record {
         done = tt;
         ready = tt;
         names = tt;
-        part = (0, record { kept = guests_nothing gives kept tells m.kept a.guests; sent = part_none c [] m.sends a.link a.link (asks_nothing c a.link); printed = text_none m.text a.out });
+        part = (0, record { kept = guests_nothing gives (fails_by {T = Unit {0}} (Err e)) m.kept a.guests; sent = part_none c [] m.sends a.link a.link (asks_nothing c a.link); printed = text_none m.text a.out });
         store = λ role s. absurd (other role (ap (error_or e) s));
       }
 
@@ -108,9 +107,9 @@ asks_took c what None = λ after e. absurd (none-some after e)
 asks_took c what (Some h) = λ after e. (h, refl, sym (same_Some (with_taken what h) after e) ∙ ap (λ l. record h { taken = h.taken ++ what ∷ []; sent = l }) (sym (append-nil h.sent)))
 
 -- the link gave something at one take, or nothing
-pub acts_took : {K : Type 0} (gives : Appending K) (kept : K → List Record) (tells : K → Bool) (c : Cluster) (what : Option (List ℕ)) (gs : List (Guest K)) (link after : Option LinkHistory) (out : Option (List ℕ))
-    → after ≡ option_map (with_taken what) link → AreReady c gs → Acts gives kept tells c (what ∷ []) (stays (hosted_in gs)) (Ok tt) (scene gs link out) (scene gs after out)
-acts_took gives kept tells c what gs link after out told ready =
+pub acts_took : {K : Type 0} (gives : Appending K) (c : Cluster) (what : Option (List ℕ)) (gs : List (Guest K)) (link after : Option LinkHistory) (out : Option (List ℕ))
+    → after ≡ option_map (with_taken what) link → AreReady c gs → Acts gives c (what ∷ []) (stays (hosted_in gs)) (Ok tt) (scene gs link out) (scene gs after out)
+acts_took gives c what gs link after out told ready =
     let none = does_nothing gives c (scene gs link out) in
     record {
       done = record { hosted = refl; kept = none.kept; sent = subst (Asks c (what ∷ []) [] link) (sym told) (asks_took c what link); printed = Appends-nil out };

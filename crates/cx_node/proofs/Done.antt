@@ -1,11 +1,10 @@
 -- One part of a run after another: what both did to the roles, the link and the output.
-use Rattle.std.proofs.Common.{◌≡◌, ℕ, zero, suc, pred, Bool, List, [], ◌∷◌, ◌++◌, length, map, arith, Some, option_map, slice_get, refl, sym, ap, ◌∙◌, subst}
+use Rattle.std.proofs.Common.{◌≡◌, ℕ, zero, suc, pred, List, [], ◌∷◌, ◌++◌, length, map, arith, Some, option_map, slice_get, refl, sym, ap, ◌∙◌, subst}
 use Rattle.std.proofs.KnownBytes.{Appends-nil, Appends-trans}
 use Rattle.std.proofs.lemmas.Option.{none-some, same_Some, slice_get-map}
 use Rattle.cx_base.specs.declared.cluster.Cluster.{Cluster}
 use Rattle.cx_base.specs.declared.role.RoleId.{RoleId}
 use Rattle.cx_msg.specs.declared.input.KeptRecord.{KeptRecord}
-use Rattle.cx_msg.specs.declared.kept.Record.{Record}
 use Rattle.cx_role.specs.Role.{Appending}
 use Rattle.cx_node.specs.declared.guest.Guest.{Guest}
 use Rattle.cx_node.specs.Doing.{Does, DoesPart, GuestsGrow, GuestsGrowPart, Scene, StoreFails}
@@ -14,7 +13,7 @@ use Rattle.cx_node.specs.Hosted.{Hosted, Moved, stays}
 use Rattle.cx_node.specs.Node.{Takes}
 use Rattle.cx_node.specs.Run.{then_do}
 use Rattle.cx_node.proofs.Asked.{asks_nothing, asks_then, asks_before, asks_behind, text_before, text_behind}
-use Rattle.cx_node.proofs.Grown.{fails_before, fails_behind, grows_none, guest_before, guest_behind, guest_nothing, guest_then}
+use Rattle.cx_node.proofs.Grown.{fails_before, fails_behind, grows_none, guest_as, guest_before, guest_behind, guest_nothing, guest_then}
 
 -- what stands at a place of a list of the same length
 pub stands_at : {X Y : Type 0} (xs : List X) (ys : List Y) (i : ℕ) (x : X) → length ys ≡ length xs → slice_get xs i ≡ Some x → (y : Y) × (slice_get ys i ≡ Some y)
@@ -80,19 +79,20 @@ module _ {K : Type 0} (gives : Appending K) where
         fails = fails_behind gives ks ls a.0 s.guest s.after own (p.1 s.place a.0 s.guest a.1 s.here) s.fails;
       }
 
-module _ {K : Type 0} (gives : Appending K) (kept : K → List Record) (tells : K → Bool) where
-  guests_before : (ks ls : List KeptRecord) (gs bs : List (Guest K)) → GuestsGrowPart gives kept tells ks gs bs → GuestsGrowPart gives kept tells (ks ++ ls) gs bs
-  guests_before ks ls gs bs p = (p.0, λ i a b e f. guest_before gives kept tells ks ls a b (p.1 i a b e f))
+module _ {K : Type 0} (gives : Appending K) (failing : RoleId → Type 0) where
+  guests_before : (ks ls : List KeptRecord) (gs bs : List (Guest K)) → GuestsGrowPart gives failing ks gs bs → GuestsGrowPart gives failing (ks ++ ls) gs bs
+  guests_before ks ls gs bs p = (p.0, λ i a b e f. guest_before gives (failing (who a)) ks ls a b (p.1 i a b e f))
 
-  guests_behind : (ks ls : List KeptRecord) (gs bs ds : List (Guest K)) → map who bs ≡ map who gs → GuestsGrow gives ks gs bs → GuestsGrowPart gives kept tells ls bs ds → GuestsGrowPart gives kept tells (ks ++ ls) gs ds
+  guests_behind : (ks ls : List KeptRecord) (gs bs ds : List (Guest K)) → map who bs ≡ map who gs → GuestsGrow gives ks gs bs → GuestsGrowPart gives failing ls bs ds → GuestsGrowPart gives failing (ks ++ ls) gs ds
   guests_behind ks ls gs bs ds same p q = (
     q.0 ∙ p.0,
     λ i a d e f.
         let b = stands_at gs bs i a p.0 e in
-        guest_behind gives kept tells ks ls a b.0 d (same_at who gs bs i a b.0 same e b.1) (p.1 i a b.0 e b.1) (q.1 i b.0 d b.1 f),
+        let own = same_at who gs bs i a b.0 same e b.1 in
+        guest_behind gives (failing (who a)) ks ls a b.0 d own (p.1 i a b.0 e b.1) (subst (λ (me : RoleId). GuestGrowsPart gives (failing me) ls b.0 d) own (q.1 i b.0 d b.1 f)),
   )
 
-  pub part_then : (c : Cluster) (ts : Takes) (m : Moved (List Hosted)) (f : List Hosted → Moved (List Hosted)) (a b : Scene K) → DoesPart gives kept tells c ts m a b → DoesPart gives kept tells c ts (then_do m f) a b
+  pub part_then : (c : Cluster) (ts : Takes) (m : Moved (List Hosted)) (f : List Hosted → Moved (List Hosted)) (a b : Scene K) → DoesPart gives failing c ts m a b → DoesPart gives failing c ts (then_do m f) a b
   part_then c ts m f a b p =
       let n = f m.next in
       record {
@@ -102,7 +102,7 @@ module _ {K : Type 0} (gives : Appending K) (kept : K → List Record) (tells : 
       }
 
   pub does_then_part : (c : Cluster) (ts us : Takes) (m : Moved (List Hosted)) (f : List Hosted → Moved (List Hosted)) (a b d : Scene K) → map who b.guests ≡ map who a.guests
-      → Does gives c ts m a b → DoesPart gives kept tells c us (f m.next) b d → DoesPart gives kept tells c (ts ++ us) (then_do m f) a d
+      → Does gives c ts m a b → DoesPart gives failing c us (f m.next) b d → DoesPart gives failing c (ts ++ us) (then_do m f) a d
   does_then_part c ts us m f a b d same p q =
       let n = f m.next in
       record {
@@ -111,5 +111,11 @@ module _ {K : Type 0} (gives : Appending K) (kept : K → List Record) (tells : 
         printed = text_behind m.text n.text a.out b.out d.out p.printed q.printed;
       }
 
-  pub guests_nothing : (ks : List KeptRecord) (gs : List (Guest K)) → GuestsGrowPart gives kept tells ks gs gs
-  guests_nothing ks gs = (refl, λ i a b e f. subst (λ (g : Guest K). GuestGrowsPart gives kept tells ks a g) (same_Some a b (sym e ∙ f)) (guest_nothing gives kept tells ks a))
+  pub guests_nothing : (ks : List KeptRecord) (gs : List (Guest K)) → GuestsGrowPart gives failing ks gs gs
+  guests_nothing ks gs = (refl, λ i a b e f. subst (λ (g : Guest K). GuestGrowsPart gives (failing (who a)) ks a g) (same_Some a b (sym e ∙ f)) (guest_nothing gives (failing (who a)) ks a))
+
+-- the same where appends may have failed of other roles
+pub does_part_as : {K : Type 0} (gives : Appending K) (failing other : RoleId → Type 0) (cause : (role : RoleId) → failing role → other role) (c : Cluster) (ts : Takes) (m : Moved (List Hosted)) (a b : Scene K)
+    → DoesPart gives failing c ts m a b → DoesPart gives other c ts m a b
+does_part_as gives failing other cause c ts m a b p =
+    record { kept = (p.kept.0, λ i g h e f. guest_as gives (cause (who g)) m.kept g h (p.kept.1 i g h e f)); sent = p.sent; printed = p.printed }

@@ -1,5 +1,5 @@
 -- What keepers were given: one list of records after another, and fronts of both.
-use Rattle.std.proofs.Common.{◌≡◌, ℕ, zero, suc, Bool, List, [], ◌∷◌, ◌++◌, length, take, take_all, le_refl, Option, None, Some, slice_get, refl, sym, ap, ◌∙◌, subst, inl, inr}
+use Rattle.std.proofs.Common.{◌≡◌, ℕ, zero, suc, List, [], ◌∷◌, ◌++◌, length, take, take_all, le_refl, Option, None, Some, slice_get, refl, sym, ap, ◌∙◌, subst, inl, inr}
 use Rattle.std.proofs.lemmas.Option.{none-some}
 use Rattle.cx_model.specs.Lists.{records_append}
 use Rattle.cx_model.specs.World.{records_of}
@@ -87,13 +87,13 @@ module _ {K : Type 0} (gives : Appending K) where
         fails = subst (λ l. Fails gives (slice_get l k.0) f.mid f.last) all (subst (λ o. Fails gives o f.mid f.last) (sym k.2) (subst (λ l. Fails gives (slice_get l f.count) f.mid f.last) own f.fails));
       }
 
-module _ {K : Type 0} (gives : Appending K) (kept : K → List Record) (tells : K → Bool) where
-  stops_more : (o n : Option Record) (a b : K) → ((r : Record) → o ≡ Some r → n ≡ Some r) → Stops gives kept tells o a b → Stops gives kept tells n a b
+module _ {K : Type 0} (gives : Appending K) (may_fail : Type 0) where
+  stops_more : (o n : Option Record) (a b : K) → ((r : Record) → o ≡ Some r → n ≡ Some r) → Stops gives may_fail o a b → Stops gives may_fail n a b
   stops_more None n a b more (inl s) = inl s
-  stops_more None n a b more (inr f) = absurd f
-  stops_more (Some r) n a b more s = subst (λ x. Stops gives kept tells x a b) (sym (more r refl)) s
+  stops_more None n a b more (inr f) = absurd f.1
+  stops_more (Some r) n a b more s = subst (λ x. Stops gives may_fail x a b) (sym (more r refl)) s
 
-  part_before : (rs ss : List Record) (a b : K) → AppendedPart gives kept tells rs a b → AppendedPart gives kept tells (rs ++ ss) a b
+  part_before : (rs ss : List Record) (a b : K) → AppendedPart gives may_fail rs a b → AppendedPart gives may_fail (rs ++ ss) a b
   part_before rs ss a b p =
       let k = before rs ss p.count in
       record {
@@ -103,32 +103,32 @@ module _ {K : Type 0} (gives : Appending K) (kept : K → List Record) (tells : 
         stop = stops_more (slice_get rs p.count) (slice_get (rs ++ ss) k.0) p.mid b k.2 p.stop;
       }
 
-  part_behind : (rs ss : List Record) (a b d : K) → Appended gives rs a b → AppendedPart gives kept tells ss b d → AppendedPart gives kept tells (rs ++ ss) a d
+  part_behind : (rs ss : List Record) (a b d : K) → Appended gives rs a b → AppendedPart gives may_fail ss b d → AppendedPart gives may_fail (rs ++ ss) a d
   part_behind rs ss a b d p q =
       let k = behind rs ss q.count in
       record {
         count = k.0;
         mid = q.mid;
         front = subst (λ l. Appended gives l a q.mid) (sym k.1) (appended_then gives rs (take q.count ss) a b q.mid p q.front);
-        stop = subst (λ o. Stops gives kept tells o q.mid d) (sym k.2) q.stop;
+        stop = subst (λ o. Stops gives may_fail o q.mid d) (sym k.2) q.stop;
       }
 
-  part_whole : (rs : List Record) (a b : K) → Appended gives rs a b → AppendedPart gives kept tells rs a b
+  part_whole : (rs : List Record) (a b : K) → Appended gives rs a b → AppendedPart gives may_fail rs a b
   part_whole rs a b p =
       record {
         count = length rs;
         mid = b;
         front = subst (λ l. Appended gives l a b) (sym (take_all (length rs) rs (le_refl (length rs)))) p;
-        stop = inl (refl, refl);
+        stop = inl (inl refl);
       }
 
-  grows_before : (rs ss : List Record) (a b : Option K) → GrowsPart gives kept tells rs a b → GrowsPart gives kept tells (rs ++ ss) a b
+  grows_before : (rs ss : List Record) (a b : Option K) → GrowsPart gives may_fail rs a b → GrowsPart gives may_fail (rs ++ ss) a b
   grows_before rs ss None None p = tt
   grows_before rs ss None (Some b) p = absurd p
   grows_before rs ss (Some a) None p = absurd p
   grows_before rs ss (Some a) (Some b) p = part_before rs ss a b p
 
-  grows_behind : (rs ss : List Record) (a b d : Option K) → Grows gives rs a b → GrowsPart gives kept tells ss b d → GrowsPart gives kept tells (rs ++ ss) a d
+  grows_behind : (rs ss : List Record) (a b d : Option K) → Grows gives rs a b → GrowsPart gives may_fail ss b d → GrowsPart gives may_fail (rs ++ ss) a d
   grows_behind rs ss None None None p q = tt
   grows_behind rs ss None None (Some d) p q = absurd q
   grows_behind rs ss None (Some b) d p q = absurd p
@@ -136,34 +136,52 @@ module _ {K : Type 0} (gives : Appending K) (kept : K → List Record) (tells : 
   grows_behind rs ss (Some a) (Some b) None p q = absurd q
   grows_behind rs ss (Some a) (Some b) (Some d) p q = part_behind rs ss a b d p q
 
-  grows_whole : (rs : List Record) (a b : Option K) → Grows gives rs a b → GrowsPart gives kept tells rs a b
+  grows_whole : (rs : List Record) (a b : Option K) → Grows gives rs a b → GrowsPart gives may_fail rs a b
   grows_whole rs None None p = tt
   grows_whole rs None (Some b) p = absurd p
   grows_whole rs (Some a) None p = absurd p
   grows_whole rs (Some a) (Some b) p = part_whole rs a b p
 
-  pub guest_before : (ks ls : List KeptRecord) (a b : Guest K) → GuestGrowsPart gives kept tells ks a b → GuestGrowsPart gives kept tells (ks ++ ls) a b
+  pub guest_before : (ks ls : List KeptRecord) (a b : Guest K) → GuestGrowsPart gives may_fail ks a b → GuestGrowsPart gives may_fail (ks ++ ls) a b
   guest_before ks ls a b p =
       record {
-        grows = subst (λ rs. GrowsPart gives kept tells rs (keeper_of a) (keeper_of b)) (sym (records_append (who a) ks ls)) (grows_before (records_of (who a) ks) (records_of (who a) ls) (keeper_of a) (keeper_of b) p.grows);
+        grows = subst (λ rs. GrowsPart gives may_fail rs (keeper_of a) (keeper_of b)) (sym (records_append (who a) ks ls)) (grows_before (records_of (who a) ks) (records_of (who a) ls) (keeper_of a) (keeper_of b) p.grows);
         name = p.name;
       }
 
-  pub guest_behind : (ks ls : List KeptRecord) (a b d : Guest K) → who b ≡ who a → GuestGrows gives ks a b → GuestGrowsPart gives kept tells ls b d → GuestGrowsPart gives kept tells (ks ++ ls) a d
+  pub guest_behind : (ks ls : List KeptRecord) (a b d : Guest K) → who b ≡ who a → GuestGrows gives ks a b → GuestGrowsPart gives may_fail ls b d → GuestGrowsPart gives may_fail (ks ++ ls) a d
   guest_behind ks ls a b d same p q =
       record {
-        grows = subst (λ rs. GrowsPart gives kept tells rs (keeper_of a) (keeper_of d)) (sym (records_append (who a) ks ls))
-            (grows_behind (records_of (who a) ks) (records_of (who a) ls) (keeper_of a) (keeper_of b) (keeper_of d) p (subst (λ me. GrowsPart gives kept tells (records_of me ls) (keeper_of b) (keeper_of d)) same q.grows));
+        grows = subst (λ rs. GrowsPart gives may_fail rs (keeper_of a) (keeper_of d)) (sym (records_append (who a) ks ls))
+            (grows_behind (records_of (who a) ks) (records_of (who a) ls) (keeper_of a) (keeper_of b) (keeper_of d) p (subst (λ me. GrowsPart gives may_fail (records_of me ls) (keeper_of b) (keeper_of d)) same q.grows));
         name = q.name ∙ same;
       }
 
-  pub guest_whole : (ks : List KeptRecord) (a b : Guest K) → who b ≡ who a → GuestGrows gives ks a b → GuestGrowsPart gives kept tells ks a b
+  pub guest_whole : (ks : List KeptRecord) (a b : Guest K) → who b ≡ who a → GuestGrows gives ks a b → GuestGrowsPart gives may_fail ks a b
   guest_whole ks a b same p = record { grows = grows_whole (records_of (who a) ks) (keeper_of a) (keeper_of b) p; name = same }
 
-  grows_nothing : (rs : List Record) (o : Option K) → GrowsPart gives kept tells rs o o
+  grows_nothing : (rs : List Record) (o : Option K) → GrowsPart gives may_fail rs o o
   grows_nothing rs None = tt
-  grows_nothing rs (Some k) = record { count = 0; mid = k; front = refl; stop = inl (refl, refl) }
+  grows_nothing rs (Some k) = record { count = 0; mid = k; front = refl; stop = inl (inl refl) }
 
   -- nothing was kept yet
-  pub guest_nothing : (ks : List KeptRecord) (a : Guest K) → GuestGrowsPart gives kept tells ks a a
+  pub guest_nothing : (ks : List KeptRecord) (a : Guest K) → GuestGrowsPart gives may_fail ks a a
   guest_nothing ks a = record { grows = grows_nothing (records_of (who a) ks) (keeper_of a); name = refl }
+
+-- the same where an append may have failed for another cause
+module _ {K : Type 0} (gives : Appending K) {A B : Type 0} (cause : A → B) where
+  stops_as : (next : Option Record) (a b : K) → Stops gives A next a b → Stops gives B next a b
+  stops_as next a b (inl s) = inl s
+  stops_as next a b (inr f) = inr (cause f.0, f.1)
+
+  pub part_as : (rs : List Record) (a b : K) → AppendedPart gives A rs a b → AppendedPart gives B rs a b
+  part_as rs a b p = record { count = p.count; mid = p.mid; front = p.front; stop = stops_as (slice_get rs p.count) p.mid b p.stop }
+
+  pub grows_as : (rs : List Record) (a b : Option K) → GrowsPart gives A rs a b → GrowsPart gives B rs a b
+  grows_as rs None None p = tt
+  grows_as rs None (Some b) p = absurd p
+  grows_as rs (Some a) None p = absurd p
+  grows_as rs (Some a) (Some b) p = part_as rs a b p
+
+  pub guest_as : (ks : List KeptRecord) (a b : Guest K) → GuestGrowsPart gives A ks a b → GuestGrowsPart gives B ks a b
+  guest_as ks a b p = record { grows = grows_as (records_of (who a) ks) (keeper_of a) (keeper_of b) p.grows; name = p.name }

@@ -1,5 +1,5 @@
 -- What a role at its place does, seen of all roles: the others stay as they are, since no two have one name.
-use Rattle.std.proofs.Common.{◌≡◌, ◌⊎◌, ◌==◌, ℕ, zero, suc, Bool, true, false, List, [], ◌∷◌, length, length-set, map, IsTrue, Option, Some, option_map, Ok, Err, slice_get, slice_set, refl, sym, ap, ◌∙◌, subst, inl, inr}
+use Rattle.std.proofs.Common.{◌≡◌, ◌⊎◌, ◌==◌, ℕ, zero, suc, true, false, List, [], ◌∷◌, length, length-set, map, IsTrue, Option, Some, option_map, Ok, Err, slice_get, slice_set, refl, sym, ap, ◌∙◌, subst, inl, inr}
 use Rattle.std.proofs.lemmas.List.{length-map, map-set}
 use Rattle.std.proofs.lemmas.Option.{same_Some, slice_get-map}
 use Rattle.std.specs.Io.KnownBytes.{Appends}
@@ -22,14 +22,13 @@ use Rattle.cx_model.specs.Unbatcher.{unbatcher_rules}
 use Rattle.cx_model.specs.World.{records_of}
 use Rattle.cx_msg.specs.Letter.{Letter}
 use Rattle.cx_msg.specs.declared.input.Input.TheVariants as input
-use Rattle.cx_msg.specs.declared.kept.Record.{Record}
 use Rattle.cx_role.specs.Role.{Appending}
 use Rattle.cx_node.specs.declared.doing.Doing.{Doing}
 use Rattle.cx_node.specs.declared.doing.Doing.TheVariants.{Begin, Give}
 use Rattle.cx_node.specs.declared.guest.Guest.{Guest}
 use Rattle.cx_node.specs.declared.node.Stop.{Stop}
 use Rattle.cx_node.specs.declared.node.Stop.TheVariants.{StoreFault}
-use Rattle.cx_node.specs.Acts.{Acts}
+use Rattle.cx_node.specs.Acts.{Acts, fails_by}
 use Rattle.cx_node.specs.Doing.{Asks, AsksPart, scene}
 use Rattle.cx_node.specs.Guest.{AreDistinct, AreReady, Grows, GuestFails, GuestGrows, GuestGrowsPart, IsReady, hosted_in, hosted_of, keeper_of, who}
 use Rattle.cx_node.specs.Hosted.{Hosted, Moved, ClientAt, BatcherAt, LeaderAt, ProxyAt, AcceptorAt, MatchmakerAt, ReplicaAt, UnbatcherAt, ReaderAt, does, is_live, name_of}
@@ -83,7 +82,7 @@ names_set [] i h after e same = refl
 names_set (a ∷ gs) zero h after e same = ap (λ w. w ∷ map who gs) (same ∙ ap who (sym (same_Some a h e)))
 names_set (a ∷ gs) (suc i) h after e same = ap (λ l. who a ∷ l) (names_set gs i h after e same)
 
-module _ {K : Type 0} (gives : Appending K) (kept : K → List Record) (tells : K → Bool) (c : Cluster) (gs : List (Guest K)) (i : ℕ) (what : Doing) (h after : Guest K) (here : slice_get gs i ≡ Some h) (ready : AreReady c gs) (same : who after ≡ who h) where
+module _ {K : Type 0} (gives : Appending K) (c : Cluster) (gs : List (Guest K)) (i : ℕ) (what : Doing) (h after : Guest K) (here : slice_get gs i ≡ Some h) (ready : AreReady c gs) (same : who after ≡ who h) where
   -- what holds at that place, and of each other role, holds of all
   each_at : (P : Guest K → Guest K → Type 0) → P h after → ((j : ℕ) (a : Guest K) → (j ≡ i → ⊥) → slice_get gs j ≡ Some a → P a a)
       → (j : ℕ) (a b : Guest K) → slice_get gs j ≡ Some a → slice_get (slice_set gs i after) j ≡ Some b → P a b
@@ -119,10 +118,10 @@ module _ {K : Type 0} (gives : Appending K) (kept : K → List Record) (tells : 
   pub acts_seated : (l k : Option LinkHistory) (o p : Option (List ℕ)) (sends : List Letter) (text : List ℕ)
       → hosted_of after ≡ (does (hosted_of h) what).next → GuestGrows gives (does (hosted_of h) what).kept h after → IsTrue (is_live (hosted_of after))
       → sends ≡ (does (hosted_of h) what).sends → text ≡ (does (hosted_of h) what).text → Asks c [] sends l k → Appends o p text
-      → Acts gives kept tells c [] (does_at i what (hosted_in gs)) (Ok tt) (scene gs l o) (scene (slice_set gs i after) k p)
+      → Acts gives c [] (does_at i what (hosted_in gs)) (Ok tt) (scene gs l o) (scene (slice_set gs i after) k p)
   acts_seated l k o p sends text next grows live sends_are text_is asked printed =
       let ks = (does (hosted_of h) what).kept in
-      subst (λ (m : Moved (List Hosted)). Acts gives kept tells c [] m (Ok tt) (scene gs l o) (scene (slice_set gs i after) k p)) (sym seat_does_at)
+      subst (λ (m : Moved (List Hosted)). Acts gives c [] m (Ok tt) (scene gs l o) (scene (slice_set gs i after) k p)) (sym seat_does_at)
       (record {
         done = record {
           hosted = map-set hosted_of gs i after ∙ ap (slice_set (hosted_in gs) i) next;
@@ -141,12 +140,12 @@ module _ {K : Type 0} (gives : Appending K) (kept : K → List Record) (tells : 
       })
 
   pub acts_seated_part : (l k : Option LinkHistory) (o p : Option (List ℕ)) (e : Stop)
-      → GuestGrowsPart gives kept tells (does (hosted_of h) what).kept h after → AsksPart c [] (does (hosted_of h) what).sends l k → AppendsPart o p (does (hosted_of h) what).text
+      → GuestGrowsPart gives (fails_by {T = Unit {0}} (Err e) (who h)) (does (hosted_of h) what).kept h after → AsksPart c [] (does (hosted_of h) what).sends l k → AppendsPart o p (does (hosted_of h) what).text
       → ((role : RoleId) → e ≡ StoreFault role → (who h ≡ role) × GuestFails gives (does (hosted_of h) what).kept h after)
-      → Acts gives kept tells c [] (does_at i what (hosted_in gs)) (Err e) (scene gs l o) (scene (slice_set gs i after) k p)
+      → Acts gives c [] (does_at i what (hosted_in gs)) (Err e) (scene gs l o) (scene (slice_set gs i after) k p)
   acts_seated_part l k o p e grows asked printed failed =
       let ks = (does (hosted_of h) what).kept in
-      subst (λ (m : Moved (List Hosted)). Acts gives kept tells c [] m (Err e) (scene gs l o) (scene (slice_set gs i after) k p)) (sym seat_does_at)
+      subst (λ (m : Moved (List Hosted)). Acts gives c [] m (Err e) (scene gs l o) (scene (slice_set gs i after) k p)) (sym seat_does_at)
       (record {
         done = tt;
         ready = tt;
@@ -154,7 +153,7 @@ module _ {K : Type 0} (gives : Appending K) (kept : K → List Record) (tells : 
         part = (
           0,
           record {
-            kept = (length-set gs i after, each_at (λ a b. GuestGrowsPart gives kept tells ks a b) grows (λ j a differs at. guest_nothing gives kept tells ks a));
+            kept = (length-set gs i after, each_at (λ a b. GuestGrowsPart gives (fails_by {T = Unit {0}} (Err e) (who a)) ks a b) grows (λ j a differs at. guest_nothing gives (fails_by {T = Unit {0}} (Err e) (who a)) ks a));
             sent = asked;
             printed = printed;
           },

@@ -13,12 +13,12 @@ pub returns-in_err-all_act-clause-acts : goal.returns-in_err-all_act-clause-acts
 returns-in_err-all_act-clause-acts g c =
     let p = err_from_is_err_and c.from_residual.result c.from_residual.ensures.1 in
     let is : c.from_residual.result ≡ Err c.in_err-all_act.field-0.0 = p.1 ∙ ap Err p.2 in
-    rw is (stopped_begun g.K.Keeper.append_gives g.K.Keeper.kept g.K.Keeper.tells c.args.self.now.cluster c.args.turns c.in_err-all_act.field-0.0 (scene c.args.self.now.guests (g.L.Link.told c.args.link.now) (g.W.Sink.taken c.args.out.now)) (scene c.all_act.new.self.guests (g.L.Link.told c.all_act.new.link) (g.W.Sink.taken c.all_act.new.out)) c.in_err-all_act.ensures.acts)
+    rw is (stopped_begun g.K.Keeper.append_gives c.args.self.now.cluster c.args.turns c.in_err-all_act.field-0.0 (scene c.args.self.now.guests (g.L.Link.told c.args.link.now) (g.W.Sink.taken c.args.out.now)) (scene c.all_act.new.self.guests (g.L.Link.told c.all_act.new.link) (g.W.Sink.taken c.all_act.new.out)) c.in_err-all_act.ensures.acts)
 
 pub loop-made-init : goal.loop-made-init
 loop-made-init g c =
     record {
-      acts = begun_underway g.K.Keeper.append_gives g.K.Keeper.kept g.K.Keeper.tells c.args.self.now.cluster c.args.turns (scene c.args.self.now.guests (g.L.Link.told c.args.link.now) (g.W.Sink.taken c.args.out.now)) (scene c.all_act.new.self.guests (g.L.Link.told c.all_act.new.link) (g.W.Sink.taken c.all_act.new.out)) c.in_ok-all_act.ensures.acts;
+      acts = begun_underway g.K.Keeper.append_gives c.args.self.now.cluster c.args.turns (scene c.args.self.now.guests (g.L.Link.told c.args.link.now) (g.W.Sink.taken c.args.out.now)) (scene c.all_act.new.self.guests (g.L.Link.told c.all_act.new.link) (g.W.Sink.taken c.all_act.new.out)) c.in_ok-all_act.ensures.acts;
       blames = c.in_ok-all_act.ensures.blames;
       cluster = c.in_ok-all_act.ensures.cluster;
       most = omega arith;
@@ -30,8 +30,8 @@ loop-made-preserved g c =
     let before = (scene l.self.guests (g.L.Link.told l.link) (g.W.Sink.taken l.out)) in
     let now = (scene c.turn.new.self.guests (g.L.Link.told c.turn.new.link) (g.W.Sink.taken c.turn.new.out)) in
     record {
-      acts = turned_underway g.K.Keeper.append_gives g.K.Keeper.kept g.K.Keeper.tells c.args.self.now.cluster c.args.turns l.made (scene c.args.self.now.guests (g.L.Link.told c.args.link.now) (g.W.Sink.taken c.args.out.now)) before now c.loop-made-test.true (sym c.has_finished.ensures ∙ c.if-has_finished.false) l.invariant.acts
-          (subst (λ (cl : Cluster). ActsOnce g.K.Keeper.append_gives g.K.Keeper.kept g.K.Keeper.tells cl (λ what. turn cl (l.made + 1) what (hosted_in l.self.guests)) (Ok tt) before now) l.invariant.cluster c.in_ok-turn.ensures.acts);
+      acts = turned_underway g.K.Keeper.append_gives c.args.self.now.cluster c.args.turns l.made (scene c.args.self.now.guests (g.L.Link.told c.args.link.now) (g.W.Sink.taken c.args.out.now)) before now c.loop-made-test.true (sym c.has_finished.ensures ∙ c.if-has_finished.false) l.invariant.acts
+          (subst (λ (cl : Cluster). ActsOnce g.K.Keeper.append_gives cl (λ what. turn cl (l.made + 1) what (hosted_in l.self.guests)) (Ok tt) before now) l.invariant.cluster c.in_ok-turn.ensures.acts);
       blames = blames_then (Ok tt) _ _ _ l.invariant.blames c.in_ok-turn.ensures.blames;
       cluster = c.in_ok-turn.ensures.cluster ∙ l.invariant.cluster;
       most = omega (arith, c.loop-made-test.true);
@@ -45,5 +45,5 @@ returns-in_err-turn-clause-acts g c =
     let p = err_from_is_err_and c.from_residual-in_err-turn.result c.from_residual-in_err-turn.ensures.1 in
     let is : c.from_residual-in_err-turn.result ≡ Err c.in_err-turn.field-0.0 = p.1 ∙ ap Err p.2 in
     rw is
-    (stopped_turn g.K.Keeper.append_gives g.K.Keeper.kept g.K.Keeper.tells c.args.self.now.cluster c.args.turns l.made c.in_err-turn.field-0.0 (scene c.args.self.now.guests (g.L.Link.told c.args.link.now) (g.W.Sink.taken c.args.out.now)) before now c.loop-made-test.true (sym c.has_finished.ensures ∙ c.if-has_finished.false) l.invariant.acts
-    (subst (λ (cl : Cluster). ActsOnce g.K.Keeper.append_gives g.K.Keeper.kept g.K.Keeper.tells cl (λ what. turn cl (l.made + 1) what (hosted_in l.self.guests)) (Err c.in_err-turn.field-0.0) before now) l.invariant.cluster c.in_err-turn.ensures.acts))
+    (stopped_turn g.K.Keeper.append_gives c.args.self.now.cluster c.args.turns l.made c.in_err-turn.field-0.0 (scene c.args.self.now.guests (g.L.Link.told c.args.link.now) (g.W.Sink.taken c.args.out.now)) before now c.loop-made-test.true (sym c.has_finished.ensures ∙ c.if-has_finished.false) l.invariant.acts
+    (subst (λ (cl : Cluster). ActsOnce g.K.Keeper.append_gives cl (λ what. turn cl (l.made + 1) what (hosted_in l.self.guests)) (Err c.in_err-turn.field-0.0) before now) l.invariant.cluster c.in_err-turn.ensures.acts))

@@ -20,7 +20,7 @@ pub returns-in_default-clause-acts : goal.returns-in_default-clause-acts
 returns-in_default-clause-acts g c =
     let hs = hosted_in c.args.self.now.guests in
     let found : place_of (role kind.Leader 0) hs ≡ None = ap (λ r. place_of r hs) (sym c.new.ensures) ∙ sym c.find.ensures ∙ c.in_default.is in
-    lead_none g.K.Keeper.append_gives g.K.Keeper.kept g.K.Keeper.tells c.args.self.now.cluster (place_of (role kind.Leader 0) hs) (scene c.args.self.now.guests (g.L.Link.told c.args.link.now) (g.W.Sink.taken c.args.out.now)) found c.requires.ready
+    lead_none g.K.Keeper.append_gives c.args.self.now.cluster (place_of (role kind.Leader 0) hs) (scene c.args.self.now.guests (g.L.Link.told c.args.link.now) (g.W.Sink.taken c.args.out.now)) found c.requires.ready
 
 pub index-requires : goal.index-requires
 index-requires g c =
@@ -38,7 +38,7 @@ returns-then-not-is_idle_leader-clause-acts g c =
     let found : place_of (role kind.Leader 0) hs ≡ Some i = ap (λ r. place_of r hs) (sym c.new.ensures) ∙ sym c.find.ensures ∙ c.in-Some.is in
     let inside : i < length gs = place_within (role kind.Leader 0) gs i found in
     let here : slice_get gs i ≡ Some h = slice_get_read gs (length gs) i h refl inside (c.index.ensures ∙ ap (λ xs. get_or xs i h) same) in
-    lead_busy g.K.Keeper.append_gives g.K.Keeper.kept g.K.Keeper.tells c.args.self.now.cluster (place_of (role kind.Leader 0) hs) i (scene c.args.self.now.guests (g.L.Link.told c.args.link.now) (g.W.Sink.taken c.args.out.now)) found (ap idle_at (hosted_at gs i h here) ∙ sym c.is_idle_leader.ensures ∙ c.if-not-is_idle_leader.true) c.requires.ready
+    lead_busy g.K.Keeper.append_gives c.args.self.now.cluster (place_of (role kind.Leader 0) hs) i (scene c.args.self.now.guests (g.L.Link.told c.args.link.now) (g.W.Sink.taken c.args.out.now)) found (ap idle_at (hosted_at gs i h here) ∙ sym c.is_idle_leader.ensures ∙ c.if-not-is_idle_leader.true) c.requires.ready
 
 pub act-requires-clause-place : goal.act-requires-clause-place
 act-requires-clause-place g c = place_within c.new.result c.args.self.now.guests c.in-Some.place (sym c.find.ensures ∙ c.in-Some.is)
@@ -54,5 +54,5 @@ returns-clause-acts g c =
     let found : place_of (role kind.Leader 0) hs ≡ Some i = ap (λ r. place_of r hs) (sym c.new.ensures) ∙ sym c.find.ensures ∙ c.in-Some.is in
     let inside : i < length gs = place_within (role kind.Leader 0) gs i found in
     let here : slice_get gs i ≡ Some h = slice_get_read gs (length gs) i h refl inside (c.index.ensures ∙ ap (λ xs. get_or xs i h) same) in
-    lead_idle g.K.Keeper.append_gives g.K.Keeper.kept g.K.Keeper.tells c.args.self.now.cluster (place_of (role kind.Leader 0) hs) i c.act.result (scene c.args.self.now.guests (g.L.Link.told c.args.link.now) (g.W.Sink.taken c.args.out.now)) (scene c.act.new.self.guests (g.L.Link.told c.act.new.link) (g.W.Sink.taken c.act.new.out)) found (ap idle_at (hosted_at gs i h here) ∙ sym c.is_idle_leader.ensures ∙ c.if-not-is_idle_leader.false)
-    (subst (λ (s : Shape). Acts g.K.Keeper.append_gives g.K.Keeper.kept g.K.Keeper.tells c.args.self.now.cluster [] (does_at i (Give (input.Order (order.Lead s))) hs) c.act.result (scene c.args.self.now.guests (g.L.Link.told c.args.link.now) (g.W.Sink.taken c.args.out.now)) (scene c.act.new.self.guests (g.L.Link.told c.act.new.link) (g.W.Sink.taken c.act.new.out))) (c.first_grid.ensures ∙ ap grid_of same_cluster) c.act.ensures.acts)
+    lead_idle g.K.Keeper.append_gives c.args.self.now.cluster (place_of (role kind.Leader 0) hs) i c.act.result (scene c.args.self.now.guests (g.L.Link.told c.args.link.now) (g.W.Sink.taken c.args.out.now)) (scene c.act.new.self.guests (g.L.Link.told c.act.new.link) (g.W.Sink.taken c.act.new.out)) found (ap idle_at (hosted_at gs i h here) ∙ sym c.is_idle_leader.ensures ∙ c.if-not-is_idle_leader.false)
+    (subst (λ (s : Shape). Acts g.K.Keeper.append_gives c.args.self.now.cluster [] (does_at i (Give (input.Order (order.Lead s))) hs) c.act.result (scene c.args.self.now.guests (g.L.Link.told c.args.link.now) (g.W.Sink.taken c.args.out.now)) (scene c.act.new.self.guests (g.L.Link.told c.act.new.link) (g.W.Sink.taken c.act.new.out))) (c.first_grid.ensures ∙ ap grid_of same_cluster) c.act.ensures.acts)

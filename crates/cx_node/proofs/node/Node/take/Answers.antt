@@ -16,7 +16,7 @@ returns-in_err-datagram-clause-acts g c =
     let out = g.W.Sink.taken c.args.out.now in
     let p = err_from_is_err_and c.from_residual.result c.from_residual.ensures.1 in
     let is : c.from_residual.result ≡ Err c.in_err-datagram.field-0.0 = p.1 ∙ ap Err p.2 in
-    rw (is, same) (take_stops g.K.Keeper.append_gives g.K.Keeper.kept g.K.Keeper.tells c.args.self.now.cluster gs link mid out c.in_err-datagram.field-0.0 c.requires.ready c.in_err-datagram.ensures.told)
+    rw (is, same) (take_stops g.K.Keeper.append_gives c.args.self.now.cluster gs link mid out c.in_err-datagram.field-0.0 c.requires.ready c.in_err-datagram.ensures.told)
 
 pub returns-in-Some-clause-acts : goal.returns-in-Some-clause-acts
 returns-in-Some-clause-acts g c =
@@ -27,7 +27,7 @@ returns-in-Some-clause-acts g c =
     let out = g.W.Sink.taken c.args.out.now in
     let same_cluster : c.self.inside.cluster ≡ c.args.self.now.cluster = ap (λ (s : NodeState g.row.K.Denot). s.cluster) c.self.view_is in
     let got : Receives link mid (Ok (Some c.in-Some.datagram)) = subst (λ (o : Option Letter). Receives link mid (Ok o)) c.in-Some.is c.in_ok-datagram.ensures.told in
-    take_some g.K.Keeper.append_gives g.K.Keeper.kept g.K.Keeper.tells c.args.self.now.cluster c.in-Some.datagram gs link mid out c.act_named.result (scene c.act_named.new.self.guests (g.L.Link.told c.act_named.new.link) (g.W.Sink.taken c.act_named.new.out)) c.requires.ready got
+    take_some g.K.Keeper.append_gives c.args.self.now.cluster c.in-Some.datagram gs link mid out c.act_named.result (scene c.act_named.new.self.guests (g.L.Link.told c.act_named.new.link) (g.W.Sink.taken c.act_named.new.out)) c.requires.ready got
     (rw (same, same_cluster, c.to-to.ensures.to) at c.act_named.ensures.acts)
 
 pub returns-in-None-clause-acts : goal.returns-in-None-clause-acts
@@ -37,4 +37,4 @@ returns-in-None-clause-acts g c =
     let link = g.L.Link.told c.args.link.now in
     let mid = g.L.Link.told c.receive.new.link in
     let out = g.W.Sink.taken c.args.out.now in
-    rw same (take_none g.K.Keeper.append_gives g.K.Keeper.kept g.K.Keeper.tells c.args.self.now.cluster gs link mid out c.requires.ready (subst (λ (o : Option Letter). Receives link mid (Ok o)) c.in-None.is c.in_ok-datagram.ensures.told))
+    rw same (take_none g.K.Keeper.append_gives c.args.self.now.cluster gs link mid out c.requires.ready (subst (λ (o : Option Letter). Receives link mid (Ok o)) c.in-None.is c.in_ok-datagram.ensures.told))

@@ -5,8 +5,8 @@ use Rattle.cx_node.proofs.node.Node.tick.Goals as goal
 
 pub returns-then-is_tick_turn-clause-acts : goal.returns-then-is_tick_turn-clause-acts
 returns-then-is_tick_turn-clause-acts g c =
-    tick_due g.K.Keeper.append_gives g.K.Keeper.kept g.K.Keeper.tells c.args.self.now.cluster c.args.n c.all_act.result (scene c.args.self.now.guests (g.L.Link.told c.args.link.now) (g.W.Sink.taken c.args.out.now)) (scene c.all_act.new.self.guests (g.L.Link.told c.all_act.new.link) (g.W.Sink.taken c.all_act.new.out)) (sym c.is_tick_turn.ensures ∙ c.if-is_tick_turn.true) c.all_act.ensures.acts
+    tick_due g.K.Keeper.append_gives c.args.self.now.cluster c.args.n c.all_act.result (scene c.args.self.now.guests (g.L.Link.told c.args.link.now) (g.W.Sink.taken c.args.out.now)) (scene c.all_act.new.self.guests (g.L.Link.told c.all_act.new.link) (g.W.Sink.taken c.all_act.new.out)) (sym c.is_tick_turn.ensures ∙ c.if-is_tick_turn.true) c.all_act.ensures.acts
 
 pub returns-clause-acts : goal.returns-clause-acts
 returns-clause-acts g c =
-    tick_none g.K.Keeper.append_gives g.K.Keeper.kept g.K.Keeper.tells c.args.self.now.cluster c.args.n (scene c.args.self.now.guests (g.L.Link.told c.args.link.now) (g.W.Sink.taken c.args.out.now)) (sym c.is_tick_turn.ensures ∙ c.if-is_tick_turn.false) c.requires.ready
+    tick_none g.K.Keeper.append_gives c.args.self.now.cluster c.args.n (scene c.args.self.now.guests (g.L.Link.told c.args.link.now) (g.W.Sink.taken c.args.out.now)) (sym c.is_tick_turn.ensures ∙ c.if-is_tick_turn.false) c.requires.ready

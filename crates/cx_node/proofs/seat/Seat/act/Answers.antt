@@ -1,6 +1,7 @@
 use Rattle.std.proofs.Common.{ap, sym, ◌∙◌, rules, subst, refl}
-use Rattle.std.specs.Prelude.{slice_get}
+use Rattle.std.specs.Prelude.{IsErrOf, slice_get}
 use Rattle.cx_model.specs.World.{records_of}
+use Rattle.cx_role.specs.declared.role.StepFault.TheVariants as fault
 use Rattle.cx_node.specs.declared.guest.Guest.{Guest}
 use Rattle.cx_node.specs.Guest.{hosted_of, keeper_of, who}
 use Rattle.cx_node.specs.Hosted.{Hosted, Moved, does, given}
@@ -12,7 +13,7 @@ use Rattle.cx_node.proofs.seat.Seat.act.Goals as goal
 pub returns-in_err-begin-in-Begin-clause-part : goal.returns-in_err-begin-in-Begin-clause-part
 returns-in_err-begin-in-Begin-clause-part g c =
     let same = ap (λ (h : Guest _). named c.self.inside.me h) c.begin.ensures.state ∙ c.self.view_is in
-    let part = stays_part g.K.Keeper.append_gives g.K.Keeper.kept g.K.Keeper.tells (does (hosted_of c.args.self.now) c.args.what.now).kept c.args.self.now (named c.self.inside.me c.begin.new.guest) same in
+    let part = stays_part g.K.Keeper.append_gives (IsErrOf c.from_residual.result fault.Failed) (does (hosted_of c.args.self.now) c.args.what.now).kept c.args.self.now (named c.self.inside.me c.begin.new.guest) same in
     search (rules, part)
 
 pub returns-in_err-give-in-Give-clause-failed : goal.returns-in_err-give-in-Give-clause-failed
