@@ -1,5 +1,5 @@
 -- What a part of a node's run came to: it was done whole, or a front of it was done and something failed.
-use Rattle.std.specs.Prelude.{◌≡◌, ◌⊎◌, ◌≤◌, ◌<◌, ℕ, Bool, true, false, List, [], ◌∷◌, length, map, take, Option, None, Some, option_map, Result, Ok, Err, OnOk, OnErr}
+use Rattle.std.specs.Prelude.{◌≡◌, ◌⊎◌, ◌≤◌, ◌<◌, ℕ, true, false, List, [], ◌∷◌, length, map, take, Option, None, Some, option_map, Result, Ok, Err, OnOk, OnErr}
 use Rattle.cx_base.specs.Faults.{Rises}
 use Rattle.cx_base.specs.declared.cluster.Cluster.{Cluster}
 use Rattle.cx_base.specs.declared.role.RoleId.{RoleId}
@@ -7,7 +7,6 @@ use Rattle.cx_edge.specs.Link.{LinkHistory, with_taken}
 use Rattle.cx_msg.specs.Decoding.{decoded}
 use Rattle.cx_msg.specs.Letter.{Letter}
 use Rattle.cx_msg.specs.declared.fault.WireFault.{WireFault}
-use Rattle.cx_msg.specs.declared.kept.Record.{Record}
 use Rattle.cx_role.specs.Role.{Appending}
 use Rattle.cx_node.specs.declared.node.Stop.{Stop}
 use Rattle.cx_node.specs.declared.node.Stop.TheVariants.{LinkFault, NoMemory, StoreFault, WriteFault}

@@ -1,5 +1,5 @@
 -- What contracts see of a hosted role, and what its keeper was given.
-use Rattle.std.specs.Prelude.{◌≡◌, ◌⊎◌, ℕ, Bool, List, [], ◌∷◌, map, take, Option, None, Some, Ok, Err, slice_get, IsTrue}
+use Rattle.std.specs.Prelude.{◌≡◌, ◌⊎◌, ℕ, List, [], ◌∷◌, map, take, Option, None, Some, Ok, Err, slice_get, IsTrue}
 use Rattle.cx_base.specs.declared.cluster.Cluster.{Cluster}
 use Rattle.cx_base.specs.declared.role.RoleId.{RoleId}
 use Rattle.cx_keeper.specs.declared.keeper.KeepFault.TheVariants.{Failed}
