@@ -1,3 +1,4 @@
+pub mod Hosting
 pub mod Matching
 pub mod Naming
 pub mod Numbers
