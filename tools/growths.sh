@@ -1,8 +1,8 @@
 #!/usr/bin/env bash
-# Refuses each growth of memory in turn while a crate's tests run, and says how many were refused and how the runs ended. A run may fail its test, since
-# a call answers that memory is wanting; it must not fault or hang. Use: tools/growths.sh CRATE.. (each proved and built by `rt test`), or
-# tools/growths.sh --program PROGRAM WORD.. for each growth of one run of a program, whose input is this script's own: it must end with status 9 and one
-# line, or as it ends when nothing is refused.
+# Refuses each growth of memory in turn while a crate's tests run, and says how many were refused and how the runs ended. A run may fail its test, by an
+# error or an assertion, since a call answers that memory is wanting; it must not fault or hang. Use: tools/growths.sh CRATE.. (each is proved and built by
+# `rt test` first), or tools/growths.sh --program PROGRAM WORD.. for each growth of one run of a program, whose input is this script's own: it must end
+# with the status of want of memory, or with 0.
 set -u
 top="$(cd "$(dirname "${BASH_SOURCE[0]}")/.." && pwd)"
 room=$(mktemp -d)
@@ -14,19 +14,26 @@ refused() {
   local n=$1
   shift
   rm -f "$room/count"
-  REFUSE=$n REFUSE_COUNT="$room/count" timeout 60 env LD_PRELOAD="$room/refuse.so" "$@" >"$room/out" 2>"$room/err" <"$room/in"
+  {
+    REFUSE=$n REFUSE_COUNT="$room/count" timeout 60 env LD_PRELOAD="$room/refuse.so" "$@" >"$room/out" 2>"$room/err" <"$room/in"
+  } 2>/dev/null
   status=$?
   count=$(cat "$room/count" 2>/dev/null || echo 0)
 }
 
-# each COMMAND..: refuses each growth of it in turn; the ends that are well are `wanted`
+# A failed assertion of a test aborts it.
+is_well() {
+  [[ " $wanted " == *" $status "* ]] || { [[ $status == 134 ]] && grep -q '^assertion' "$room/err"; }
+}
+
+# each COMMAND..: refuses each growth of it in turn; the statuses that are well are `wanted`
 each() {
   local n=1
   while :; do
     refused "$n" "$@"
-    [[ $count -lt $n && $status -lt 124 ]] && break
+    [[ $count -lt $n && $status == 0 ]] && break
     tried=$((tried + 1))
-    if [[ " $wanted " != *" $status "* ]]; then
+    if ! is_well; then
       faults=$((faults + 1))
       echo "growth $n of $*: status $status"
       tail -n 3 "$room/err"
