@@ -88,8 +88,8 @@ one_cluster roles left all c d events more known one two = same_cluster (sym (sa
 
 -- what is answered where the whole input is known and the store of a hosted role is none of its own
 pub tells_bad_so : (roles : List RoleId) (c : Cluster) (events : List Event) (turns : ℕ) (old new : Outside) (s : Status) → Says roles old.left c events → HostAnswered roles c events turns old new s
-    → (all : List ℕ) → old.left ≡ Some all → TellsBad roles old new s
-tells_bad_so roles c events turns old new s says host all known whole tells d more role at said bad = go s refl
+    → TellsBad roles old new s
+tells_bad_so roles c events turns old new s says host whole tells all known d more role at said bad = go s refl
   where
     first : IsFirstBad roles c old.held role at
     first = subst (λ e. IsFirstBad roles e old.held role at) (one_cluster roles old.left all d c more events known said says) bad
@@ -115,15 +115,14 @@ tells_bad_so roles c events turns old new s says host all known whole tells d mo
         inl (e ∙ ap (λ r. status.BadStore r place) one.0 ∙ ap (λ n. status.BadStore role n) one.1)
 
 -- the same where the input was refused
-pub refused_tells_bad : (roles : List RoleId) (turns : ℕ) (old new : Outside) (why : Refusal) → Answered roles turns old new (refused_status why)
-    → (all : List ℕ) → old.left ≡ Some all → TellsBad roles old new (refused_status why)
-refused_tells_bad roles turns old new why is all known whole tells c events role at said bad = go why is
+pub refused_tells_bad : (roles : List RoleId) (turns : ℕ) (old new : Outside) (why : Refusal) (s : Status) → s ≡ refused_status why → Answered roles turns old new s → TellsBad roles old new s
+refused_tells_bad roles turns old new why s is answered whole tells all known c events role at said bad = go why is
   where
     accepted : refused_of roles (input_of all) ≡ None
     accepted = (subst (λ o. Says roles o c events) known said).1
 
-    go : (why : Refusal) → Answered roles turns old new (refused_status why) → (refused_status why ≡ status.BadStore role at) ⊎ (refused_status why ≡ status.NoMemory)
-    go refusal.NoMemory so = inr refl
-    go refusal.ReadFault so = absurd (whole.reads (so.read_fault refl).0)
-    go (refusal.BadInput line) so = absurd (not_refused roles old.left (refusal.BadInput line) all known accepted (so.bad_input line refl).0)
-    go refusal.BadWords so = absurd (not_refused roles old.left refusal.BadWords all known accepted (so.bad_words refl).0)
+    go : (why : Refusal) → s ≡ refused_status why → (s ≡ status.BadStore role at) ⊎ (s ≡ status.NoMemory)
+    go refusal.NoMemory e = inr e
+    go refusal.ReadFault e = absurd (whole.reads (answered.read_fault e).0)
+    go (refusal.BadInput line) e = absurd (not_refused roles old.left (refusal.BadInput line) all known accepted (answered.bad_input line e).0)
+    go refusal.BadWords e = absurd (not_refused roles old.left refusal.BadWords all known accepted (answered.bad_words e).0)

@@ -166,9 +166,9 @@ EndsWell other = ⊥
 abbrev pub Completes : List RoleId → Outside → Outside → Status → Type 0
 Completes roles old new s = NoFault old new → IsGood roles old → EndsWell s
 
--- Where the input is accepted and nothing fails, a store that is none of its role's is always told, or memory is wanting.
+-- Where the whole input is known and accepted and nothing fails, a store that is none of its role's is always told, or memory is wanting.
 abbrev pub TellsBad : List RoleId → Outside → Outside → Status → Type 0
 TellsBad roles old new s =
-    NoFault old new → old.tells ≡ true → (c : Cluster) (events : List Event) (role : RoleId) (at : ℕ)
+    NoFault old new → old.tells ≡ true → (all : List ℕ) → old.left ≡ Some all → (c : Cluster) (events : List Event) (role : RoleId) (at : ℕ)
     → Says roles old.left c events → IsFirstBad roles c old.held role at
     → (s ≡ status.BadStore role at) ⊎ (s ≡ status.NoMemory)

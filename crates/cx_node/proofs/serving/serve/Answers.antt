@@ -1,6 +1,6 @@
 use Rattle.std.proofs.Common.{rules, sym, subst}
 use Rattle.cx_node.specs.Serving.{Says, outside}
-use Rattle.cx_node.proofs.Answering.{answered_so, completes_so, says_heard}
+use Rattle.cx_node.proofs.Answering.{answered_so, completes_so, refused_tells_bad, says_heard, tells_bad_so}
 use Rattle.cx_node.proofs.serving.serve.Goals as goal
 
 pub returns-in-Ok-clause-answered : goal.returns-in-Ok-clause-answered
@@ -19,8 +19,19 @@ returns-in-Ok-clause-answered g c =
 pub returns-in-Ok-clause-complete : goal.returns-in-Ok-clause-complete
 returns-in-Ok-clause-complete g c = completes_so _ _ _ _ _ (returns-in-Ok-clause-answered g c)
 
+pub returns-in-Ok-clause-tells_bad : goal.returns-in-Ok-clause-tells_bad
+returns-in-Ok-clause-tells_bad g c =
+    let heard = c.in-Ok.ensures in
+    let says = subst (λ events. Says c.args.roles.now (g.S.Source.left c.args.input.now) c.in-Ok.cluster events) (sym c.events.ensures)
+    (says_heard c.args.roles.now (g.S.Source.left c.args.input.now) c.in-Ok.cluster c.in-Ok.schedule heard.heard heard.taken heard.named) in
+    tells_bad_so c.args.roles.now c.in-Ok.cluster c.events.result.now c.args.turns _ _ c.host.result says
+    (c.host.ensures.answered (g.S.Source.left c.args.input.now) (g.S.Source.left c.listen.new.source) (g.S.Source.faults c.args.input.now) (g.S.Source.faults c.listen.new.source))
+
 pub returns-in-Err-clause-answered : goal.returns-in-Err-clause-answered
 returns-in-Err-clause-answered g c = search rules
 
 pub returns-in-Err-clause-complete : goal.returns-in-Err-clause-complete
 returns-in-Err-clause-complete g c = completes_so _ _ _ _ _ (returns-in-Err-clause-answered g c)
+
+pub returns-in-Err-clause-tells_bad : goal.returns-in-Err-clause-tells_bad
+returns-in-Err-clause-tells_bad g c = refused_tells_bad c.args.roles.now c.args.turns _ _ c.in-Err.refusal c.refused.result c.refused.ensures (returns-in-Err-clause-answered g c)
