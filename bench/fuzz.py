@@ -342,7 +342,7 @@ def main():
             keep(folder, case, got, wanted)
             print(f"run {number}: {shlex.join(case.words)}: status {got[0]}: {why}; kept in {folder}")
             return 1
-        ends[case.words[0], got[0]] += 1
+        ends[case.words[0] if case.words[0] in ("replay", "gen", "node") else "other words", got[0]] += 1
         number += 1
         if args.only is not None:
             break
