@@ -1,5 +1,5 @@
 -- What was handed out so far are whole lines that were run, and the definition at what is to come makes the definition at all.
-use Rattle.std.proofs.Common.{◌≡◌, ◌≤◌, ◌<◌, ◌+◌, ◌++◌, ℕ, false, true, List, [], ◌∷◌, length, refl, sym, ap, ◌∙◌, subst, append_assoc, append-nil, arith, Option, None, Some, option_to_list, Result, Ok, Err, if◌then◌else◌}
+use Rattle.std.proofs.Common.{◌≡◌, ◌<◌, ◌+◌, ◌++◌, ℕ, List, [], ◌∷◌, length, refl, sym, ap, ◌∙◌, subst, append_assoc, append-nil, arith, Option, None, Some, option_to_list, if◌then◌else◌}
 use Rattle.std.specs.Prelude.{IfSome}
 use Rattle.std.specs.Io.KnownBytes.{Appends, Consumes, IsAtEnd}
 use Rattle.std.specs.Str.Lines.{strip_carriage_return}
@@ -13,21 +13,19 @@ use Rattle.cx_edge.specs.Lines.{LinesState, Hands, BeginsLong, IsOpen, GivesLine
 use Rattle.cx_edge.specs.Sink.{AppendsPart}
 use Rattle.cx_model.specs.World.{World, run, run_from, start}
 use Rattle.cx_replay.specs.Heard.{Heard, Nothing, BadHeader, Lines}
-use Rattle.cx_replay.specs.Input.{bad_line, behind, of_header, input_of, lines}
+use Rattle.cx_replay.specs.Input.{bad_line, of_header, input_of, lines}
 use Rattle.cx_replay.specs.Replay.{summary, trace, trace_of, summary_of, text_of, Prints, PrintsLines, ComesOfReplay, Replayed}
-use Rattle.cx_replay.specs.Streamed.{StandsBehind, Spells, IsBadAt, RanLine, RanPart, StopsIn, Sums}
+use Rattle.cx_replay.specs.Streamed.{StandsBehind, Spells, IsBadAt, RanPart, StopsIn, Sums}
 use Rattle.cx_replay.proofs.Ends.{done_replayed, bad_replayed, fault_replayed, write_replayed, memory_replayed}
-use Rattle.cx_replay.proofs.Texts.{trace_append, run_append, part_none, part_of_more, then_part, then_none}
-use Rattle.cx_replay.proofs.WholeText.{counted_open, text_push, free_push, line_first, hands_on, hands_held, of_all, some_map, some_any}
-use Rattle.cx_script.specs.Grammar.{line_event}
+use Rattle.cx_replay.proofs.Texts.{trace_append, run_append, part_of_more, then_part, then_none}
+use Rattle.cx_replay.proofs.WholeText.{counted_open, text_push, free_push, line_first, hands_on, hands_held, of_all, some_map}
 use Rattle.cx_script.specs.Header.{header_of}
-use Rattle.cx_script.specs.Lines.{Spelled, with_line, spelled_from, lines_of, schedule_of}
+use Rattle.cx_script.specs.Lines.{Spelled, spelled_from, lines_of, schedule_of}
 use Rattle.cx_script.specs.Unended.{but_last, lines_text, counted, is_long_header}
 use Rattle.cx_script.proofs.Feeds.{IsFree, AreFree, whole_free, lines_of_unended, first_line_of}
 use Rattle.cx_script.proofs.GoesOn.{some_byte, spelled_long}
 use Rattle.cx_script.proofs.Schedules.{after}
 use Rattle.cx_script.proofs.WholeLines.{parts}
-use Rattle.cx_world.specs.World.{WorldState}
 
 -- whole lines were handed out, n of them behind the header, their events run and the trace of these written
 pub record Along (c : Cluster) (left now : Option (List ℕ)) (held : List ℕ) (n : ℕ) (w : World) (old out : Option (List ℕ)) : Type 0 where

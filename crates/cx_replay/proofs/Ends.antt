@@ -1,14 +1,13 @@
 -- How a replay ends, by its status.
-use Rattle.std.proofs.Common.{◌≡◌, ◌++◌, ℕ, List, Option, None, Some, refl, sym, ap, ◌∙◌, subst, inl, inr, arith}
+use Rattle.std.proofs.Common.{◌≡◌, ℕ, List, Option, None, Some, refl, sym, ap, subst, inl, inr, arith}
 use Rattle.std.specs.Prelude.{IfSome}
-use Rattle.std.specs.Io.KnownBytes.{Appends, Consumes, IsAtEnd}
+use Rattle.std.specs.Io.KnownBytes.{Appends, IsAtEnd}
 use Rattle.cx_base.specs.declared.status.Status.{Status}
 use Rattle.cx_base.specs.declared.status.Status.TheVariants as status
 use Rattle.cx_base.specs.Faults.{Rises}
 use Rattle.cx_edge.specs.Sink.{AppendsPart}
 use Rattle.cx_replay.specs.Input.{bad_line, input_of}
 use Rattle.cx_replay.specs.Replay.{answer_of, trace_of, text_of, Prints, PrintsLines, ComesOfReplay, Completes, Replayed}
-use Rattle.cx_replay.proofs.WholeText.{some_map}
 
 -- each status that comes of a replay has a number of its own
 abbrev kind : Status → ℕ

@@ -1,26 +1,20 @@
 -- What a header says of the whole input, and how a replay ends in it.
-use Rattle.std.proofs.Common.{◌≡◌, ◌++◌, List, [], ℕ, Option, None, Some, Result, Ok, Err, refl, sym, ap, ◌∙◌, subst, append_assoc}
+use Rattle.std.proofs.Common.{◌≡◌, ◌++◌, List, [], ℕ, Option, None, Some, refl, sym, ap, ◌∙◌, subst, append_assoc}
 use Rattle.std.specs.Prelude.{IfSome}
-use Rattle.std.specs.Io.KnownBytes.{Appends, Consumes}
+use Rattle.std.specs.Io.KnownBytes.{Appends}
 use Rattle.std.proofs.KnownBytes.{Appends-nil, Consumes-whole}
 use Rattle.cx_base.specs.declared.cluster.Cluster.{Cluster}
-use Rattle.cx_base.specs.declared.status.Status.{Status}
 use Rattle.cx_base.specs.declared.status.Status.TheVariants as status
-use Rattle.cx_base.specs.Faults.{Rises}
-use Rattle.cx_cluster.specs.declared.fault.ClusterFault.{ClusterFault}
 use Rattle.cx_cluster.specs.Reading.{header_cluster}
-use Rattle.cx_edge.specs.Sink.{AppendsPart}
 use Rattle.cx_model.specs.World.{start}
-use Rattle.cx_replay.specs.Heard.{Nothing, BadHeader, Lines}
-use Rattle.cx_replay.specs.Input.{bad_line, behind, of_header, input_of, lines}
-use Rattle.cx_replay.specs.Replay.{trace_of, text_of, PrintsLines, Replayed}
-use Rattle.cx_replay.specs.Streamed.{HasHeader, IsHeader, StandsBehind, Says, Sums}
-use Rattle.cx_replay.proofs.Along.{AtEnd, ends_alone, sums_replayed}
-use Rattle.cx_replay.proofs.Ends.{bad_replayed, fault_replayed, memory_replayed}
-use Rattle.cx_replay.proofs.Texts.{part_none}
-use Rattle.cx_replay.proofs.WholeText.{of_all, some_map, some_any}
+use Rattle.cx_replay.specs.Heard.{BadHeader}
+use Rattle.cx_replay.specs.Input.{bad_line, behind, of_header, input_of}
+use Rattle.cx_replay.specs.Replay.{trace_of, Replayed}
+use Rattle.cx_replay.specs.Streamed.{HasHeader, IsHeader, StandsBehind, Says}
+use Rattle.cx_replay.proofs.Along.{AtEnd, ends_alone}
+use Rattle.cx_replay.proofs.Ends.{bad_replayed}
+use Rattle.cx_replay.proofs.WholeText.{of_all, some_map}
 use Rattle.cx_script.specs.Header.{header_of}
-use Rattle.cx_script.specs.Lines.{schedule_of}
 
 -- no header says a cluster
 abbrev IsBadHeader : Option (List ℕ) → Type 0

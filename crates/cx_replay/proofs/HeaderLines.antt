@@ -1,5 +1,5 @@
 -- The lines of a header, one by one.
-use Rattle.std.proofs.Common.{◌≡◌, ◌≤◌, ◌<◌, ◌+◌, ◌++◌, ◌==◌, ℕ, Bool, true, false, List, [], ◌∷◌, length, map, refl, sym, ap, ◌∙◌, subst, append_assoc, append-nil, arith, nat_lt, nat_le, if◌then◌else◌, Option, None, Some, option_map, option_and_then, length-append}
+use Rattle.std.proofs.Common.{◌≡◌, ◌≤◌, ◌<◌, ◌+◌, ◌++◌, ℕ, Bool, true, false, List, [], ◌∷◌, length, map, refl, sym, ap, ◌∙◌, subst, append_assoc, append-nil, arith, nat_lt, nat_le, if◌then◌else◌, Option, None, Some, option_map, option_and_then, length-append}
 use Rattle.std.specs.Prelude.{IfSome}
 use Rattle.std.specs.Io.KnownBytes.{Consumes, IsAtEnd}
 use Rattle.std.specs.Str.Lines.{strip_carriage_return}
@@ -7,7 +7,7 @@ use Rattle.std.proofs.KnownBytes.{Consumes-whole}
 use Rattle.std.proofs.lemmas.Bool.{cond_both}
 use Rattle.std.proofs.lemmas.Bool.Decides.{nat_tests}
 use Rattle.cx_edge.specs.Lines.{Hands, BeginsLong, IsOpen}
-use Rattle.cx_replay.specs.Heard.{Heard, Nothing, BadHeader}
+use Rattle.cx_replay.specs.Heard.{Nothing, BadHeader}
 use Rattle.cx_replay.specs.Input.{of_header, lines}
 use Rattle.cx_replay.specs.Streamed.{HasHeader, IsHeader}
 use Rattle.cx_replay.proofs.WholeText.{whole_text, counted_text, counted_open, text_push, free_push, hands_on, hands_held, of_all}

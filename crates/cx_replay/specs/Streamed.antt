@@ -16,9 +16,8 @@ use Rattle.cx_replay.specs.declared.header.HeaderEnd.{HeaderEnd}
 use Rattle.cx_replay.specs.declared.header.HeaderEnd.TheVariants as header
 use Rattle.cx_replay.specs.declared.header.Joined.{Joined}
 use Rattle.cx_replay.specs.declared.header.Joined.TheVariants as joined
-use Rattle.cx_script.specs.Grammar.{line_event}
 use Rattle.cx_script.specs.Header.{is_rule, header_of}
-use Rattle.cx_script.specs.Lines.{Spelled, with_line, spelled_from, schedule_of}
+use Rattle.cx_script.specs.Lines.{with_line, spelled_from, schedule_of}
 use Rattle.cx_script.specs.Unended.{whole_lines}
 use Rattle.cx_world.specs.World.{WorldState}
 

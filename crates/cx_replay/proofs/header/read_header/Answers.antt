@@ -1,9 +1,8 @@
-use Rattle.std.proofs.Common.{◌≡◌, ◌<◌, ◌++◌, ◌∷◌, [], ℕ, List, length, true, false, sym, ap, ◌∙◌, subst, rules}
+use Rattle.std.proofs.Common.{◌≡◌, ◌<◌, ◌++◌, ◌∷◌, [], length, true, false, sym, ap, ◌∙◌, subst, rules}
 use Rattle.std.specs.Str.Lines.{strip_carriage_return}
-use Rattle.std.proofs.KnownBytes.{Consumes-nil}
 use Rattle.cx_script.specs.Header.{is_rule}
-use Rattle.cx_replay.specs.Streamed.{HasHeader, IsHeader}
-use Rattle.cx_replay.proofs.HeaderLines.{InHeader, begins_header, goes_header, rule_header, rule_alone, long_header, long_line, ended_header, ended_last, fails_header}
+use Rattle.cx_replay.specs.Streamed.{HasHeader}
+use Rattle.cx_replay.proofs.HeaderLines.{goes_header, rule_header, rule_alone, long_header, long_line, ended_header, ended_last, fails_header}
 use Rattle.cx_replay.proofs.header.read_header.Goals as goal
 
 pub returns-in-Rule-clause-reads : goal.returns-in-Rule-clause-reads

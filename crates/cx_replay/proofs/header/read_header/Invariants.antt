@@ -1,4 +1,4 @@
-use Rattle.std.proofs.Common.{◌≡◌, ◌+◌, ◌-◌, length}
+use Rattle.std.proofs.Common.{◌≡◌, ◌-◌, length}
 use Rattle.cx_replay.proofs.HeaderLines.{InHeader}
 use Rattle.cx_replay.proofs.header.read_header.Given as goal
 

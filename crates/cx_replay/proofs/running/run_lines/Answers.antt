@@ -1,9 +1,9 @@
-use Rattle.std.proofs.Common.{◌≡◌, ◌+◌, Bool, ℕ, List, Option, false, arith, refl, rules, sym, ap, ◌∙◌, subst, ◌++◌, ◌∷◌, [], option_to_list}
+use Rattle.std.proofs.Common.{◌≡◌, ◌+◌, Bool, arith, refl, rules, sym, ap, ◌∙◌, subst}
 use Rattle.std.specs.Str.Lines.{strip_carriage_return}
 use Rattle.cx_base.specs.Faults.{Rises}
-use Rattle.cx_model.specs.World.{World, run_from, start}
+use Rattle.cx_model.specs.World.{World, start}
 use Rattle.cx_world.specs.World.{WorldState}
-use Rattle.cx_replay.specs.Streamed.{StandsBehind, Spells, Sums}
+use Rattle.cx_replay.specs.Streamed.{Spells, Sums}
 use Rattle.cx_replay.proofs.Along.{Along, begins_along, goes_along, ends_last, sums_replayed, stops_at_line, stops_at_last, stops_long, stops_failed, sums_at_end}
 use Rattle.cx_replay.proofs.running.run_lines.Goals as goal
 
