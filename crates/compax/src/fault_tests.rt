@@ -1,7 +1,6 @@
 //! Everything outside fails once, at each of its calls: what the program then says, and what it has written.
 
-ghost use Rattle.std.specs.Prelude.{◌≡◌, [], None};
-ghost use Rattle.cx_edge.specs.Memory.{sink_faults, source_faults};
+ghost use Rattle.std.specs.Prelude.{◌≡◌, ◌<◌, []};
 
 use crate::hosting::{Fate, STORED, depot_over, link_over, nothing_fails, stores_with};
 use crate::node_tests::{ENOUGH, NODE, PUT, host_over, is, stores};
@@ -11,7 +10,7 @@ use crate::pieces::{
 use crate::tests::{Outcome, joined, no_link, owned, run_program};
 use crate::top::top;
 use cx_base::{RoleId, Status};
-use cx_edge::{LinkFailing, MemDepot, MemSink, MemSource, ReadEnd, Sink, Source, WriteEnd};
+use cx_edge::{InPieces, LinkFailing, MemDepot, MemSink, MemSource, Sink, Source};
 use std::alloc::Global;
 use std::test::Fail;
 
@@ -29,41 +28,6 @@ const HEADER_LINES: usize = 11;
 
 // More calls than any run here makes.
 const MANY: u64 = 4_096;
-
-// A source that gives pieces of one size at most. It doesn't tell what is left.
-#[derive(Drop)]
-struct PieceSource {
-    inner: MemSource,
-    size: usize,
-}
-
-impl Source for PieceSource {
-    ghost left = { λ _. None };
-
-    ghost faults = { λ s. source_faults s.inner };
-
-    fn read(&mut self, buffer: &mut [u8]) -> ReadEnd {
-        let most = buffer.len().min(self.size);
-        self.inner.read(&mut buffer[..most])
-    }
-}
-
-// A sink that takes one byte at a time.
-#[derive(Drop)]
-struct ByteSink {
-    inner: MemSink,
-}
-
-impl Sink for ByteSink {
-    ghost taken = { λ _. None };
-
-    ghost faults = { λ s. sink_faults s.inner };
-
-    fn write(&mut self, piece: &[u8]) -> WriteEnd {
-        let most = piece.len().min(1);
-        self.inner.write(&piece[..most])
-    }
-}
 
 // Runs the program with words that ask for no node.
 fn run_over<S: Source, W: Sink, E: Sink>(
@@ -150,12 +114,10 @@ fn a_write_that_fails_cuts_the_text(rt: HostRuntime) -> Result<(), Fail> {
 // A run into a sink that takes a byte at a time, and whose write with this number fails: exactly the bytes before it are there.
 fn fails_at_byte(alloc: Global, text: &[u8], write: u64) -> Result<bool, Fail> {
     let mut input = MemSource::new(joined(alloc, SCHEDULE)?, Vec::new(alloc));
-    let mut out = ByteSink {
-        inner: sink(alloc, only(alloc, write)?)?,
-    };
+    let mut out = InPieces::new(sink(alloc, only(alloc, write)?)?, 1);
     let mut err = sink(alloc, Vec::new(alloc))?;
     let status = run_over(alloc, REPLAY, &mut input, &mut out, &mut err)?;
-    let (out, err) = (out.inner.as_slice(), err.as_slice());
+    let (out, err) = (out.inner().as_slice(), err.as_slice());
     if write < text.len() as u64 {
         return Ok(is_cut(status, out, err, text, write) && out.len() as u64 == write);
     }
@@ -271,11 +233,11 @@ fn fails_at_read(
     trace: &[u8],
     size: usize,
     read: u64,
-) -> Result<bool, Fail> {
-    let mut input = PieceSource {
-        inner: MemSource::new(bytes.to_vec(alloc)?, only(alloc, read)?),
-        size,
-    };
+) -> Result<bool, Fail>
+    requires { 0 < size }
+{
+    let source = MemSource::new(bytes.to_vec(alloc)?, only(alloc, read)?);
+    let mut input = InPieces::new(source, size);
     let mut out = sink(alloc, Vec::new(alloc))?;
     let mut err = sink(alloc, Vec::new(alloc))?;
     let status = run_over(alloc, REPLAY, &mut input, &mut out, &mut err)?;
@@ -299,7 +261,9 @@ fn fails_at_read(
 }
 
 // How many reads the run over pieces of this size makes.
-fn cutting_reads(alloc: Global, size: usize) -> Result<u64, Fail> {
+fn cutting_reads(alloc: Global, size: usize) -> Result<u64, Fail>
+    requires { 0 < size }
+{
     let bytes = joined(alloc, SCHEDULE)?;
     let trace = joined(alloc, TRACE)?;
     for read in 0..MANY {
@@ -310,15 +274,21 @@ fn cutting_reads(alloc: Global, size: usize) -> Result<u64, Fail> {
     Err("it never ends".into())
 }
 
-// Each piece takes a read, and the end of the input one more.
+// Whether each piece of this size takes a read, and the end of the input one more.
+fn reads_each_piece(alloc: Global, size: usize) -> Result<bool, Fail>
+    requires { 0 < size }
+{
+    let len = joined(alloc, SCHEDULE)?.len();
+    Ok(cutting_reads(alloc, size)? == len.div_ceil(size) as u64 + 1)
+}
+
 #[test]
 fn a_read_that_fails_leaves_the_trace_of_the_lines_before_it(rt: HostRuntime) -> Result<(), Fail> {
     let alloc = rt.alloc();
-    let len = joined(alloc, SCHEDULE)?.len();
-    for size in [1, 7, 64, 4_096_usize] {
-        let reads = cutting_reads(alloc, size)?;
-        assert_eq!(rt; reads, len.div_ceil(size) as u64 + 1, "{size}");
-    }
+    assert!(rt; reads_each_piece(alloc, 1)?);
+    assert!(rt; reads_each_piece(alloc, 7)?);
+    assert!(rt; reads_each_piece(alloc, 64)?);
+    assert!(rt; reads_each_piece(alloc, 4_096)?);
     Ok(())
 }
 
