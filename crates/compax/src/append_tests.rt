@@ -3,7 +3,7 @@
 ghost use Rattle.std.specs.Prelude.{◌≡◌, IsTrue};
 ghost use Rattle.cx_keeper.specs.Keeper.{all_fit};
 
-use crate::hosting::unhex;
+use crate::failing::unhex;
 use cx_acceptor::Acceptor;
 use cx_base::{Cluster, Cut, Kind, NoMemory, RoleId, Why};
 use cx_keeper::{Keeper, MemKeeper};

@@ -2,7 +2,7 @@
 
 ghost use Rattle.std.specs.Prelude.{◌≡◌, []};
 
-use crate::hosting::{
+use crate::failing::{
     Fate, STORED, depot_over, disk_with, link_over, nothing_fails, stores_with, unhex,
 };
 use crate::node_tests::{NODE, PUT, host_over, is};

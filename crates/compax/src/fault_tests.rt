@@ -2,7 +2,7 @@
 
 ghost use Rattle.std.specs.Prelude.{◌≡◌, ◌<◌, []};
 
-use crate::hosting::{Fate, STORED, depot_over, link_over, nothing_fails, stores_with};
+use crate::failing::{Fate, STORED, depot_over, link_over, nothing_fails, stores_with};
 use crate::node_tests::{ENOUGH, NODE, PUT, host_over, is, stores};
 use crate::pieces::{
     ANSWERED, ANSWERED_TRACE, ASKED, ASKED_TRACE, HEADER, LED, LED_TRACE, VOTED, VOTED_TRACE,

@@ -1,6 +1,6 @@
 //! Cut and foreign bytes: how they are refused, and that a node to which they are sent goes on as if nothing had come.
 
-use crate::hosting::{Fate, STORED, depot_over, link_over, nothing_fails, stores_with, unhex};
+use crate::failing::{Fate, STORED, depot_over, link_over, nothing_fails, stores_with, unhex};
 use crate::node_tests::{ENOUGH, PUT, host_over, is};
 use cx_base::Status;
 use cx_edge::{Front, MemDepot};

@@ -12,13 +12,13 @@ mod append_tests;
 #[cfg(test)]
 mod crash_tests;
 #[cfg(test)]
+mod failing;
+#[cfg(test)]
 mod fault_tests;
 #[cfg(test)]
 mod foreign_tests;
 #[cfg(test)]
 mod generated;
-#[cfg(test)]
-mod hosting;
 #[cfg(test)]
 mod later_rounds;
 #[cfg(test)]
