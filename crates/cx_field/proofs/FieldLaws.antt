@@ -11,7 +11,7 @@ use Rattle.cx_base.specs.declared.command.Value.{Value}
 use Rattle.cx_base.specs.declared.command.Value.TheVariants.{Noop, Batch}
 use Rattle.cx_base.specs.declared.command.Reply.{Reply}
 use Rattle.cx_base.specs.declared.command.Reply.TheVariants.{Okay, Was, Absent, Len, Full}
-use Rattle.cx_wire.specs.Format.{◌>>=◌, u8, u16, u32, u64, only, whole, then_by, ◌▷◌, nothing, each_read, times}
+use Rattle.cx_wire.specs.Format.{bad, ◌>>=◌, u8, u16, u32, u64, only, whole, then_by, ◌▷◌, nothing, each_read, times}
 use Rattle.cx_wire.proofs.Laws.{IsExact, bind_ok, guard_ok, ok_is, u8-exact, u16-exact, u32-exact, u64-exact, only-exact, whole-exact, then_by-exact, ▷-exact, nothing-exact, shaped-exact, times-exact, counted-exact, case-sound, case-again, tagged-exact, ReadsAgain}
 use Rattle.cx_field.specs.declared.parts.Entry.{Entry}
 use Rattle.cx_field.specs.declared.parts.Vote.{Vote}
@@ -38,11 +38,11 @@ round_fields-exact = shaped-exact {A = ℕ × (ℕ × ℕ)} (λ x. record { r = 
 
 pub round-exact : IsExact round
 unfolding round
-round-exact = only-exact (λ r. nat_le 1 r.r) (whole round_fields) (whole-exact round_fields round_fields-exact)
+round-exact = only-exact (λ r. nat_le 1 r.r) (whole 10 round_fields) (whole-exact 10 round_fields round_fields-exact)
 
 pub round0-exact : IsExact round0
 unfolding round0
-round0-exact = only-exact (λ r. nat_le 1 r.r || (r.r == 0 && r.id == 0 && r.s == 0)) (whole round_fields) (whole-exact round_fields round_fields-exact)
+round0-exact = only-exact (λ r. nat_le 1 r.r || (r.r == 0 && r.id == 0 && r.s == 0)) (whole 10 round_fields) (whole-exact 10 round_fields round_fields-exact)
 
 pub member-exact : (before : List ℕ) → IsExact (member before)
 unfolding member
@@ -55,8 +55,8 @@ members_new zero before bytes x e = subst (λ (y : List ℕ × List ℕ). are_ne
 members_new (suc n) before bytes x e =
     let a = bind_ok ((member before).read bytes) (λ y. each_read member (before ++ y.0 ∷ []) n y.1 >>= λ ys. Ok (y.0 ∷ ys.0, ys.1)) x e in
     let b = bind_ok (each_read member (before ++ a.0.0 ∷ []) n a.0.1) (λ ys. Ok (a.0.0 ∷ ys.0, ys.1)) x a.2 in
-    let first = bind_ok (u16.read bytes) (λ y. cond (not (is_in y.0 before)) (Ok y) (Err (length bytes))) a.0 a.1 in
-    let test = guard_ok (not (is_in first.0.0 before)) (length bytes) first.0 a.0 first.2 in
+    let first = bind_ok (u16.read bytes) (λ y. cond (not (is_in y.0 before)) (Ok y) (Err (bad (length bytes)))) a.0 a.1 in
+    let test = guard_ok (not (is_in first.0.0 before)) (bad (length bytes)) first.0 a.0 first.2 in
     let new : not (is_in a.0.0 before) ≡ true = ap (λ (y : ℕ × List ℕ). not (is_in y.0 before)) (sym test.1) ∙ test.0 in
     let others = members_new n (before ++ a.0.0 ∷ []) a.0.1 b.0 b.1 in
     let made : List ℕ × List ℕ = (a.0.0 ∷ b.0.0, b.0.1) in

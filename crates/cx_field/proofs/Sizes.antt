@@ -48,11 +48,11 @@ round_fields-short = shaped-short {A = ℕ × (ℕ × ℕ)} (λ x. record { r = 
 
 pub round-short : IsShort round 10
 unfolding round
-round-short = only-short (λ r. nat_le 1 r.r) (whole round_fields) 10 (whole-short round_fields 10 round_fields-short)
+round-short = only-short (λ r. nat_le 1 r.r) (whole 10 round_fields) 10 (whole-short 10 round_fields 10 round_fields-short)
 
 pub round0-short : IsShort round0 10
 unfolding round0
-round0-short = only-short (λ r. nat_le 1 r.r || (r.r == 0 && r.id == 0 && r.s == 0)) (whole round_fields) 10 (whole-short round_fields 10 round_fields-short)
+round0-short = only-short (λ r. nat_le 1 r.r || (r.r == 0 && r.id == 0 && r.s == 0)) (whole 10 round_fields) 10 (whole-short 10 round_fields 10 round_fields-short)
 
 member-short : (before : List ℕ) → IsShort (member before) 2
 unfolding member

@@ -40,11 +40,11 @@ round_fields = shaped (λ x. record { r = x.0; id = x.1.0; s = x.1.1 }) (λ r. (
 
 -- a round, whose first number is at least 1
 unfoldable pub round : Format Round
-round = only (λ r. nat_le 1 r.r) (whole round_fields)
+round = only (λ r. nat_le 1 r.r) (whole 10 round_fields)
 
 -- a round, or none, which is three zeros
 unfoldable pub round0 : Format Round
-round0 = only (λ r. nat_le 1 r.r || (r.r == 0 && r.id == 0 && r.s == 0)) (whole round_fields)
+round0 = only (λ r. nat_le 1 r.r || (r.r == 0 && r.id == 0 && r.s == 0)) (whole 10 round_fields)
 
 -- a member of a grid, after others: none stands twice
 unfoldable pub member : List ℕ → Format ℕ

@@ -11,18 +11,24 @@ use thiserror::Error;
 /// Why fields could not be read.
 #[derive(Clone, Copy, Debug, PartialEq, Eq, Error)]
 pub enum ReadFault {
-    /// So many bytes are left from the first bad field on.
+    /// The first bad field is out of its range; so many bytes are left from it on.
     #[error("a bad field, {left} bytes before the end")]
     Bad { left: usize },
+    /// The first bad field takes `need` bytes, and only so many are left from it on.
+    #[error("{left} bytes for a field of {need}")]
+    Cut { left: usize, need: usize },
     #[error("memory is wanting")]
     NoMemory,
 }
 
 impl From<Short> for ReadFault {
-    ghost from_gives = { λ short e. e ≡ faults.Bad short.have };
+    ghost from_gives = { λ short e. e ≡ faults.Cut short.have short.need };
 
     fn from(short: Short) -> ReadFault {
-        ReadFault::Bad { left: short.have }
+        ReadFault::Cut {
+            left: short.have,
+            need: short.need,
+        }
     }
 }
 

@@ -1,6 +1,6 @@
 //! The fields of messages and records, read from the front of bytes. Each call takes its field's bytes off the reader, or answers
-//! how many bytes are left from the first bad field on: a value out of its range is bad at the field's first byte, and a number
-//! with too few bytes where it begins. The formats are this project's own.
+//! how many bytes are left from the first bad field on: `Bad` where a value is out of its range, `Cut` where a number or a round
+//! takes more bytes than there are. The formats are this project's own.
 
 ghost use Rattle.std.specs.Prelude.{◌≡◌, [], ◌∷◌, ◌≤◌, ◌<◌, length, IfOk, IsTrue};
 ghost use Rattle.std.specs.List.{list_all};
@@ -89,8 +89,9 @@ pub fn round_from(reader: &mut Reader<'_>) -> Result<Round, ReadFault>
     let left = reader.left();
     match round_fields_from(reader) {
         Ok(round) if round.r >= 1 => Ok(round),
+        Ok(_) => Err(ReadFault::Bad { left }),
         Err(ReadFault::NoMemory) => Err(ReadFault::NoMemory),
-        _ => Err(ReadFault::Bad { left }),
+        Err(_) => Err(ReadFault::Cut { left, need: 10 }),
     }
 }
 
@@ -102,8 +103,9 @@ pub fn round0_from(reader: &mut Reader<'_>) -> Result<Round, ReadFault>
     let left = reader.left();
     match round_fields_from(reader) {
         Ok(round) if round.r >= 1 || round == Round::ZERO => Ok(round),
+        Ok(_) => Err(ReadFault::Bad { left }),
         Err(ReadFault::NoMemory) => Err(ReadFault::NoMemory),
-        _ => Err(ReadFault::Bad { left }),
+        Err(_) => Err(ReadFault::Cut { left, need: 10 }),
     }
 }
 

@@ -44,7 +44,7 @@ impl<'a> Reader<'a> {
         self.rest
     }
 
-    /// The number in one byte; `Bad` with how many are left where there are fewer.
+    /// The number in one byte; `Cut` with how many are left where there are fewer.
     #[tactic(auto, unfolding(cx_wire::specs::Format::u8))]
     pub fn u8(&mut self) -> Result<u8, ReadFault>
         ensures read { Reads wire.u8 self.old result self.new }
@@ -55,7 +55,7 @@ impl<'a> Reader<'a> {
         Ok(number)
     }
 
-    /// The number in two bytes; `Bad` with how many are left where there are fewer.
+    /// The number in two bytes; `Cut` with how many are left where there are fewer.
     #[tactic(auto, unfolding(cx_wire::specs::Format::u16))]
     pub fn u16(&mut self) -> Result<u16, ReadFault>
         ensures { Reads wire.u16 self.old result self.new }
@@ -65,7 +65,7 @@ impl<'a> Reader<'a> {
         Ok(number)
     }
 
-    /// The number in four bytes; `Bad` with how many are left where there are fewer.
+    /// The number in four bytes; `Cut` with how many are left where there are fewer.
     #[tactic(auto, unfolding(cx_wire::specs::Format::u32))]
     pub fn u32(&mut self) -> Result<u32, ReadFault>
         ensures { Reads wire.u32 self.old result self.new }
@@ -75,7 +75,7 @@ impl<'a> Reader<'a> {
         Ok(number)
     }
 
-    /// The number in eight bytes; `Bad` with how many are left where there are fewer.
+    /// The number in eight bytes; `Cut` with how many are left where there are fewer.
     #[tactic(auto, unfolding(cx_wire::specs::Format::u64))]
     pub fn u64(&mut self) -> Result<u64, ReadFault>
         ensures { Reads wire.u64 self.old result self.new }

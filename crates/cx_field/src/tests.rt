@@ -1,7 +1,7 @@
 use crate::{
     ReadFault, Reader, answers_from, commands_from, entries_from, found_from, grid_from,
     put_answers, put_commands, put_entries, put_found, put_grid, put_value, put_values, put_votes,
-    value_from, values_from, votes_from,
+    round_from, slot_from, value_from, values_from, votes_from,
 };
 use std::alloc::Global;
 use std::test::Fail;
@@ -45,4 +45,15 @@ fn a_list_of_nine_is_refused(rt: HostRuntime) {
     nine[0] = 9;
     let commands = commands_from(rt.alloc(), &mut Reader::new(&nine)).err();
     assert_eq!(rt; commands, Some(ReadFault::Bad { left: 181 }));
+}
+
+#[test]
+fn a_field_that_is_cut_is_told_from_a_bad_one(rt: HostRuntime) {
+    // A slot of eight bytes, of which five are there; a round, of which six are; and a round whose first number is 0.
+    let slot = slot_from(&mut Reader::new(&[0, 0, 0, 0, 1])).err();
+    let round = round_from(&mut Reader::new(&[0, 0, 0, 0, 0, 0])).err();
+    let zero = round_from(&mut Reader::new(&[0; 10])).err();
+    assert_eq!(rt; slot, Some(ReadFault::Cut { left: 5, need: 8 }));
+    assert_eq!(rt; round, Some(ReadFault::Cut { left: 6, need: 10 }));
+    assert_eq!(rt; zero, Some(ReadFault::Bad { left: 10 }));
 }

@@ -1,14 +1,23 @@
 -- What a break further on says of the whole.
-use Rattle.std.proofs.Common.{◌≡◌, ℕ, List, Option, Result, Err, ◌∙◌, ap}
+use Rattle.std.proofs.Common.{◌≡◌, ℕ, List, [], Option, Result, Err, ◌∙◌, ap}
 use Rattle.cx_base.specs.declared.role.Kind.{Kind}
 use Rattle.cx_msg.specs.declared.kept.Record.{Record}
 use Rattle.cx_journal.specs.Image.{Image, image, with_first, with_all}
-use Rattle.cx_journal.specs.Found.{IsRead, IsStopAt}
-use Rattle.cx_journal.specs.declared.image.Stop.{Stop}
-use Rattle.cx_journal.specs.declared.image.Stop.TheVariants as stop
+use Rattle.cx_journal.specs.Found.{Breaks, IsRead, IsStopAt}
+use Rattle.cx_journal.specs.declared.split.Stop.{Stop}
+use Rattle.cx_journal.specs.declared.split.Stop.TheVariants as stop
 use Rattle.cx_journal.proofs.Reading.{with_all-Err}
 
 pub read_stop : (k : Option Kind) (bytes : List ℕ) (records : List Record) (at : ℕ) (read : Result Record ℕ) (more : Image) (s : Stop)
     → image k bytes ≡ with_all records (with_first at read more) → IsStopAt at read s → IsRead k bytes (Err s)
 read_stop k bytes records at read more (stop.Break place) is stops = is ∙ ap (with_all records) (stops more) ∙ with_all-Err records place
 read_stop k bytes records at read more stop.NoMemory is stops = tt
+
+-- what stops behind records that were read stops the whole
+pub breaks_so : (records : List Record) (whole more : Image) (s : Stop) → whole ≡ with_all records more → Breaks more s → Breaks whole s
+breaks_so records whole more (stop.Break place) is stops = is ∙ ap (with_all records) stops ∙ with_all-Err records place
+breaks_so records whole more stop.NoMemory is stops = tt
+
+-- the same image breaks there
+pub breaks_also : (whole more : Image) (s : Stop) → whole ≡ more → Breaks more s → Breaks whole s
+breaks_also whole more s is stops = breaks_so [] whole more s is stops

@@ -6,8 +6,8 @@ use Rattle.cx_journal.specs.Payload.{payloads, all_kept_by}
 use Rattle.cx_journal.specs.Journal.{frames, gates_from, StandsFor}
 use Rattle.cx_journal.specs.Image.{Image, image, with_first, IsBreak}
 use Rattle.cx_journal.specs.declared.image.Found.{Found}
-use Rattle.cx_journal.specs.declared.image.Stop.{Stop}
-use Rattle.cx_journal.specs.declared.image.Stop.TheVariants as stop
+use Rattle.cx_journal.specs.declared.split.Stop.{Stop}
+use Rattle.cx_journal.specs.declared.split.Stop.TheVariants as stop
 use Rattle.cx_keeper.specs.declared.keeper.OpenFault.{OpenFault}
 use Rattle.cx_keeper.specs.declared.keeper.OpenFault.TheVariants as fault
 
@@ -18,11 +18,15 @@ pub record IsFound (k : Option Kind) (bytes : List ℕ) (found : Found) : Type 0
   pub gates : found.gates.items ≡ gates_from 0 (payloads found.records.items)
   pub gate : found.gate ≡ length (frames (payloads found.records.items))
 
+-- an image breaks there, unless memory was wanting
+abbrev pub Breaks : Image → Stop → Type 0
+Breaks image (stop.Break at) = image ≡ Err at
+Breaks image stop.NoMemory = Unit {0}
+
 -- what was read of two bytes or more
 abbrev pub IsRead : Option Kind → List ℕ → Result Found Stop → Type 0
 IsRead k bytes (Ok found) = image k bytes ≡ Ok found.records.items
-IsRead k bytes (Err (stop.Break at)) = image k bytes ≡ Err at
-IsRead k bytes (Err stop.NoMemory) = Unit {0}
+IsRead k bytes (Err s) = Breaks (image k bytes) s
 
 -- where a payload that begins at a place stops being a record
 abbrev pub IsStopAt : ℕ → Result Record ℕ → Stop → Type 0

@@ -4,7 +4,7 @@ use Rattle.std.specs.List.{slice_get}
 use Rattle.byteorder.specs.Endian.{big_number}
 use Rattle.cx_base.specs.declared.role.Kind.{Kind}
 use Rattle.cx_msg.specs.declared.kept.Record.{Record}
-use Rattle.cx_journal.specs.Payload.{payload_read}
+use Rattle.cx_journal.specs.Payload.{payload_read, part_break}
 
 -- the records, or the place of the first break
 abbrev pub Image : Type 0
@@ -28,7 +28,7 @@ with_first at (Err place) image = Err (at + place)
 abbrev pub sized : Option Kind → ℕ → List ℕ → ℕ → (ℕ → List ℕ → Image) → Image
 sized k at bytes n next =
     if n == 0 || nat_lt 32768 n then Err at
-    else if nat_lt (length bytes) (4 + n) then Err (at + length bytes)
+    else if nat_lt (length bytes) (4 + n) then Err (at + 4 + part_break k n (drop 4 bytes))
     else with_first (at + 4) (payload_read k (take n (drop 4 bytes))) (next (at + (4 + n)) (drop (4 + n) bytes))
 
 -- what stands behind an open gate

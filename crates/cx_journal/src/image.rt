@@ -7,18 +7,11 @@ ghost use Rattle.cx_msg.specs.Records.{spelling};
 ghost use Rattle.cx_journal.specs.Payload.{payload_read, is_kept_by};
 
 use crate::payload::{PayloadFault, payload_from};
-use crate::split::first_record;
+use crate::split::{Stop, first_record};
 use cx_base::{Kind, NoMemory};
 use cx_keeper::OpenFault;
 use cx_msg::Record;
 use std::alloc::Global;
-
-/// Why bytes are no journal: the place of the first break, or want of memory.
-#[derive(Clone, Copy, Debug, PartialEq, Eq)]
-pub enum Stop {
-    Break(usize),
-    NoMemory,
-}
 
 /// The records, the places of their gates with that of the closed gate as the last, and that place.
 #[derive(Drop)]
@@ -78,7 +71,7 @@ fn records_in(alloc: Global, kind: Option<Kind>, bytes: &[u8]) -> Result<Found, 
     let mut left = bytes;
     let mut at = 0;
     'reading: loop {
-        match first_record(kind, left, at) {
+        match first_record(alloc, kind, left, at) {
             Ok(None) => {
                 return match push_gate(&mut gates, at as u64) {
                     Ok(()) => Ok(Found {
@@ -101,7 +94,7 @@ fn records_in(alloc: Global, kind: Option<Kind>, bytes: &[u8]) -> Result<Found, 
                 at += 5 + split.payload.len();
                 left = split.after;
             }
-            Err(place) => return Err(Stop::Break(place)),
+            Err(stop) => return Err(stop),
         }
     }
 }
@@ -123,7 +116,8 @@ pub(crate) fn first_gate(alloc: Global) -> Result<Found, NoMemory>
 
 /// The records of at least two bytes, for a role of the kind or of any kind. `NotJournal` names the first break: a length out of
 /// 1..=32,768 at its first byte; a tag or a field that is bad, at its first byte; bytes that are left in a payload, at the
-/// first of them; the end where a length, a payload or a gate should be, with no byte.
+/// first of them; the end where a length, a payload or a gate should be, with no byte. A payload that the end cuts may have such a tag, field or
+/// bytes before it, and then breaks there.
 pub(crate) fn found_in(alloc: Global, kind: Option<Kind>, bytes: &[u8]) -> Result<Found, OpenFault>
     requires least { 2 ≤ length bytes.now }
     requires most { length bytes.now < 2 ^ 63 }

@@ -7,7 +7,7 @@ use Rattle.std.specs.List.{list_any, list_all}
 use Rattle.cx_base.specs.Role.{code_of, kind_of}
 use Rattle.cx_base.specs.declared.role.Kind.{Kind}
 use Rattle.cx_base.specs.declared.role.Kind.TheVariants.{Client, Batcher, Leader, Proxy, Acceptor, Matchmaker, Replica, Unbatcher, Reader}
-use Rattle.cx_wire.specs.Format.{u8, u16, ◌▷◌, by_tag}
+use Rattle.cx_wire.specs.Format.{Miss, u8, u16, ◌▷◌, by_tag}
 use Rattle.cx_wire.proofs.Laws.{IsBytes, IsExact, u8-exact, u16-exact, ▷-exact, shaped-exact, by_tag-takes, both, ok_is, tag_fits}
 use Rattle.cx_msg.specs.Messages.{body_shape, body_cases}
 use Rattle.cx_msg.specs.Letter.{Letter, is_kind, senders, receivers, is_listed, magic, header, header_of, fits, spelling}
@@ -107,17 +107,17 @@ getter_back kind code h = let r = in_range receivers kind code refl h in code_ba
 
 -- ---- what decodes is spelled so
 
-header_case : (all : ℕ) (r : Result (Header × List ℕ) ℕ) (d : Letter) → with_header all r ≡ Ok d → (h : Header × List ℕ) × (r ≡ Ok h) × (after_header all h.0 h.1 ≡ Ok d)
+header_case : (all : ℕ) (r : Result (Header × List ℕ) Miss) (d : Letter) → with_header all r ≡ Ok d → (h : Header × List ℕ) × (r ≡ Ok h) × (after_header all h.0 h.1 ≡ Ok d)
 unfolding with_header
-header_case all (Err left) d e = absurd cc
+header_case all (Err miss) d e = absurd cc
 header_case all (Ok h) d e = (h, refl, e)
 
 abbrev datagram_of : Header → Msg → Letter
 datagram_of h m = record { from = record { kind = kind_of h.from; index = h.from_index }; to = record { kind = kind_of h.to; index = h.to_index }; msg = m }
 
-finished_case : (all : ℕ) (h : Header) (r : Result (Msg × List ℕ) ℕ) (d : Letter) → finished all h r ≡ Ok d → (m : Msg) × (r ≡ Ok (m, [])) × (datagram_of h m ≡ d)
+finished_case : (all : ℕ) (h : Header) (r : Result (Msg × List ℕ) Miss) (d : Letter) → finished all h r ≡ Ok d → (m : Msg) × (r ≡ Ok (m, [])) × (datagram_of h m ≡ d)
 unfolding finished
-finished_case all h (Err left) d e = absurd cc
+finished_case all h (Err miss) d e = absurd cc
 finished_case all h (Ok (m, [])) d e = (m, refl, cc)
 finished_case all h (Ok (m, b ∷ bytes)) d e = absurd cc
 
@@ -295,7 +295,7 @@ one_spelling d e more fit_d fit_e same =
     let t = (body_shape e.msg).bytes in
     let read_d : header.read (spelling d ++ more) ≡ Ok (header_of d, s ++ more) = ap header.read (append_assoc (header.spell (header_of d)) s more) ∙ header-exact.again (header_of d) (s ++ more) (header_fits d (fitting d fit_d)) in
     let read_e : header.read (spelling e) ≡ Ok (header_of e, t) = header-exact.again (header_of e) t (header_fits e (fitting e fit_e)) in
-    let done : Header × List ℕ → Result (Header × List ℕ) ℕ = λ x. Ok x in
+    let done : Header × List ℕ → Result (Header × List ℕ) Miss = λ x. Ok x in
     let pair : done (header_of d, s ++ more) ≡ done (header_of e, t) = sym read_d ∙ ap header.read same ∙ read_e in
     let parts = ok_is (header_of d, s ++ more) (header_of e, t) pair in
     let said : length s ≡ length t = ap (λ (p : Header × List ℕ). p.0.said) parts in

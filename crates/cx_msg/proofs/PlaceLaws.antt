@@ -3,7 +3,7 @@ use Rattle.std.proofs.Common.{◌≡◌, ◌⊎◌, inl, inr, ℕ, ◌+◌, ◌-
 use Rattle.std.specs.Prelude.{◌&&◌, nat_le, IfErr}
 use Rattle.std.proofs.lemmas.Bool.{ltb-true}
 use Rattle.std.proofs.lemmas.List.{length-append}
-use Rattle.cx_wire.specs.Format.{u8, u16, by_tag}
+use Rattle.cx_wire.specs.Format.{Miss, u8, u16, by_tag}
 use Rattle.cx_wire.proofs.Laws.{IsBytes, u8-exact, by_tag-takes, by_tag-within, Takes-less}
 use Rattle.cx_msg.specs.Messages.{body_shape, body_cases}
 use Rattle.cx_msg.specs.Letter.{Letter, is_kind, senders, receivers, is_listed, magic, header}
@@ -30,11 +30,11 @@ stopped false d e r h = inr h
 
 -- ---- datagrams
 
-finished_lies : (bytes : List ℕ) (h : Header) (body : List ℕ) (r : Result (Msg × List ℕ) ℕ) (e : WireFault) → IsBytes body → length bytes ≡ 12 + length body → by_tag body_cases h.kind (length body) body ≡ r → finished (length bytes) h r ≡ Err e → LiesIn 4 bytes e
+finished_lies : (bytes : List ℕ) (h : Header) (body : List ℕ) (r : Result (Msg × List ℕ) Miss) (e : WireFault) → IsBytes body → length bytes ≡ 12 + length body → by_tag body_cases h.kind (length body) body ≡ r → finished (length bytes) h r ≡ Err e → LiesIn 4 bytes e
 unfolding finished
-finished_lies bytes h body (Err left) e is_bytes len same given =
-    let le : left ≤ length body = by_tag-within body_shape body_cases bodies-sound h.kind (length body) body left is_bytes (omega arith) same in
-    subst (λ (x : WireFault). LiesIn 4 bytes x) (fault_is {A = Letter} (faults.Field h.kind (length bytes - left)) e _ refl given) (omega arith, omega arith)
+finished_lies bytes h body (Err miss) e is_bytes len same given =
+    let le : miss.left ≤ length body = by_tag-within body_shape body_cases bodies-sound h.kind (length body) body miss is_bytes (omega arith) same in
+    subst (λ (x : WireFault). LiesIn 4 bytes x) (fault_is {A = Letter} (faults.Field h.kind (length bytes - miss.left)) e _ refl given) (omega arith, omega arith)
 finished_lies bytes h body (Ok (m, [])) e is_bytes len same given = absurd cc
 finished_lies bytes h body (Ok (m, b ∷ rest)) e is_bytes len same given =
     let t = by_tag-takes body_shape body_cases bodies-sound h.kind (length body) body (m, b ∷ rest) is_bytes same in
@@ -74,9 +74,9 @@ header-size : (h : Header) → length (header.spell h) ≡ 12
 unfolding header u8 u16
 header-size h = refl
 
-header_lies : (bytes : List ℕ) (r : Result (Header × List ℕ) ℕ) (e : WireFault) → IsBytes bytes → header.read bytes ≡ r → with_header (length bytes) r ≡ Err e → LiesIn 4 bytes e
+header_lies : (bytes : List ℕ) (r : Result (Header × List ℕ) Miss) (e : WireFault) → IsBytes bytes → header.read bytes ≡ r → with_header (length bytes) r ≡ Err e → LiesIn 4 bytes e
 unfolding with_header
-header_lies bytes (Err left) e is_bytes same given = subst (λ (x : WireFault). LiesIn 4 bytes x) (fault_is {A = Letter} (faults.Short 12 (length bytes)) e _ refl given) tt
+header_lies bytes (Err miss) e is_bytes same given = subst (λ (x : WireFault). LiesIn 4 bytes x) (fault_is {A = Letter} (faults.Short 12 (length bytes)) e _ refl given) tt
 header_lies bytes (Ok (h, body)) e is_bytes same given =
     let t = header-exact.takes bytes (h, body) is_bytes same in
     let len : length bytes ≡ 12 + length body = omega (arith, ap length t.0.parts, length-append (header.spell h) body, header-size h) in
@@ -98,11 +98,11 @@ faults_lie bytes (faults.Field kind at) is_bytes given = decoded_lies bytes (fau
 
 -- ---- records
 
-ended_lies : (bytes : List ℕ) (tag : ℕ) (body : List ℕ) (r : Result (Record × List ℕ) ℕ) (e : WireFault) → IsBytes body → length bytes ≡ 1 + length body → by_tag record_cases tag (length body) body ≡ r → ended (length bytes) tag r ≡ Err e → LiesIn 1 bytes e
+ended_lies : (bytes : List ℕ) (tag : ℕ) (body : List ℕ) (r : Result (Record × List ℕ) Miss) (e : WireFault) → IsBytes body → length bytes ≡ 1 + length body → by_tag record_cases tag (length body) body ≡ r → ended (length bytes) tag r ≡ Err e → LiesIn 1 bytes e
 unfolding ended
-ended_lies bytes tag body (Err left) e is_bytes len same given =
-    let le : left ≤ length body = by_tag-within record_shape record_cases records-sound tag (length body) body left is_bytes (omega arith) same in
-    subst (λ (x : WireFault). LiesIn 1 bytes x) (fault_is {A = Record} (faults.Field tag (length bytes - left)) e _ refl given) (omega arith, omega arith)
+ended_lies bytes tag body (Err miss) e is_bytes len same given =
+    let le : miss.left ≤ length body = by_tag-within record_shape record_cases records-sound tag (length body) body miss is_bytes (omega arith) same in
+    subst (λ (x : WireFault). LiesIn 1 bytes x) (fault_is {A = Record} (faults.Field tag (length bytes - miss.left)) e _ refl given) (omega arith, omega arith)
 ended_lies bytes tag body (Ok (kept, [])) e is_bytes len same given = absurd cc
 ended_lies bytes tag body (Ok (kept, b ∷ rest)) e is_bytes len same given =
     let t = by_tag-takes record_shape record_cases records-sound tag (length body) body (kept, b ∷ rest) is_bytes same in
@@ -113,9 +113,9 @@ u8-size : (n : ℕ) → length (u8.spell n) ≡ 1
 unfolding u8
 u8-size n = refl
 
-tag_lies : (bytes : List ℕ) (r : Result (ℕ × List ℕ) ℕ) (e : WireFault) → IsBytes bytes → u8.read bytes ≡ r → with_tag (length bytes) r ≡ Err e → LiesIn 1 bytes e
+tag_lies : (bytes : List ℕ) (r : Result (ℕ × List ℕ) Miss) (e : WireFault) → IsBytes bytes → u8.read bytes ≡ r → with_tag (length bytes) r ≡ Err e → LiesIn 1 bytes e
 unfolding with_tag
-tag_lies bytes (Err left) e is_bytes same given = subst (λ (x : WireFault). LiesIn 1 bytes x) (fault_is {A = Record} (faults.Short 1 0) e _ refl given) tt
+tag_lies bytes (Err miss) e is_bytes same given = subst (λ (x : WireFault). LiesIn 1 bytes x) (fault_is {A = Record} (faults.Short 1 0) e _ refl given) tt
 tag_lies bytes (Ok (tag, body)) e is_bytes same given =
     let t = u8-exact.takes bytes (tag, body) is_bytes same in
     let len : length bytes ≡ 1 + length body = omega (arith, ap length t.0.parts, length-append (u8.spell tag) body, u8-size tag) in

@@ -2,7 +2,7 @@
 use Rattle.std.proofs.Common.{◌≡◌, ℕ, ◌<◌, Bool, true, false, ◌&&◌, not, cond, List, [], ◌∷◌, ◌++◌, length, Result, Ok, Err, refl, sym, ap, ◌∙◌, lit<}
 use Rattle.std.specs.Prelude.{IfOk, IsTrue, nat_le}
 use Rattle.std.proofs.lemmas.List.{append-nil}
-use Rattle.cx_wire.specs.Format.{u8, ◌▷◌, by_tag}
+use Rattle.cx_wire.specs.Format.{Miss, u8, ◌▷◌, by_tag}
 use Rattle.cx_wire.proofs.Laws.{IsBytes, IsExact, Takes-then, u8-exact, ▷-exact, case-sound, case-again, AllSound, ReadsAgain, by_tag-takes, tag_fits}
 use Rattle.cx_field.specs.Fields.{slot, mark, round, grid, value, values}
 use Rattle.cx_msg.specs.Records.{vote, round_mark, round_grid, record_shape, record_cases, kept_record, fits, spelling, ended, with_tag, recorded, Decodes}
@@ -67,14 +67,14 @@ past : (b : Bool) (e : WireFault) (r : Result Record WireFault) (x : Record) →
 past true e r x h = h
 past false e r x h = absurd cc
 
-tag_case : (all : ℕ) (r : Result (ℕ × List ℕ) ℕ) (x : Record) → with_tag all r ≡ Ok x → (t : ℕ × List ℕ) × (r ≡ Ok t) × (ended all t.0 (by_tag record_cases t.0 (length t.1) t.1) ≡ Ok x)
+tag_case : (all : ℕ) (r : Result (ℕ × List ℕ) Miss) (x : Record) → with_tag all r ≡ Ok x → (t : ℕ × List ℕ) × (r ≡ Ok t) × (ended all t.0 (by_tag record_cases t.0 (length t.1) t.1) ≡ Ok x)
 unfolding with_tag
-tag_case all (Err left) x e = absurd cc
+tag_case all (Err miss) x e = absurd cc
 tag_case all (Ok t) x e = (t, refl, past (nat_le 1 t.0 && nat_le t.0 7) (faults.Kind t.0) _ x e)
 
-ended_case : (all tag : ℕ) (r : Result (Record × List ℕ) ℕ) (x : Record) → ended all tag r ≡ Ok x → r ≡ Ok (x, [])
+ended_case : (all tag : ℕ) (r : Result (Record × List ℕ) Miss) (x : Record) → ended all tag r ≡ Ok x → r ≡ Ok (x, [])
 unfolding ended
-ended_case all tag (Err left) x e = absurd cc
+ended_case all tag (Err miss) x e = absurd cc
 ended_case all tag (Ok (y, [])) x e = cc
 ended_case all tag (Ok (y, b ∷ bytes)) x e = absurd cc
 

@@ -3,7 +3,7 @@ use Rattle.std.specs.Prelude.{◌≡◌, ℕ, ◌-◌, Bool, ◌&&◌, not, nat_
 use Rattle.cx_base.specs.Grid.{Shape as GridShape}
 use Rattle.cx_base.specs.declared.round.Round.{Round}
 use Rattle.cx_base.specs.declared.command.Value.{Value}
-use Rattle.cx_wire.specs.Format.{Format, u8, ◌▷◌, by_tag, Shape, shape, Case, case, tagged}
+use Rattle.cx_wire.specs.Format.{Format, Miss, u8, ◌▷◌, by_tag, Shape, shape, Case, case, tagged}
 use Rattle.cx_field.specs.Fields.{slot, mark, round, grid, value, values}
 use Rattle.cx_msg.specs.declared.kept.Record.{Record}
 use Rattle.cx_msg.specs.declared.kept.Record.TheVariants as kept
@@ -55,17 +55,21 @@ fits r = (record_shape r).fits
 abbrev pub spelling : Record → List ℕ
 spelling r = kept_record.spell r
 
+-- whether a tag is one
+abbrev pub is_tag : ℕ → Bool
+is_tag tag = nat_le 1 tag && nat_le tag 7
+
 -- the record, once its fields are read, of so many bytes in all
-unfoldable pub ended : ℕ → ℕ → Result (Record × List ℕ) ℕ → Result Record WireFault
-ended all tag (Err left) = Err (faults.Field tag (all - left))
+unfoldable pub ended : ℕ → ℕ → Result (Record × List ℕ) Miss → Result Record WireFault
+ended all tag (Err miss) = Err (faults.Field tag (all - miss.left))
 ended all tag (Ok (r, [])) = Ok r
 ended all tag (Ok (r, b ∷ bytes)) = Err (faults.Trailing (all - length (b ∷ bytes)))
 
 -- the test of the tag, and the fields after it
-unfoldable pub with_tag : ℕ → Result (ℕ × List ℕ) ℕ → Result Record WireFault
-with_tag all (Err left) = Err (faults.Short 1 0)
+unfoldable pub with_tag : ℕ → Result (ℕ × List ℕ) Miss → Result Record WireFault
+with_tag all (Err miss) = Err (faults.Short 1 0)
 with_tag all (Ok (tag, body)) =
-    if not (nat_le 1 tag && nat_le tag 7) then Err (faults.Kind tag) else ended all tag (by_tag record_cases tag (length body) body)
+    if not (is_tag tag) then Err (faults.Kind tag) else ended all tag (by_tag record_cases tag (length body) body)
 
 -- the record that bytes spell, or the first test that they fail
 abbrev pub recorded : List ℕ → Result Record WireFault
@@ -76,3 +80,22 @@ abbrev pub Decodes : Result Record WireFault → Result Record WireFault → Typ
 Decodes (Ok r) is = is ≡ Ok r
 Decodes (Err faults.NoMemory) is = Unit {0}
 Decodes (Err e) is = is ≡ Err e
+
+-- Where the first bytes of a record break at a bad field, of which bytes so many are said and so many there: a field that is only cut, and
+-- would end within what is said, breaks where the bytes end; any other at its first byte.
+unfoldable pub break_place : ℕ → ℕ → Miss → ℕ
+break_place said have miss = if nat_lt miss.left miss.need && nat_le miss.need (said - (have - miss.left)) then have else have - miss.left
+
+-- the same, once the fields are read: bytes that are left break at the first of them, and where none are left the bytes end
+unfoldable pub part_ended : ℕ → ℕ → Result (Record × List ℕ) Miss → ℕ
+part_ended said have (Err miss) = break_place said have miss
+part_ended said have (Ok (r, rest)) = have - length rest
+
+-- the test of the tag, and the fields after it
+unfoldable pub part_with_tag : ℕ → ℕ → Result (ℕ × List ℕ) Miss → ℕ
+part_with_tag said have (Err miss) = have
+part_with_tag said have (Ok (tag, body)) = if not (is_tag tag) then 0 else part_ended said have (by_tag record_cases tag (length body) body)
+
+-- where the first bytes of a record that is said to have more break
+abbrev pub break_of_part : ℕ → List ℕ → ℕ
+break_of_part said bytes = part_with_tag said (length bytes) (u8.read bytes)

@@ -55,7 +55,7 @@ fn finish(
             };
             Ok(Parts { from, to, msg })
         }
-        Err(ReadFault::Bad { left }) => {
+        Err(ReadFault::Bad { left } | ReadFault::Cut { left, .. }) => {
             Err(WireFault::Field {
                 kind: header.kind,
                 at: all.saturating_sub(left),
@@ -113,7 +113,7 @@ fn read(alloc: Global, bytes: &[u8]) -> Result<Parts, WireFault>
     let mut reader = Reader::new(bytes);
     match header_from(&mut reader) {
         Ok(header) => body_of(alloc, bytes.len(), &header, &mut reader),
-        Err(ReadFault::Bad { .. }) => Err(WireFault::Short {
+        Err(ReadFault::Bad { .. } | ReadFault::Cut { .. }) => Err(WireFault::Short {
             need: 12,
             have: bytes.len(),
         }),

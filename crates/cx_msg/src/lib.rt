@@ -6,6 +6,7 @@
 #![tactic(auto)]
 
 mod bodies;
+mod broken;
 mod copies;
 mod datagram;
 mod decoding;
@@ -21,6 +22,7 @@ mod read_letters;
 mod records;
 mod roles;
 
+pub use broken::break_of_part;
 pub use datagram::Datagram;
 pub use decoding::{decode, one_spelling};
 pub use encoding::{body_into, encode_into};

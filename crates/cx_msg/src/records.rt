@@ -19,7 +19,7 @@ use cx_wire::put_u8;
 use std::alloc::Global;
 
 #[tactic(auto, unfolding(crate::specs::Records::record_cases))]
-fn fields_from(tag: u8, alloc: Global, reader: &mut Reader<'_>) -> Result<Record, ReadFault>
+pub(crate) fn fields_from(tag: u8, alloc: Global, reader: &mut Reader<'_>) -> Result<Record, ReadFault>
     ensures { Gives (λ r. r) result (wire.by_tag records.record_cases tag (length reader.old) reader.old) reader.new }
 {
     match tag {
@@ -74,7 +74,9 @@ fn read(alloc: Global, bytes: &[u8]) -> Result<Record, WireFault>
     let mut reader = Reader::new(bytes);
     let tag = match reader.u8() {
         Ok(tag) => tag,
-        Err(ReadFault::Bad { .. }) => return Err(WireFault::Short { need: 1, have: 0 }),
+        Err(ReadFault::Bad { .. } | ReadFault::Cut { .. }) => {
+            return Err(WireFault::Short { need: 1, have: 0 });
+        }
         Err(ReadFault::NoMemory) => return Err(WireFault::NoMemory),
     };
     if tag < 1 || tag > 7 {
@@ -90,7 +92,7 @@ fn read(alloc: Global, bytes: &[u8]) -> Result<Record, WireFault>
             }
             Ok(kept)
         }
-        Err(ReadFault::Bad { left }) => {
+        Err(ReadFault::Bad { left } | ReadFault::Cut { left, .. }) => {
             Err(WireFault::Field {
                 kind: tag,
                 at: bytes.len().saturating_sub(left),

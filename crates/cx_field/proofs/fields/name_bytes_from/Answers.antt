@@ -1,7 +1,7 @@
 use Rattle.std.proofs.Common.{◌≡◌, [], List, take, ℕ, refl, arith, ◌∙◌, ap, Result, Ok}
 use Rattle.std.proofs.lemmas.Result.{err_from_is_err_and}
 use Rattle.std.proofs.lemmas.List.Folds.{list_all-append}
-use Rattle.cx_wire.specs.Format.{each_read}
+use Rattle.cx_wire.specs.Format.{Miss, each_read}
 use Rattle.cx_wire.proofs.Loops.{goes_on, is_done}
 use Rattle.cx_field.specs.Fields.{name_byte}
 use Rattle.cx_field.proofs.Exits.{list_ends}
@@ -29,4 +29,4 @@ pub returns-clause-read : goal.returns-clause-read
 returns-clause-read c =
     let k : c.loop.counter ≡ c.args.count = omega arith in
     let done = is_done (λ (_ : List ℕ). name_byte) (take c.loop.counter c.bytes-bytes.result.now) c.args.count c.loop.counter c.loop.reader (each_read (λ _. name_byte) [] c.args.count c.args.reader.now) c.loop-test.false c.loop.invariant.so_far in
-    done ∙ (let pack : ℕ → Result (List ℕ × List ℕ) ℕ = λ n. Ok (take n c.bytes-bytes.result.now, c.loop.reader) in ap pack k)
+    done ∙ (let pack : ℕ → Result (List ℕ × List ℕ) Miss = λ n. Ok (take n c.bytes-bytes.result.now, c.loop.reader) in ap pack k)

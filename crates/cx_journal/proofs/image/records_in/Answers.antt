@@ -4,8 +4,8 @@ use Rattle.cx_journal.specs.Image.{image_at, with_all, with_first}
 use Rattle.cx_journal.specs.Journal.{frames, gates_from}
 use Rattle.cx_journal.proofs.Crash.{frames-more, length-frames-more}
 use Rattle.cx_journal.proofs.Gates.{gates-push, payloads-push, all_kept-push}
-use Rattle.cx_journal.proofs.Reading.{image-long, with_all-push, with_all-Ok, with_all-Err}
-use Rattle.cx_journal.proofs.Breaks.{read_stop}
+use Rattle.cx_journal.proofs.Reading.{image-long, with_all-push, with_all-Ok}
+use Rattle.cx_journal.proofs.Breaks.{read_stop, breaks_so}
 use Rattle.cx_journal.proofs.image.records_in.Goals as goal
 
 pub returns-in-Ok-clause-image : goal.returns-in-Ok-clause-image
@@ -15,7 +15,7 @@ returns-in-Ok-clause-image c =
 
 pub returns-in-Err-clause-image : goal.returns-in-Err-clause-image
 returns-in-Err-clause-image c =
-    image-long _ c.args.bytes.now c.requires.least ∙ c.reading.invariant.so_far ∙ ap (with_all c.reading.records.items) c.in-Err.ensures.image ∙ with_all-Err c.reading.records.items _
+    breaks_so c.reading.records.items _ _ c.in-Err.stop (image-long _ c.args.bytes.now c.requires.least ∙ c.reading.invariant.so_far) c.in-Err.ensures.image
 
 pub returns-in-Err-record_at-clause-image : goal.returns-in-Err-record_at-clause-image
 returns-in-Err-record_at-clause-image c =
