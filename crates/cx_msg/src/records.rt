@@ -19,7 +19,11 @@ use cx_wire::put_u8;
 use std::alloc::Global;
 
 #[tactic(auto, unfolding(crate::specs::Records::record_cases))]
-pub(crate) fn fields_from(tag: u8, alloc: Global, reader: &mut Reader<'_>) -> Result<Record, ReadFault>
+pub(crate) fn fields_from(
+    tag: u8,
+    alloc: Global,
+    reader: &mut Reader<'_>,
+) -> Result<Record, ReadFault>
     ensures { Gives (λ r. r) result (wire.by_tag records.record_cases tag (length reader.old) reader.old) reader.new }
 {
     match tag {
