@@ -262,8 +262,8 @@ enum Found {
     Break { at: u64, byte: Option<u8> },
 }
 
-fn opened(alloc: Global, image: &[u8]) -> Result<Found, Fail> {
-    match Journal::open(alloc, disk_with(alloc, image, Fate::Works)?, Kind::Acceptor) {
+fn opened(alloc: Global, kind: Kind, image: &[u8]) -> Result<Found, Fail> {
+    match Journal::open(alloc, disk_with(alloc, image, Fate::Works)?, kind) {
         Ok((_, records)) => {
             let mut frames = Vec::new(alloc);
             for what in &records {
@@ -348,7 +348,11 @@ fn a_changed_byte_breaks_a_journal_where_it_must(rt: HostRuntime) -> Result<(), 
             changed[at] = byte;
             if byte != SMALL[at] {
                 let wanted = wanted(alloc, &changed, at)?;
-                assert_eq!(rt; opened(alloc, &changed)?, wanted, "{byte} at {at}");
+                assert_eq!(rt;
+                    opened(alloc, Kind::Acceptor, &changed)?,
+                    wanted,
+                    "{byte} at {at}"
+                );
             }
         }
     }
@@ -368,9 +372,93 @@ fn a_journal_that_is_cut_breaks_at_its_end(rt: HostRuntime) -> Result<(), Fail> 
                 byte: None,
             }
         };
-        assert_eq!(rt; opened(alloc, &SMALL[..len])?, wanted, "{len}");
+        assert_eq!(rt;
+            opened(alloc, Kind::Acceptor, &SMALL[..len])?,
+            wanted,
+            "{len}"
+        );
     }
     let whole = Found::Records(SMALL[..16].to_vec(alloc)?);
-    assert_eq!(rt; opened(alloc, &SMALL)?, whole);
+    assert_eq!(rt; opened(alloc, Kind::Acceptor, &SMALL)?, whole);
     Ok(())
+}
+
+// A journal whose one record the end cuts, the place of its first break, and the byte there, as another implementation breaks it.
+type CutRecord = (&'static str, u64, Option<u8>);
+
+const CUT_OF_ACCEPTORS: [CutRecord; 16] = [
+    ("010000000b01000000", 9, None),
+    ("010000000501000000", 6, Some(0)),
+    ("0100000064090000", 5, Some(9)),
+    ("0100000064040000", 5, Some(4)),
+    ("010000006401", 6, None),
+    ("0100000064", 5, None),
+    ("01000000640200000000000000000000", 6, Some(0)),
+    ("010000006402000000000000", 12, None),
+    (
+        "010000002c0200000001000000000000ffffffffffff0000",
+        16,
+        Some(255),
+    ),
+    ("010000002c0200000001000000000000ffffff", 19, None),
+    (
+        "010000002c0200000001000000000000000000000000000000000100000000000001",
+        33,
+        Some(1),
+    ),
+    (
+        "010000002c02000000010000000000000000000000000000000000000000000000000102",
+        33,
+        Some(0),
+    ),
+    (
+        "010000002c020000000100000000000000000000000000000000000000000000000109",
+        33,
+        Some(1),
+    ),
+    ("0100008000010000000100000000000000", 16, Some(0)),
+    ("01000080000100000001000000000000", 16, None),
+    ("01000080010100000001000000000000", 1, Some(0)),
+];
+
+const CUT_OF_MATCHMAKERS: [CutRecord; 5] = [
+    ("01000000640400000001000000000000020200010001", 20, Some(0)),
+    ("010000006404000000010000000000000202000100", 21, None),
+    ("010000006404000000010000000000000011", 16, Some(0)),
+    ("01000000640400000001000000000000000101", 16, Some(0)),
+    ("010000000c04000000010000000000000101", 17, Some(1)),
+];
+
+const CUT_OF_LEADERS: [CutRecord; 2] = [
+    ("010000000f06000000010000000000000101", 18, None),
+    ("010000000e0600000001000000000000010100", 18, Some(0)),
+];
+
+const CUT_OF_REPLICAS: [CutRecord; 5] = [
+    ("0100000064070100", 8, None),
+    ("01000000640700", 6, Some(0)),
+    (
+        "010000006407010101000100000000000000010101612001",
+        23,
+        Some(1),
+    ),
+    ("0100000064070101010001000000000000000101012f", 21, Some(47)),
+    ("01000000040701010100", 9, Some(0)),
+];
+
+fn break_there(rt: HostRuntime, kind: Kind, records: &[CutRecord]) -> Result<(), Fail> {
+    let alloc = rt.alloc();
+    for &(image, at, byte) in records {
+        let found = opened(alloc, kind, &unhex(alloc, image.as_bytes())?)?;
+        assert_eq!(rt; found, Found::Break { at, byte }, "{image}");
+    }
+    Ok(())
+}
+
+#[test]
+fn a_record_that_the_end_cuts_breaks_at_the_least_place(rt: HostRuntime) -> Result<(), Fail> {
+    break_there(rt, Kind::Acceptor, &CUT_OF_ACCEPTORS)?;
+    break_there(rt, Kind::Matchmaker, &CUT_OF_MATCHMAKERS)?;
+    break_there(rt, Kind::Leader, &CUT_OF_LEADERS)?;
+    break_there(rt, Kind::Replica, &CUT_OF_REPLICAS)
 }
