@@ -1,6 +1,7 @@
 -- The law of a role's step.
-use Rattle.std.specs.Prelude.{◌≡◌, ◌⊎◌, false, List, [], Option, None, Some, Result, Ok, Err}
+use Rattle.std.specs.Prelude.{◌≡◌, ◌⊎◌, Bool, true, false, List, [], Option, None, Some, Result, Ok, Err}
 use Rattle.cx_base.specs.declared.why.Why.{Why}
+use Rattle.cx_base.specs.declared.why.Why.TheVariants as why
 use Rattle.cx_keeper.specs.declared.keeper.KeepFault.{KeepFault}
 use Rattle.cx_keeper.specs.declared.keeper.KeepFault.TheVariants.{Failed, NoMemory}
 use Rattle.cx_model.specs.Outcome.{Outcome}
@@ -46,3 +47,15 @@ pub record FailsAt {K D V : Type 0} (append_gives : Appending K) (outcome : Outc
   pub append : (r : Record) × (outcome.kept ≡ Some r) × append_gives old r (Err Failed) new
   pub dead : after.live ≡ false
   pub sends : sent ≡ []
+
+-- the words of the rows that take no memory, so that want of it is never their answer (this project's own)
+abbrev pub takes_no_memory : Why → Bool
+takes_no_memory why.Stranger = true
+takes_no_memory why.Old = true
+takes_no_memory why.Past = true
+takes_no_memory why.Unasked = true
+takes_no_memory why.Done = true
+takes_no_memory why.Idle = true
+takes_no_memory why.Waiting = true
+takes_no_memory why.End = true
+takes_no_memory w = false

@@ -1,13 +1,13 @@
 //! A role of the protocol.
 
-ghost use Rattle.std.specs.Prelude.{◌≡◌, [], true, None, IfOk, IfErr, IsErrOf, IsTrue, OnErr};
+ghost use Rattle.std.specs.Prelude.{◌≡◌, [], true, false, None, IfOk, IfErr, IsErrOf, IsTrue, OnErr};
 ghost use Rattle.cx_keeper.specs.Keeper.{all_fit};
 ghost use Rattle.cx_model.specs.Names.{names_role};
 ghost use Rattle.cx_model.specs.Rules.{Rules, Running, opened, refused, outcome_of, IsFit};
 ghost use Rattle.cx_msg.specs.declared.input.Input.TheVariants as input;
 ghost use Rattle.cx_role.specs.declared.role.StepFault.TheVariants as fault;
 ghost use Rattle.cx_role.specs.declared.role.WakeFault.TheVariants as wake;
-ghost use Rattle.cx_role.specs.Role.{Steps, Replies, StaysAt, FailsAt};
+ghost use Rattle.cx_role.specs.Role.{Steps, Replies, StaysAt, FailsAt, takes_no_memory};
 ghost use Rattle.cx_role.specs.Wake.{IsWakeFault};
 
 use crate::Outbox;
@@ -78,7 +78,8 @@ impl From<AllocError> for WakeFault {
 }
 
 /// A kind of role: it takes one datagram, order or tick at a time, makes at most one append, and then changes its state and
-/// sends. Memory is taken first, so that want of it leaves everything as it was.
+/// sends. Memory is taken first, so that want of it leaves everything as it was; the rows that are of no more use to anybody
+/// (`takes_no_memory`: a stranger, what is old or past, and the like) take none.
 pub trait Role: Sized {
     /// The part of its state that its records leave.
     ghost Durable: { Type 0 };
@@ -119,6 +120,7 @@ pub trait Role: Sized {
         requires empty { out.old.list ≡ [] }
         ensures ok { IfOk result (λ why. Steps K.append_gives rules (state self.old) (outcome_of rules (state self.old) (input.Take datagram.now)) why keeper.old keeper.new (state self.new) out.new.list) }
         ensures no_memory { IsErrOf result StepFault.NoMemory → StaysAt K.append_gives (state self.old) (state self.new) keeper.old keeper.new out.new.list }
+        ensures spared { IsErrOf result StepFault.NoMemory → takes_no_memory (outcome_of rules (state self.old) (input.Take datagram.now)).why ≡ false }
         ensures told { K.tells keeper.new ≡ K.tells keeper.old }
         ensures failed { IsErrOf result StepFault.Failed → FailsAt K.append_gives (outcome_of rules (state self.old) (input.Take datagram.now)) keeper.old keeper.new (state self.new) out.new.list }
         ensures fits { IsFit rules (state self.old).cluster (state self.old).me (state self.old).durable (outcome_of rules (state self.old) (input.Take datagram.now)).kept };
@@ -134,6 +136,7 @@ pub trait Role: Sized {
         requires empty { out.old.list ≡ [] }
         ensures ok { IfOk result (λ why. Steps K.append_gives rules (state self.old) (outcome_of rules (state self.old) (input.Order order.now)) why keeper.old keeper.new (state self.new) out.new.list) }
         ensures no_memory { IsErrOf result StepFault.NoMemory → StaysAt K.append_gives (state self.old) (state self.new) keeper.old keeper.new out.new.list }
+        ensures spared { IsErrOf result StepFault.NoMemory → takes_no_memory (outcome_of rules (state self.old) (input.Order order.now)).why ≡ false }
         ensures told { K.tells keeper.new ≡ K.tells keeper.old }
         ensures failed { IsErrOf result StepFault.Failed → FailsAt K.append_gives (outcome_of rules (state self.old) (input.Order order.now)) keeper.old keeper.new (state self.new) out.new.list }
         ensures fits { IsFit rules (state self.old).cluster (state self.old).me (state self.old).durable (outcome_of rules (state self.old) (input.Order order.now)).kept };
@@ -144,7 +147,8 @@ pub trait Role: Sized {
         requires empty { out.old.list ≡ [] }
         ensures ok { IfOk result (λ why. Replies rules (state self.old) (outcome_of rules (state self.old) input.Tick) why (state self.new) out.new.list) }
         ensures no_memory { OnErr result (state self.new ≡ state self.old) }
-        ensures sends { OnErr result (out.new.list ≡ []) };
+        ensures sends { OnErr result (out.new.list ≡ []) }
+        ensures spared { OnErr result (takes_no_memory (outcome_of rules (state self.old) input.Tick).why ≡ false) };
 
     /// Whether the role may take a step: until an append fails. It takes no memory.
     fn live(&self) -> bool
