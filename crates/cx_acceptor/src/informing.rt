@@ -1,11 +1,11 @@
 //! The rows of how many slots are chosen.
 
-ghost use Rattle.std.specs.Prelude.{◌≡◌, [], true, IfOk, IsErrOf, IsTrue, OnErr};
+ghost use Rattle.std.specs.Prelude.{◌≡◌, [], true, false, IfOk, IsErrOf, IsTrue, OnErr};
 ghost use Rattle.cx_base.specs.declared.role.Kind.{Kind};
 ghost use Rattle.cx_base.specs.Role.{role};
 ghost use Rattle.cx_model.specs.Acceptor.{acceptor_rules, inform_row, pre_read_row};
 ghost use Rattle.cx_field.specs.Fields as field;
-ghost use Rattle.cx_role.specs.Role.{Replies, Steps, StaysAt, FailsAt};
+ghost use Rattle.cx_role.specs.Role.{Replies, Steps, StaysAt, FailsAt, takes_no_memory};
 
 use crate::Acceptor;
 use cx_base::{NoMemory, RoleId, Round, Why};
@@ -32,6 +32,7 @@ impl Acceptor {
         requires mark { IsTrue (field.mark.fits mark) }
         ensures ok { IfOk result (λ why. Steps K.append_gives acceptor_rules self.old (inform_row self.old.me self.old.durable from round mark) why keeper.old keeper.new self.new out.new.list) }
         ensures no_memory { IsErrOf result StepFault.NoMemory → StaysAt K.append_gives self.old self.new keeper.old keeper.new out.new.list }
+        ensures spared { IsErrOf result StepFault.NoMemory → takes_no_memory (inform_row self.old.me self.old.durable from round mark).why ≡ false }
         ensures told { K.tells keeper.new ≡ K.tells keeper.old }
         ensures failed { IsErrOf result StepFault.Failed → FailsAt K.append_gives (inform_row self.old.me self.old.durable from round mark) keeper.old keeper.new self.new out.new.list }
     {

@@ -1,12 +1,12 @@
 //! The row of a promise.
 
-ghost use Rattle.std.specs.Prelude.{◌≡◌, ◌∷◌, [], true, IfOk, IsErrOf, IsTrue, OnOk, OnErr};
+ghost use Rattle.std.specs.Prelude.{◌≡◌, ◌∷◌, [], true, false, IfOk, IsErrOf, IsTrue, OnOk, OnErr};
 ghost use Rattle.cx_base.specs.declared.role.Kind.{Kind};
 ghost use Rattle.cx_base.specs.Role.{role};
 ghost use Rattle.cx_base.specs.Round.{is_before};
 ghost use Rattle.cx_model.specs.Acceptor.{acceptor_rules, nack_to, phase1a_row};
 ghost use Rattle.cx_field.specs.Fields as field;
-ghost use Rattle.cx_role.specs.Role.{Steps, StaysAt, FailsAt};
+ghost use Rattle.cx_role.specs.Role.{Steps, StaysAt, FailsAt, takes_no_memory};
 
 use crate::Acceptor;
 use cx_base::{Few, NoMemory, RoleId, Round, Why, copy_all};
@@ -31,6 +31,7 @@ impl Acceptor {
         requires round { IsTrue (field.round.fits round) }
         ensures ok { IfOk result (λ why. Steps K.append_gives acceptor_rules self.old (phase1a_row self.old.me self.old.durable from round) why keeper.old keeper.new self.new out.new.list) }
         ensures no_memory { IsErrOf result StepFault.NoMemory → StaysAt K.append_gives self.old self.new keeper.old keeper.new out.new.list }
+        ensures spared { IsErrOf result StepFault.NoMemory → takes_no_memory (phase1a_row self.old.me self.old.durable from round).why ≡ false }
         ensures told { K.tells keeper.new ≡ K.tells keeper.old }
         ensures failed { IsErrOf result StepFault.Failed → FailsAt K.append_gives (phase1a_row self.old.me self.old.durable from round) keeper.old keeper.new self.new out.new.list }
     {

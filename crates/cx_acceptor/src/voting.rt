@@ -1,12 +1,12 @@
 //! The row of a vote.
 
-ghost use Rattle.std.specs.Prelude.{◌≡◌, [], true, IfOk, IsErrOf, IsTrue};
+ghost use Rattle.std.specs.Prelude.{◌≡◌, [], true, false, IfOk, IsErrOf, IsTrue};
 ghost use Rattle.cx_base.specs.declared.role.Kind.{Kind};
 ghost use Rattle.cx_base.specs.Role.{role};
 ghost use Rattle.cx_model.specs.Acceptor.{acceptor_rules, phase2a_row};
 ghost use Rattle.cx_field.specs.Fields as field;
 ghost use Rattle.cx_field.specs.Fields.{in_window};
-ghost use Rattle.cx_role.specs.Role.{Steps, StaysAt, FailsAt};
+ghost use Rattle.cx_role.specs.Role.{Steps, StaysAt, FailsAt, takes_no_memory};
 
 use crate::Acceptor;
 use crate::votes::{has_vote, keep_from, place};
@@ -39,6 +39,7 @@ impl Acceptor {
         requires value { IsTrue (field.value.fits value.now) }
         ensures ok { IfOk result (λ why. Steps K.append_gives acceptor_rules self.old (phase2a_row self.old.me self.old.durable from round slot cw value.now) why keeper.old keeper.new self.new out.new.list) }
         ensures no_memory { IsErrOf result StepFault.NoMemory → StaysAt K.append_gives self.old self.new keeper.old keeper.new out.new.list }
+        ensures spared { IsErrOf result StepFault.NoMemory → takes_no_memory (phase2a_row self.old.me self.old.durable from round slot cw value.now).why ≡ false }
         ensures told { K.tells keeper.new ≡ K.tells keeper.old }
         ensures failed { IsErrOf result StepFault.Failed → FailsAt K.append_gives (phase2a_row self.old.me self.old.durable from round slot cw value.now) keeper.old keeper.new self.new out.new.list }
     {
