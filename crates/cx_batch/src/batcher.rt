@@ -1,13 +1,13 @@
 //! The batcher.
 
-ghost use Rattle.std.specs.Prelude.{◌≡◌, ◌≤◌, ◌++◌, ◌∷◌, [], length, vec_len, IfOk, OnOk, OnErr, IsTrue};
+ghost use Rattle.std.specs.Prelude.{◌≡◌, ◌≤◌, ◌++◌, ◌∷◌, [], length, vec_len, IfOk, OnOk, OnErr, IsTrue, false};
 ghost use Rattle.std.specs.List.{list_all};
 ghost use Rattle.cx_base.specs.declared.command.Command.{Command};
 ghost use Rattle.cx_base.specs.declared.role.Kind.TheVariants as kind;
 ghost use Rattle.cx_field.specs.Fields as field;
 ghost use Rattle.cx_model.specs.Rules.{Running};
 ghost use Rattle.cx_model.specs.Batcher.{BatcherVolatile, batcher_rules, batch_to, submit_row, leads_row, batcher_tick};
-ghost use Rattle.cx_role.specs.Role.{Replies};
+ghost use Rattle.cx_role.specs.Role.{Replies, takes_no_memory};
 
 use cx_base::{Cluster, Command, Duplicate, Few, NoMemory, Order, RoleId, Round, Why};
 use cx_keeper::Keeper;
@@ -45,6 +45,7 @@ impl Batcher {
         requires fits { IsTrue (field.command.fits command.now) }
         requires empty { out.old.list ≡ [] }
         ensures ok { IfOk result (λ why. Replies batcher_rules self.old (submit_row self.old.cluster self.old.me self.old.volatile command.now) why self.new out.new.list) }
+        ensures spared { OnErr result (takes_no_memory (submit_row self.old.cluster self.old.me self.old.volatile command.now).why ≡ false) }
         ensures state { OnErr result (self.new ≡ self.old) }
         ensures sends { OnErr result (out.new.list ≡ []) }
     {

@@ -1,9 +1,9 @@
 //! The leader's state.
 
-ghost use Rattle.std.specs.Prelude.{◌≡◌, [], IfOk, OnErr, IsTrue};
+ghost use Rattle.std.specs.Prelude.{◌≡◌, [], IfOk, OnErr, IsTrue, false};
 ghost use Rattle.cx_model.specs.Leader.{LeaderDurable, LeaderVolatile, is_idle, leader_takes, leader_rules};
 ghost use Rattle.cx_model.specs.Names.{names};
-ghost use Rattle.cx_role.specs.Role.{Replies};
+ghost use Rattle.cx_role.specs.Role.{Replies, takes_no_memory};
 
 use crate::opening::{last_begun, none_held};
 use crate::proposals::Proposals;
@@ -69,6 +69,7 @@ impl Leader {
         requires empty { out.old.list ≡ [] }
         ensures ok { IfOk result (λ why. Replies leader_rules self.old (leader_takes self.old.cluster self.old.me self.old.durable self.old.volatile datagram.now.from datagram.now.msg) why self.new out.new.list) }
         ensures no_memory { OnErr result (self.new ≡ self.old) }
+        ensures spared { OnErr result (takes_no_memory (leader_takes self.old.cluster self.old.me self.old.durable self.old.volatile datagram.now.from datagram.now.msg).why ≡ false) }
         ensures sends { OnErr result (out.new.list ≡ []) }
     {
         let from = datagram.from();

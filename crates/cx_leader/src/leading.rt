@@ -1,11 +1,11 @@
 //! What a leader that leads does: it proposes what its first phase told, gives each batch a slot, and notes which slots are
 //! chosen (VLDB 2021).
 
-ghost use Rattle.std.specs.Prelude.{◌≡◌, [], Some, IsTrue, IfOk, OnErr};
+ghost use Rattle.std.specs.Prelude.{◌≡◌, [], Some, IsTrue, IfOk, OnErr, false};
 ghost use Rattle.cx_field.specs.Fields as field;
 ghost use Rattle.cx_model.specs.Leader.{lead_with, batch_row, chosen_in_row, leader_rules};
 ghost use Rattle.cx_phase1.specs.Planned.{IsPlan};
-ghost use Rattle.cx_role.specs.Role.{Replies};
+ghost use Rattle.cx_role.specs.Role.{Replies, takes_no_memory};
 
 use crate::Leader;
 use crate::proposals::Proposals;
@@ -30,6 +30,7 @@ impl Leader {
         requires empty { out.old.list ≡ [] }
         ensures ok { IfOk result (λ why. Replies leader_rules self.old (lead_with self.old.cluster self.old.me own.now self.old.volatile plan.now) why self.new out.new.list) }
         ensures no_memory { OnErr result (self.new ≡ self.old) }
+        ensures spared { OnErr result (takes_no_memory (lead_with self.old.cluster self.old.me own.now self.old.volatile plan.now).why ≡ false) }
         ensures sends { OnErr result (out.new.list ≡ []) }
     {
         let proposals = Proposals::planned(self.alloc, plan)?;
@@ -55,6 +56,7 @@ impl Leader {
         requires commands { IsTrue (field.commands.fits commands.now) }
         ensures ok { IfOk result (λ why. Replies leader_rules self.old (batch_row self.old.cluster self.old.me self.old.durable self.old.volatile commands.now) why self.new out.new.list) }
         ensures no_memory { OnErr result (self.new ≡ self.old) }
+        ensures spared { OnErr result (takes_no_memory (batch_row self.old.cluster self.old.me self.old.durable self.old.volatile commands.now).why ≡ false) }
         ensures sends { OnErr result (out.new.list ≡ []) }
     {
         if !matches!(self.mode, Mode::Leading) {
@@ -79,6 +81,7 @@ impl Leader {
     pub(crate) fn chosen_in(&mut self, round: Round, slot: u64) -> Result<Why, NoMemory>
         ensures ok { IfOk result (λ why. Replies leader_rules self.old (chosen_in_row self.old.durable self.old.volatile round slot) why self.new []) }
         ensures no_memory { OnErr result (self.new ≡ self.old) }
+        ensures spared { OnErr result (takes_no_memory (chosen_in_row self.old.durable self.old.volatile round slot).why ≡ false) }
     {
         if !matches!(self.mode, Mode::Leading) || !is_same(round, round_of(&self.own)) {
             return Ok(Why::Old);

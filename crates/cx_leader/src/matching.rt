@@ -1,6 +1,6 @@
 //! A leader that asks the matchmakers which grids earlier rounds used (JSys 2021).
 
-ghost use Rattle.std.specs.Prelude.{◌≡◌, ◌++◌, ◌∷◌, [], Some, map, IsTrue, IfOk, OnErr};
+ghost use Rattle.std.specs.Prelude.{◌≡◌, ◌++◌, ◌∷◌, [], Some, map, IsTrue, IfOk, OnErr, false};
 ghost use Rattle.std.specs.List.{list_all};
 ghost use Rattle.cx_base.specs.declared.why.Why.TheVariants as reason;
 ghost use Rattle.cx_model.specs.declared.states.Mode.TheVariants as mode;
@@ -9,7 +9,7 @@ ghost use Rattle.cx_model.specs.Matched.{live_entries, members_of};
 ghost use Rattle.cx_model.specs.Names.{names_entry};
 ghost use Rattle.cx_model.specs.Outcome.{replied};
 ghost use Rattle.cx_field.specs.declared.parts.Entry.{Entry as EntryOf};
-ghost use Rattle.cx_role.specs.Role.{Replies};
+ghost use Rattle.cx_role.specs.Role.{Replies, takes_no_memory};
 ghost use Rattle.cx_leader.specs.State.{is_named};
 
 use crate::Leader;
@@ -36,6 +36,7 @@ impl Leader {
         requires empty { out.old.list ≡ [] }
         ensures ok { IfOk result (λ why. Replies leader_rules self.old (finish self.old.cluster self.old.me own.now (record self.old.volatile { told = self.old.volatile.told ++ answer ∷ [] })) why self.new out.new.list) }
         ensures no_memory { OnErr result (self.new ≡ self.old) }
+        ensures spared { OnErr result (takes_no_memory (finish self.old.cluster self.old.me own.now (record self.old.volatile { told = self.old.volatile.told ++ answer ∷ [] })).why ≡ false) }
         ensures sends { OnErr result (out.new.list ≡ []) }
     {
         self.told.reserve(1)?;
@@ -62,6 +63,7 @@ impl Leader {
         requires empty { out.old.list ≡ [] }
         ensures ok { IfOk result (λ why. Replies leader_rules self.old (replied reason.Phase1 (record self.old.volatile { told = self.old.volatile.told ++ answer ∷ []; mode = mode.Phase1 }) (map (phase1a_to self.old.me own.now.round) (members_of self.old.cluster live.now))) why self.new out.new.list) }
         ensures no_memory { OnErr result (self.new ≡ self.old) }
+        ensures spared { OnErr result (takes_no_memory (replied reason.Phase1 (record self.old.volatile { told = self.old.volatile.told ++ answer ∷ []; mode = mode.Phase1 }) (map (phase1a_to self.old.me own.now.round) (members_of self.old.cluster live.now))).why ≡ false) }
         ensures sends { OnErr result (out.new.list ≡ []) }
     {
         let phase1 = Phase1::new(self.alloc, live)?;
@@ -87,6 +89,7 @@ impl Leader {
         requires empty { out.old.list ≡ [] }
         ensures ok { IfOk result (λ why. Replies leader_rules self.old (matched_by self.old.cluster self.old.me own.now (record self.old.volatile { told = self.old.volatile.told ++ answer ∷ [] }) (live_entries (self.old.volatile.told ++ answer ∷ []))) why self.new out.new.list) }
         ensures no_memory { OnErr result (self.new ≡ self.old) }
+        ensures spared { OnErr result (takes_no_memory (matched_by self.old.cluster self.old.me own.now (record self.old.volatile { told = self.old.volatile.told ++ answer ∷ [] }) (live_entries (self.old.volatile.told ++ answer ∷ []))).why ≡ false) }
         ensures sends { OnErr result (out.new.list ≡ []) }
     {
         let live = live_entries(self.alloc, &self.told, &answer)?;
@@ -104,6 +107,7 @@ impl Leader {
         requires empty { out.old.list ≡ [] }
         ensures ok { IfOk result (λ why. Replies leader_rules self.old (match_counted self.old.cluster self.old.me self.old.durable.own (record self.old.volatile { told = self.old.volatile.told ++ answer ∷ [] })) why self.new out.new.list) }
         ensures no_memory { OnErr result (self.new ≡ self.old) }
+        ensures spared { OnErr result (takes_no_memory (match_counted self.old.cluster self.old.me self.old.durable.own (record self.old.volatile { told = self.old.volatile.told ++ answer ∷ [] })).why ≡ false) }
         ensures sends { OnErr result (out.new.list ≡ []) }
     {
         if self.told.len() == usize::from(self.cluster.f) {
@@ -126,6 +130,7 @@ impl Leader {
         requires named { IsTrue (list_all (λ (e : EntryOf). names_entry self.old.cluster e) entries.now) }
         ensures ok { IfOk result (λ why. Replies leader_rules self.old (match_b_row self.old.cluster self.old.me self.old.durable self.old.volatile from round watermark entries.now) why self.new out.new.list) }
         ensures no_memory { OnErr result (self.new ≡ self.old) }
+        ensures spared { OnErr result (takes_no_memory (match_b_row self.old.cluster self.old.me self.old.durable self.old.volatile from round watermark entries.now).why ≡ false) }
         ensures sends { OnErr result (out.new.list ≡ []) }
     {
         if !matches!(self.mode, Mode::Matching) || !is_same(round, round_of(&self.own)) {

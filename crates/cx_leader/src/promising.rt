@@ -1,11 +1,11 @@
 //! A leader that asks the acceptors of earlier grids to promise its round (VLDB 2021).
 
-ghost use Rattle.std.specs.Prelude.{◌≡◌, ◌&&◌, [], Some, IsTrue, IfOk, OnErr};
+ghost use Rattle.std.specs.Prelude.{◌≡◌, ◌&&◌, [], Some, IsTrue, IfOk, OnErr, false};
 ghost use Rattle.cx_model.specs.Leader.{is_promising, is_own, phase1b_row, leader_rules};
 ghost use Rattle.cx_model.specs.Matched.{live_entries};
 ghost use Rattle.cx_field.specs.Fields as field;
 ghost use Rattle.cx_phase1.specs.Counting.{told_by};
-ghost use Rattle.cx_role.specs.Role.{Replies};
+ghost use Rattle.cx_role.specs.Role.{Replies, takes_no_memory};
 ghost use Rattle.cx_leader.specs.Promising.{promised_row};
 
 use crate::Leader;
@@ -41,6 +41,7 @@ impl Leader {
         requires empty { out.old.list ≡ [] }
         ensures ok { IfOk result (λ why. Replies leader_rules self.old (promised_row self.old.cluster self.old.me own.now self.old.volatile (record { acceptor = acceptor; cw = cw; votes = votes.now }) (told_by (record { live = live_entries self.old.volatile.told; promises = self.old.volatile.promises }) (record { acceptor = acceptor; cw = cw; votes = votes.now }))) why self.new out.new.list) }
         ensures no_memory { OnErr result (self.new ≡ self.old) }
+        ensures spared { OnErr result (takes_no_memory (promised_row self.old.cluster self.old.me own.now self.old.volatile (record { acceptor = acceptor; cw = cw; votes = votes.now }) (told_by (record { live = live_entries self.old.volatile.told; promises = self.old.volatile.promises }) (record { acceptor = acceptor; cw = cw; votes = votes.now }))).why ≡ false) }
         ensures sends { OnErr result (out.new.list ≡ []) }
     {
         let Some(phase1) = &self.phase1 else {
@@ -75,6 +76,7 @@ impl Leader {
         requires empty { out.old.list ≡ [] }
         ensures ok { IfOk result (λ why. Replies leader_rules self.old (phase1b_row self.old.cluster self.old.me self.old.durable self.old.volatile from round cw votes.now) why self.new out.new.list) }
         ensures no_memory { OnErr result (self.new ≡ self.old) }
+        ensures spared { OnErr result (takes_no_memory (phase1b_row self.old.cluster self.old.me self.old.durable self.old.volatile from round cw votes.now).why ≡ false) }
         ensures sends { OnErr result (out.new.list ≡ []) }
     {
         if !self.asks(round) {

@@ -1,9 +1,9 @@
 //! How a leader retires the rounds below its own (JSys 2021): a column of its grid is told how many slots enough replicas hold
 //! (this project's own), then f + 1 matchmakers forget the earlier rounds.
 
-ghost use Rattle.std.specs.Prelude.{◌≡◌, ◌<◌, ◌&&◌, [], IfOk, OnErr};
+ghost use Rattle.std.specs.Prelude.{◌≡◌, ◌<◌, ◌&&◌, [], IfOk, OnErr, false};
 ghost use Rattle.cx_model.specs.Leader.{is_leading, is_own, collect_row, informed_row, garbage_b_row, leader_rules};
-ghost use Rattle.cx_role.specs.Role.{Replies};
+ghost use Rattle.cx_role.specs.Role.{Replies, takes_no_memory};
 
 use crate::Leader;
 use crate::rounds::{is_same, round_of};
@@ -27,6 +27,7 @@ impl Leader {
         requires empty { out.old.list ≡ [] }
         ensures ok { IfOk result (λ why. Replies leader_rules self.old (collect_row self.old.cluster self.old.me self.old.durable self.old.volatile) why self.new out.new.list) }
         ensures no_memory { OnErr result (self.new ≡ self.old) }
+        ensures spared { OnErr result (takes_no_memory (collect_row self.old.cluster self.old.me self.old.durable self.old.volatile).why ≡ false) }
         ensures sends { OnErr result (out.new.list ≡ []) }
     {
         if !matches!(self.mode, Mode::Leading) {
@@ -60,6 +61,7 @@ impl Leader {
         requires empty { out.old.list ≡ [] }
         ensures ok { IfOk result (λ why. Replies leader_rules self.old (informed_row self.old.cluster self.old.me self.old.durable self.old.volatile from round cw) why self.new out.new.list) }
         ensures no_memory { OnErr result (self.new ≡ self.old) }
+        ensures spared { OnErr result (takes_no_memory (informed_row self.old.cluster self.old.me self.old.durable self.old.volatile from round cw).why ≡ false) }
         ensures sends { OnErr result (out.new.list ≡ []) }
     {
         if !self.leads(round)

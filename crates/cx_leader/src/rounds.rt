@@ -1,13 +1,13 @@
 //! Which rounds follow one another, and the orders to begin one.
 
-ghost use Rattle.std.specs.Prelude.{◌≡◌, ◌==◌, ◌&&◌, ◌+◌, [], true, Some, IfOk, IsErrOf, IsTrue};
+ghost use Rattle.std.specs.Prelude.{◌≡◌, ◌==◌, ◌&&◌, ◌+◌, [], true, Some, IfOk, IsErrOf, IsTrue, false};
 ghost use Rattle.cx_base.specs.Round.{same_round};
 ghost use Rattle.cx_model.specs.Leader.{round_of, follows, begin_in, lead_row, change_row, leader_rules};
 ghost use Rattle.cx_model.specs.Names.{names_round, names_grid};
 ghost use Rattle.cx_model.specs.Rules.{IsFit};
 ghost use Rattle.cx_field.specs.Fields as field;
 ghost use Rattle.cx_role.specs.declared.role.StepFault.TheVariants as fault;
-ghost use Rattle.cx_role.specs.Role.{Steps, StaysAt, FailsAt};
+ghost use Rattle.cx_role.specs.Role.{Steps, StaysAt, FailsAt, takes_no_memory};
 
 use crate::Leader;
 use crate::sending::{ask_matchmakers, matchmakers};
@@ -77,6 +77,7 @@ impl Leader {
         requires own { round.id ≡ self.old.me.index }
         ensures ok { IfOk result (λ why. Steps K.append_gives leader_rules self.old (begin_in self.old.cluster self.old.me self.old.volatile grid.now (Some round)) why keeper.old keeper.new self.new out.new.list) }
         ensures no_memory { IsErrOf result StepFault.NoMemory → StaysAt K.append_gives self.old self.new keeper.old keeper.new out.new.list }
+        ensures spared { IsErrOf result StepFault.NoMemory → takes_no_memory (begin_in self.old.cluster self.old.me self.old.volatile grid.now (Some round)).why ≡ false }
         ensures told { K.tells keeper.new ≡ K.tells keeper.old }
         ensures failed { IsErrOf result StepFault.Failed → FailsAt K.append_gives (begin_in self.old.cluster self.old.me self.old.volatile grid.now (Some round)) keeper.old keeper.new self.new out.new.list }
     {
@@ -112,6 +113,7 @@ impl Leader {
         requires empty { out.old.list ≡ [] }
         ensures ok { IfOk result (λ why. Steps K.append_gives leader_rules self.old (lead_row self.old.cluster self.old.me self.old.durable self.old.volatile grid.now) why keeper.old keeper.new self.new out.new.list) }
         ensures no_memory { IsErrOf result StepFault.NoMemory → StaysAt K.append_gives self.old self.new keeper.old keeper.new out.new.list }
+        ensures spared { IsErrOf result StepFault.NoMemory → takes_no_memory (lead_row self.old.cluster self.old.me self.old.durable self.old.volatile grid.now).why ≡ false }
         ensures told { K.tells keeper.new ≡ K.tells keeper.old }
         ensures failed { IsErrOf result StepFault.Failed → FailsAt K.append_gives (lead_row self.old.cluster self.old.me self.old.durable self.old.volatile grid.now) keeper.old keeper.new self.new out.new.list }
         ensures fits { IsFit leader_rules self.old.cluster self.old.me self.old.durable (lead_row self.old.cluster self.old.me self.old.durable self.old.volatile grid.now).kept }
@@ -137,6 +139,7 @@ impl Leader {
         requires empty { out.old.list ≡ [] }
         ensures ok { IfOk result (λ why. Steps K.append_gives leader_rules self.old (change_row self.old.cluster self.old.me self.old.durable self.old.volatile grid.now) why keeper.old keeper.new self.new out.new.list) }
         ensures no_memory { IsErrOf result StepFault.NoMemory → StaysAt K.append_gives self.old self.new keeper.old keeper.new out.new.list }
+        ensures spared { IsErrOf result StepFault.NoMemory → takes_no_memory (change_row self.old.cluster self.old.me self.old.durable self.old.volatile grid.now).why ≡ false }
         ensures told { K.tells keeper.new ≡ K.tells keeper.old }
         ensures failed { IsErrOf result StepFault.Failed → FailsAt K.append_gives (change_row self.old.cluster self.old.me self.old.durable self.old.volatile grid.now) keeper.old keeper.new self.new out.new.list }
         ensures fits { IsFit leader_rules self.old.cluster self.old.me self.old.durable (change_row self.old.cluster self.old.me self.old.durable self.old.volatile grid.now).kept }

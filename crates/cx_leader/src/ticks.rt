@@ -1,10 +1,10 @@
 //! What a leader asks again while it waits.
 
-ghost use Rattle.std.specs.Prelude.{◌≡◌, ◌≤◌, ◌+◌, ◌*◌, ◌++◌, [], Some, IfOk, IsTrue, OnErr};
+ghost use Rattle.std.specs.Prelude.{◌≡◌, ◌≤◌, ◌+◌, ◌*◌, ◌++◌, [], Some, IfOk, IsTrue, OnErr, false};
 ghost use Rattle.cx_model.specs.declared.states.Mode.TheVariants as mode;
 ghost use Rattle.cx_model.specs.Leader.{stage_sends, tick_in, leader_rules};
 ghost use Rattle.cx_field.specs.Fields as field;
-ghost use Rattle.cx_role.specs.Role.{Replies};
+ghost use Rattle.cx_role.specs.Role.{Replies, takes_no_memory};
 
 use crate::Leader;
 use crate::sending::{
@@ -21,6 +21,7 @@ impl Leader {
         requires round { IsTrue (field.round.fits own.now.round) }
         requires empty { out.old.list ≡ [] }
         ensures ok { IfOk result (λ why. Replies leader_rules self.now (tick_in self.now.cluster self.now.me self.now.volatile mode.Matching (Some own.now)) why self.now out.new.list) }
+        ensures spared { OnErr result (takes_no_memory (tick_in self.now.cluster self.now.me self.now.volatile mode.Matching (Some own.now)).why ≡ false) }
         ensures err { OnErr result (out.new.list ≡ []) }
     {
         let count = matchmakers(&self.cluster);
@@ -35,6 +36,7 @@ impl Leader {
         requires round { IsTrue (field.round.fits own.now.round) }
         requires empty { out.old.list ≡ [] }
         ensures ok { IfOk result (λ why. Replies leader_rules self.now (tick_in self.now.cluster self.now.me self.now.volatile mode.Phase1 (Some own.now)) why self.now out.new.list) }
+        ensures spared { OnErr result (takes_no_memory (tick_in self.now.cluster self.now.me self.now.volatile mode.Phase1 (Some own.now)).why ≡ false) }
         ensures err { OnErr result (out.new.list ≡ []) }
     {
         let Some(phase1) = &self.phase1 else {
@@ -68,6 +70,7 @@ impl Leader {
         requires round { IsTrue (field.round.fits own.now.round) }
         requires empty { out.old.list ≡ [] }
         ensures ok { IfOk result (λ why. Replies leader_rules self.now (tick_in self.now.cluster self.now.me self.now.volatile mode.Leading (Some own.now)) why self.now out.new.list) }
+        ensures spared { OnErr result (takes_no_memory (tick_in self.now.cluster self.now.me self.now.volatile mode.Leading (Some own.now)).why ≡ false) }
         ensures err { OnErr result (out.new.list ≡ []) }
     {
         let batchers = self.cluster.batchers;

@@ -1,11 +1,11 @@
 //! The rows of a matchmaker.
 
-ghost use Rattle.std.specs.Prelude.{◌≡◌, [], true, IfOk, IsErrOf, IsTrue, OnErr};
+ghost use Rattle.std.specs.Prelude.{◌≡◌, [], true, IfOk, IsErrOf, IsTrue, OnErr, false};
 ghost use Rattle.cx_base.specs.declared.role.Kind.{Kind};
 ghost use Rattle.cx_base.specs.Role.{role};
 ghost use Rattle.cx_model.specs.Matchmaker.{garbage_a_row, matchmaker_rules, match_a_row, match_read_row};
 ghost use Rattle.cx_field.specs.Fields as field;
-ghost use Rattle.cx_role.specs.Role.{Replies, Steps, StaysAt, FailsAt};
+ghost use Rattle.cx_role.specs.Role.{Replies, Steps, StaysAt, FailsAt, takes_no_memory};
 
 use crate::Matchmaker;
 use crate::entries::{earlier, has_entry, has_later, last_round, retire, told};
@@ -33,6 +33,7 @@ impl Matchmaker {
         requires grid { IsTrue (field.grid.fits grid) }
         ensures ok { IfOk result (λ why. Steps K.append_gives matchmaker_rules self.old (match_a_row self.old.me self.old.durable from round grid) why keeper.old keeper.new self.new out.new.list) }
         ensures no_memory { IsErrOf result StepFault.NoMemory → StaysAt K.append_gives self.old self.new keeper.old keeper.new out.new.list }
+        ensures spared { IsErrOf result StepFault.NoMemory → takes_no_memory (match_a_row self.old.me self.old.durable from round grid).why ≡ false }
         ensures told { K.tells keeper.new ≡ K.tells keeper.old }
         ensures failed { IsErrOf result StepFault.Failed → FailsAt K.append_gives (match_a_row self.old.me self.old.durable from round grid) keeper.old keeper.new self.new out.new.list }
     {
@@ -85,6 +86,7 @@ impl Matchmaker {
         requires grid { IsTrue (field.grid.fits grid) }
         ensures ok { IfOk result (λ why. Steps K.append_gives matchmaker_rules self.old (garbage_a_row self.old.me self.old.durable from round grid) why keeper.old keeper.new self.new out.new.list) }
         ensures no_memory { IsErrOf result StepFault.NoMemory → StaysAt K.append_gives self.old self.new keeper.old keeper.new out.new.list }
+        ensures spared { IsErrOf result StepFault.NoMemory → takes_no_memory (garbage_a_row self.old.me self.old.durable from round grid).why ≡ false }
         ensures told { K.tells keeper.new ≡ K.tells keeper.old }
         ensures failed { IsErrOf result StepFault.Failed → FailsAt K.append_gives (garbage_a_row self.old.me self.old.durable from round grid) keeper.old keeper.new self.new out.new.list }
     {
@@ -113,6 +115,7 @@ impl Matchmaker {
         requires token { IsTrue (field.token.fits token) }
         ensures ok { IfOk result (λ why. Replies matchmaker_rules self.now (match_read_row self.now.me self.now.durable from token) why self.now out.new.list) }
         ensures no_memory { OnErr result (out.new.list ≡ []) }
+        ensures spared { OnErr result (takes_no_memory (match_read_row self.now.me self.now.durable from token).why ≡ false) }
     {
         let entries = told(self.alloc, &self.entries)?;
         out.room(1)?;

@@ -5,6 +5,7 @@ use Rattle.cx_base.specs.declared.event.Event.{Event}
 use Rattle.cx_model.specs.Chosen.{chosen_prefix}
 use Rattle.cx_model.specs.World.{run, log_of}
 use Rattle.cx_inv_vote.proofs.Agree.{agreement}
+use Rattle.cx_inv_announce.proofs.Steps.{all_is_told}
 use Rattle.cx_inv_list.proofs.Answers.{one_list}
 use Rattle.cx_inv_list.proofs.Right.{machine_is_the_fold}
 use Rattle.cx_promises.specs.Lawful.{IsLawful, IsCommandList}
@@ -32,6 +33,7 @@ lawful c es = record {
       rw e (safe_retirement.rounds_ask_later c then later h i retires k g (rw (← e) config) new from to (rw (← e) sent));
   reads_ask_later = λ then later h e i retires t unasked from to w sent.
       rw e (safe_retirement.reads_ask_later c then later h i retires t unasked from to w (rw (← e) sent));
+  announced = λ then later e h proxy i g s v asks keeps b rows cols votes. rw h (all_is_told.told c then later e proxy i g s v asks keeps b rows cols votes);
 }
 
 pub prefix_is_the_list : (c : Cluster) (es : List Event) → IsCommandList c (run c es).kept (chosen_prefix (run c es).kept)

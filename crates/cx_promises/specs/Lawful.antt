@@ -13,9 +13,10 @@ use Rattle.cx_base.specs.declared.role.RoleId.{RoleId}
 use Rattle.cx_base.specs.declared.round.Round.{Round}
 use Rattle.cx_base.specs.declared.why.Why.TheVariants as why
 use Rattle.cx_base.specs.Fold.{acts, fold, text_at}
-use Rattle.cx_base.specs.Grid.{Shape}
+use Rattle.cx_base.specs.Grid.{Shape, is_in}
 use Rattle.cx_base.specs.Role.{role}
 use Rattle.cx_field.specs.declared.parts.Token.{Token}
+use Rattle.cx_grid.specs.Quorum.{column_of}
 use Rattle.cx_msg.specs.Letter.{letter}
 use Rattle.cx_msg.specs.declared.input.KeptRecord.{KeptRecord}
 use Rattle.cx_msg.specs.declared.kept.Record.{Record}
@@ -24,9 +25,9 @@ use Rattle.cx_model.specs.Chosen.{is_chosen, chosen_prefix}
 use Rattle.cx_model.specs.CommandList.{Stands, IsRight}
 use Rattle.cx_model.specs.History.{was_asked}
 use Rattle.cx_model.specs.Member.{Member, Begins}
-use Rattle.cx_model.specs.Promises.{HasKept, IsConfig, IsMemberFrom, Retires, holders, watermark_in}
+use Rattle.cx_model.specs.Promises.{HasKept, IsConfig, IsMemberFrom, Retires, holders, watermark_in, Asks, KeepsAsking, DeliversOneOf}
 use Rattle.cx_model.specs.Replica.{machine_of}
-use Rattle.cx_model.specs.World.{run, log_of}
+use Rattle.cx_model.specs.World.{run, step, log_of}
 
 -- the events that were sent as this command's request
 abbrev pub WasSent : List Happened → Command → Type 0
@@ -78,6 +79,13 @@ pub record IsLawful (c : Cluster) (es : List Event) : Type 0 where
   pub reads_ask_later : (then later : List Event) (e : Event) → es ≡ then ++ e ∷ later → (i : Round) → Retires (run c then) e i
       → (t : Token) → was_asked t (run c (then ++ e ∷ [])).events ≡ false
       → (from to : RoleId) (w : Round) → Member (letter from to (msg.PreRead t w)) (run c es).sent → IsMemberFrom (run c es).kept i to
+  -- Announcement: when the votes of a whole column reached a proxy leader that still asks for them, every replica and the round's leader were told.
+  pub announced : (then later : List Event) (e : Event) → es ≡ then ++ e ∷ later → (proxy : RoleId) (i : Round) (g : Shape) (s : ℕ) (v : Value)
+      → Asks (run c then) e proxy i g s v → KeepsAsking (step (run c then) e) later proxy i s
+      → (b : ℕ) → 0 < g.rows → b < g.cols
+      → ((a : ℕ) → Member a (column_of g b) → (is_in a g.members ≡ true) × DeliversOneOf (step (run c then) e) later (letter (role kind.Acceptor a) proxy (msg.Phase2B i s)))
+      → ((p : ℕ) → p < c.replicas → Member (letter proxy (role kind.Replica p) (msg.Chosen s v)) (run c es).sent)
+      × Member (letter proxy (role kind.Leader i.id) (msg.ChosenIn i s)) (run c es).sent
 
 -- every run is so
 abbrev pub RunsAreLawful : Type 0

@@ -1,4 +1,4 @@
-//! What every run is promised: agreement, one command list, fresh reads, safe retirement.
+//! What every run is promised: agreement, one command list, fresh reads, safe retirement, announcement.
 //!
 //! Stands on the law crates; the world stands on it. Its theorem is `runs_are_lawful`: all promises, of the run of each list of
 //! events over each cluster. Of agreement and the command list the law functions are in cx_inv_vote and cx_inv_list.

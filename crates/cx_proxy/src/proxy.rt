@@ -1,6 +1,6 @@
 //! The proxy leader.
 
-ghost use Rattle.std.specs.Prelude.{◌≡◌, ◌<◌, ◌^◌, ◌≤◌, [], Some, max, IfOk, OnErr, IsTrue};
+ghost use Rattle.std.specs.Prelude.{◌≡◌, ◌<◌, ◌^◌, ◌≤◌, [], Some, max, IfOk, OnErr, IsTrue, false};
 ghost use Rattle.cx_base.specs.declared.role.Kind.TheVariants as kind;
 ghost use Rattle.cx_field.specs.Fields as field;
 ghost use Rattle.cx_field.specs.Fields.{in_window};
@@ -8,7 +8,7 @@ ghost use Rattle.cx_msg.specs.declared.input.Input.TheVariants as input;
 ghost use Rattle.cx_model.specs.declared.states.Pending.{Pending};
 ghost use Rattle.cx_model.specs.Rules.{Running, outcome_of};
 ghost use Rattle.cx_model.specs.Proxy.{ProxyVolatile, proxy_rules, propose_row, raised_to, pending_of, vote_for, pending_at};
-ghost use Rattle.cx_role.specs.Role.{Replies};
+ghost use Rattle.cx_role.specs.Role.{Replies, takes_no_memory};
 ghost use Rattle.cx_proxy.specs.Holds.{IsPending};
 
 use crate::pendings::{declined, drop_below, note, place_of, put, uncounted};
@@ -53,6 +53,7 @@ impl Proxy {
     fn taken(&mut self, datagram: &Datagram, out: &mut Outbox) -> Result<Why, NoMemory>
         requires { out.old.list ≡ [] }
         ensures ok { IfOk result (λ why. Replies proxy_rules self.old (outcome_of proxy_rules self.old (input.Take datagram.now)) why self.new out.new.list) }
+        ensures spared { OnErr result (takes_no_memory (outcome_of proxy_rules self.old (input.Take datagram.now)).why ≡ false) }
         ensures state { OnErr result (self.new ≡ self.old) }
     {
         if !is_for(&self.cluster, self.me, datagram) {
@@ -87,6 +88,7 @@ impl Proxy {
         requires parts { IsPending pending }
         requires empty { out.old.list ≡ [] }
         ensures ok { IfOk result (λ why. Replies proxy_rules self.old (propose_row self.old.cluster self.old.me (raised_to pending.cw self.old.volatile) pending) why self.new out.new.list) }
+        ensures spared { OnErr result (takes_no_memory (propose_row self.old.cluster self.old.me (raised_to pending.cw self.old.volatile) pending).why ≡ false) }
         ensures state { OnErr result (self.new ≡ self.old) }
     {
         let known = self.known.max(pending.cw);
@@ -114,6 +116,7 @@ impl Proxy {
         requires acceptor { acceptor < 64 }
         requires empty { out.old.list ≡ [] }
         ensures ok { IfOk result (λ why. Replies proxy_rules self.old (vote_for self.old.cluster self.old.me self.old.volatile acceptor round (pending_at slot self.old.volatile.pending)) why self.new out.new.list) }
+        ensures spared { OnErr result (takes_no_memory (vote_for self.old.cluster self.old.me self.old.volatile acceptor round (pending_at slot self.old.volatile.pending)).why ≡ false) }
         ensures state { OnErr result (self.new ≡ self.old) }
     {
         let Some(place) = place_of(&self.pending, slot) else {

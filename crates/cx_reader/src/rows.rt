@@ -1,13 +1,13 @@
 //! What a reader does with what it is asked and told. Memory is taken first, so that want of it leaves everything as it was.
 
-ghost use Rattle.std.specs.Prelude.{◌≡◌, ◌≤◌, ◌<◌, ◌+◌, ◌*◌, ◌++◌, [], map, IsTrue, IfOk, OnErr};
+ghost use Rattle.std.specs.Prelude.{◌≡◌, ◌≤◌, ◌<◌, ◌+◌, ◌*◌, ◌++◌, [], map, IsTrue, IfOk, OnErr, false};
 ghost use Rattle.cx_base.specs.Lists.{below};
 ghost use Rattle.cx_base.specs.Role.{role};
 ghost use Rattle.cx_base.specs.declared.role.Kind.{Kind as KindOf};
 ghost use Rattle.cx_model.specs.Matched.{live_entries};
 ghost use Rattle.cx_model.specs.Reader.{match_ack_counted, match_ack_row, match_read_to, pre_read_ack_row, pre_read_counted, read_matched, read_req_row, reader_rules, reading_of, send_read};
 ghost use Rattle.cx_field.specs.Fields as field;
-ghost use Rattle.cx_role.specs.Role.{Replies};
+ghost use Rattle.cx_role.specs.Role.{Replies, takes_no_memory};
 
 use crate::reader::Reader;
 use crate::reading::Reading;
@@ -43,6 +43,7 @@ impl Reader {
         requires empty { out.old.list ≡ [] }
         ensures ok { IfOk result (λ why. Replies reader_rules self.old (read_req_row self.old.cluster self.old.me self.old.volatile one) why self.new out.new.list) }
         ensures no_memory { OnErr result (self.new ≡ self.old) }
+        ensures spared { OnErr result (takes_no_memory (read_req_row self.old.cluster self.old.me self.old.volatile one).why ≡ false) }
         ensures sends { OnErr result (out.new.list ≡ []) }
     {
         let token = one.token();
@@ -71,6 +72,7 @@ impl Reader {
         requires empty { out.old.list ≡ [] }
         ensures ok { IfOk result (λ why. Replies reader_rules self.old (match_ack_row self.old.cluster self.old.me self.old.volatile from watermark entries.now (reading_of token self.old.volatile.reads)) why self.new out.new.list) }
         ensures no_memory { OnErr result (self.new ≡ self.old) }
+        ensures spared { OnErr result (takes_no_memory (match_ack_row self.old.cluster self.old.me self.old.volatile from watermark entries.now (reading_of token self.old.volatile.reads)).why ≡ false) }
         ensures sends { OnErr result (out.new.list ≡ []) }
     {
         let Some(one) = self.reads.get(token) else {
@@ -96,6 +98,7 @@ impl Reader {
         requires empty { out.old.list ≡ [] }
         ensures ok { IfOk result (λ why. Replies reader_rules self.old (match_ack_counted self.old.cluster self.old.me self.old.volatile one) why self.new out.new.list) }
         ensures no_memory { OnErr result (self.new ≡ self.old) }
+        ensures spared { OnErr result (takes_no_memory (match_ack_counted self.old.cluster self.old.me self.old.volatile one).why ≡ false) }
         ensures sends { OnErr result (out.new.list ≡ []) }
     {
         if !one.is_matched(&self.cluster) {
@@ -111,6 +114,7 @@ impl Reader {
         requires empty { out.old.list ≡ [] }
         ensures ok { IfOk result (λ why. Replies reader_rules self.old (read_matched self.old.cluster self.old.me self.old.volatile one (live_entries one.told)) why self.new out.new.list) }
         ensures no_memory { OnErr result (self.new ≡ self.old) }
+        ensures spared { OnErr result (takes_no_memory (read_matched self.old.cluster self.old.me self.old.volatile one (live_entries one.told)).why ≡ false) }
         ensures sends { OnErr result (out.new.list ≡ []) }
     {
         if !one.has_live() {
@@ -141,6 +145,7 @@ impl Reader {
         requires empty { out.old.list ≡ [] }
         ensures ok { IfOk result (λ why. Replies reader_rules self.old (pre_read_ack_row self.old.cluster self.old.me self.old.volatile from watermark mark (reading_of token self.old.volatile.reads)) why self.new out.new.list) }
         ensures no_memory { OnErr result (self.new ≡ self.old) }
+        ensures spared { OnErr result (takes_no_memory (pre_read_ack_row self.old.cluster self.old.me self.old.volatile from watermark mark (reading_of token self.old.volatile.reads)).why ≡ false) }
         ensures sends { OnErr result (out.new.list ≡ []) }
     {
         let Some(one) = self.reads.get(token) else {
@@ -168,6 +173,7 @@ impl Reader {
         requires empty { out.old.list ≡ [] }
         ensures ok { IfOk result (λ why. Replies reader_rules self.old (pre_read_counted self.old.me self.old.volatile one) why self.new out.new.list) }
         ensures no_memory { OnErr result (self.new ≡ self.old) }
+        ensures spared { OnErr result (takes_no_memory (pre_read_counted self.old.me self.old.volatile one).why ≡ false) }
         ensures sends { OnErr result (out.new.list ≡ []) }
     {
         if !one.rows_whole() {
@@ -184,6 +190,7 @@ impl Reader {
         requires empty { out.old.list ≡ [] }
         ensures ok { IfOk result (λ why. Replies reader_rules self.old (send_read self.old.me self.old.volatile one mark) why self.new out.new.list) }
         ensures no_memory { OnErr result (self.new ≡ self.old) }
+        ensures spared { OnErr result (takes_no_memory (send_read self.old.me self.old.volatile one mark).why ≡ false) }
         ensures sends { OnErr result (out.new.list ≡ []) }
     {
         out.room(1)?;

@@ -1,6 +1,6 @@
 //! The row of a chosen value.
 
-ghost use Rattle.std.specs.Prelude.{◌≡◌, ◌+◌, ◌++◌, ◌<◌, ◌≤◌, ◌^◌, [], length, true, IfOk, IsErrOf, OnErr, OnOk, IsTrue};
+ghost use Rattle.std.specs.Prelude.{◌≡◌, ◌+◌, ◌++◌, ◌<◌, ◌≤◌, ◌^◌, [], length, true, IfOk, IsErrOf, OnErr, OnOk, IsTrue, false};
 ghost use Rattle.std.specs.List.{list_all};
 ghost use Rattle.cx_base.specs.declared.command.Value.{Value};
 ghost use Rattle.cx_base.specs.Log.{ready_values};
@@ -9,7 +9,7 @@ ghost use Rattle.cx_model.specs.Rules.{IsFit};
 ghost use Rattle.cx_field.specs.Fields as field;
 ghost use Rattle.cx_replica.specs.Sound.{is_own};
 ghost use Rattle.cx_role.specs.declared.role.StepFault.TheVariants as fault;
-ghost use Rattle.cx_role.specs.Role.{Steps, StaysAt, FailsAt};
+ghost use Rattle.cx_role.specs.Role.{Steps, StaysAt, FailsAt, takes_no_memory};
 
 use crate::machine::Machine;
 use crate::reads::drop_answered;
@@ -36,6 +36,7 @@ impl Replica {
         requires value { IsTrue (is_own self.old.cluster value.now) }
         ensures ok { IfOk result (λ why. Steps K.append_gives replica_rules self.old (chosen_row self.old.cluster self.old.me self.old.durable self.old.volatile slot value.now) why keeper.old keeper.new self.new out.new.list) }
         ensures no_memory { IsErrOf result StepFault.NoMemory → StaysAt K.append_gives self.old self.new keeper.old keeper.new out.new.list }
+        ensures spared { IsErrOf result StepFault.NoMemory → takes_no_memory (chosen_row self.old.cluster self.old.me self.old.durable self.old.volatile slot value.now).why ≡ false }
         ensures told { K.tells keeper.new ≡ K.tells keeper.old }
         ensures failed { IsErrOf result StepFault.Failed → FailsAt K.append_gives (chosen_row self.old.cluster self.old.me self.old.durable self.old.volatile slot value.now) keeper.old keeper.new self.new out.new.list }
         ensures fits { IsFit replica_rules self.old.cluster self.old.me self.old.durable (chosen_row self.old.cluster self.old.me self.old.durable self.old.volatile slot value.now).kept }
@@ -61,6 +62,7 @@ impl Replica {
         requires value { IsTrue (is_own self.old.cluster value.now) }
         ensures ok { IfOk result (λ why. Steps K.append_gives replica_rules self.old (apply self.old.cluster self.old.me self.old.durable self.old.volatile (ready_values (length self.old.durable.log) self.old.volatile.early value.now)) why keeper.old keeper.new self.new out.new.list) }
         ensures no_memory { IsErrOf result StepFault.NoMemory → StaysAt K.append_gives self.old self.new keeper.old keeper.new out.new.list }
+        ensures spared { IsErrOf result StepFault.NoMemory → takes_no_memory (apply self.old.cluster self.old.me self.old.durable self.old.volatile (ready_values (length self.old.durable.log) self.old.volatile.early value.now)).why ≡ false }
         ensures told { K.tells keeper.new ≡ K.tells keeper.old }
         ensures failed { IsErrOf result StepFault.Failed → FailsAt K.append_gives (apply self.old.cluster self.old.me self.old.durable self.old.volatile (ready_values (length self.old.durable.log) self.old.volatile.early value.now)) keeper.old keeper.new self.new out.new.list }
     {

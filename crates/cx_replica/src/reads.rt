@@ -1,6 +1,6 @@
 //! The rows of reads, and of the value that another replica wants.
 
-ghost use Rattle.std.specs.Prelude.{◌≡◌, [], IfOk, OnErr, IsTrue};
+ghost use Rattle.std.specs.Prelude.{◌≡◌, [], IfOk, OnErr, IsTrue, false};
 ghost use Rattle.std.specs.List.{list_any};
 ghost use Rattle.cx_base.specs.Role.{role};
 ghost use Rattle.cx_base.specs.declared.role.Kind.{Kind};
@@ -8,7 +8,7 @@ ghost use Rattle.cx_model.specs.declared.states.Deferred.{Deferred as DeferredOf
 ghost use Rattle.cx_model.specs.Replica.{fetch_row, read_row, replica_rules, still_deferred};
 ghost use Rattle.cx_model.specs.Request.{same_read};
 ghost use Rattle.cx_field.specs.Fields as field;
-ghost use Rattle.cx_role.specs.Role.{Replies};
+ghost use Rattle.cx_role.specs.Role.{Replies, takes_no_memory};
 
 use crate::replica::Replica;
 use crate::sending::answer;
@@ -42,6 +42,7 @@ impl Replica {
         requires empty { out.old.list ≡ [] }
         ensures ok { IfOk result (λ why. Replies replica_rules self.old (read_row self.old.me self.old.durable self.old.volatile one) why self.new out.new.list) }
         ensures no_memory { OnErr result (self.new ≡ self.old) }
+        ensures spared { OnErr result (takes_no_memory (read_row self.old.me self.old.durable self.old.volatile one).why ≡ false) }
         ensures sends { OnErr result (out.new.list ≡ []) }
     {
         let held = self.log.held();
@@ -66,6 +67,7 @@ impl Replica {
         requires from { from ≡ role Kind.Replica from.index }
         requires empty { out.old.list ≡ [] }
         ensures ok { IfOk result (λ why. Replies replica_rules self.now (fetch_row self.now.me self.now.durable self.now.volatile from slot) why self.now out.new.list) }
+        ensures spared { OnErr result (takes_no_memory (fetch_row self.now.me self.now.durable self.now.volatile from slot).why ≡ false) }
         ensures sends { OnErr result (out.new.list ≡ []) }
     {
         if slot >= self.log.held() {
