@@ -13,10 +13,10 @@ use Rattle.cx_node.specs.declared.input.Heard.{Heard}
 use Rattle.cx_node.specs.declared.input.Heard.TheVariants.{Lines}
 use Rattle.cx_node.specs.declared.input.Refusal.{Refusal}
 use Rattle.cx_node.specs.declared.input.Refusal.TheVariants as refusal
-use Rattle.cx_node.specs.Hosting.{HasRun, HostAnswered, HostDid, refused_status}
-use Rattle.cx_node.specs.Input.{input_of, refused_of}
+use Rattle.cx_node.specs.Hosting.{HasRun, HostAnswered, HostDid}
+use Rattle.cx_node.specs.Input.{FailsRead, input_of, refused_of}
 use Rattle.cx_node.specs.Opening.{IsFirstBad}
-use Rattle.cx_node.specs.Serving.{AllRead, Answered, Completes, EndsWell, Outside, Says, TellsBad}
+use Rattle.cx_node.specs.Serving.{AllRead, Answered, AnswersPart, Completes, EndsWell, Outside, Says, TellsBad, refused_status}
 use Rattle.cx_node.proofs.FirstBad.{one_first}
 
 -- what was heard is what the input says, and it is refused for nothing
@@ -41,6 +41,7 @@ answered_so roles c events turns old new s says reads host = record {
   bad_store = λ role at e. let h = did (status.BadStore role at) e in (c, events, h.0.0, h.0.1, says, reads, h.0.2);
   bad_place = λ role at e t. let h = did (status.BadStore role at) e in (c, events, says, h.1 t);
   no_memory = λ e. let h = did status.NoMemory e in inr (c, events, h.0, h.1, says, reads, h.2);
+  heard = inl reads.1;
   written = host.written;
   linked = host.linked;
   stored = host.stored;
@@ -48,6 +49,12 @@ answered_so roles c events turns old new s says reads host = record {
   where
     did : (t : Status) → s ≡ t → HostDid roles c events turns old new t
     did t e = subst (HostDid roles c events turns old new) e host.did
+
+-- a failed read of an input that is refused
+pub heard_so : (roles : List RoleId) (left left_after : Option (List ℕ)) (reads reads_after : ℕ) (why : Refusal) (s : Status) → s ≡ refused_status why
+    → (reads_after ≡ reads) ⊎ FailsRead roles left left_after why → (reads_after ≡ reads) ⊎ AnswersPart roles left left_after s
+heard_so roles left left_after reads reads_after why s is (inl still) = inl still
+heard_so roles left left_after reads reads_after why s is (inr fails) = inr (why, is, fails)
 
 not_refused : (roles : List RoleId) (left : Option (List ℕ)) (why : Refusal) (all : List ℕ) → left ≡ Some all → refused_of roles (input_of all) ≡ None
     → IfSome left (λ all. refused_of roles (input_of all) ≡ Some why) → ⊥

@@ -1,5 +1,5 @@
 -- What bytes are refused for stays the refusal of all that come behind them, and more bytes than an input has are refused.
-use Rattle.std.proofs.Common.{◌≡◌, ◌≤◌, ◌<◌, ◌+◌, ◌++◌, ℕ, Bool, true, false, List, length, refl, sym, ap, ◌∙◌, subst, arith, if◌then◌else◌, Option, Some, None, Result, Ok, Err}
+use Rattle.std.proofs.Common.{◌≡◌, ◌⊎◌, inl, inr, ◌≤◌, ◌<◌, ◌+◌, ◌++◌, ℕ, Bool, true, false, List, length, refl, sym, ap, ◌∙◌, subst, arith, if◌then◌else◌, Option, Some, None, Result, Ok, Err}
 use Rattle.std.specs.Prelude.{IfSome, IfErr}
 use Rattle.std.specs.List.{list_all}
 use Rattle.std.specs.Io.KnownBytes.{Consumes}
@@ -15,7 +15,7 @@ use Rattle.cx_script.proofs.Feeds.{IsFree, AreFree}
 use Rattle.cx_script.proofs.GoesOn.{SpelledOn, overlong}
 use Rattle.cx_script.proofs.Inputs.{Cut, header_goes_on, input_length}
 use Rattle.cx_script.proofs.RequestsGoOn.{requests_length, requests_on}
-use Rattle.cx_node.specs.Input.{IsAnswer, IsRefusal, bad_line_of, behind, input_of, lines, of_header, refused_of, with_port}
+use Rattle.cx_node.specs.Input.{FailsRead, IsAnswer, IsRefusal, bad_line_of, behind, input_of, lines, of_header, refusal_of_part, refused_of, with_port}
 use Rattle.cx_node.specs.declared.input.Heard.{Heard}
 use Rattle.cx_node.specs.declared.input.Heard.TheVariants.{Nothing, BadHeader}
 use Rattle.cx_node.specs.declared.input.Refusal.{Refusal}
@@ -120,3 +120,16 @@ pub all_complete : (roles : List RoleId) (left left_after : Option (List ℕ)) (
     → (r ≡ Err refusal.ReadFault → ⊥) → IsAnswer false roles (lines bytes) r → IfSome left (λ all. IfErr r (IsRefusal (refused_of roles (input_of all))))
 all_complete roles left left_after bytes r consumed told answer =
     of_all left left_after bytes (λ all. IfErr r (IsRefusal (refused_of roles (input_of all)))) consumed (λ more. lines_complete roles bytes more r told answer)
+
+-- what is answered to bytes that were read before a read failed
+fails_read : (roles : List RoleId) (left left_after : Option (List ℕ)) (bytes : List ℕ) (r : Result (Cluster × Spelled) Refusal) → Consumes left left_after bytes
+    → IsAnswer false roles (lines bytes) r → IfErr r (FailsRead roles left left_after)
+fails_read roles left left_after bytes (Ok p) consumed answer = tt
+fails_read roles left left_after bytes (Err refusal.NoMemory) consumed answer = inl refl
+fails_read roles left left_after bytes (Err refusal.ReadFault) consumed answer = inr (bytes, consumed, sym (ap refusal_of_part answer.0))
+fails_read roles left left_after bytes (Err (refusal.BadInput line)) consumed answer = inr (bytes, consumed, sym (ap refusal_of_part answer))
+fails_read roles left left_after bytes (Err refusal.BadWords) consumed answer = inr (bytes, consumed, sym (ap refusal_of_part answer))
+
+pub read_failed : (roles : List RoleId) (left left_after : Option (List ℕ)) (reads reads_after : ℕ) (bytes : List ℕ) (r : Result (Cluster × Spelled) Refusal) → Consumes left left_after bytes
+    → IsAnswer false roles (lines bytes) r → (reads_after ≡ reads) ⊎ IfErr r (FailsRead roles left left_after)
+read_failed roles left left_after reads reads_after bytes r consumed answer = inr (fails_read roles left left_after bytes r consumed answer)

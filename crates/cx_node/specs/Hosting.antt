@@ -11,8 +11,6 @@ use Rattle.cx_journal.specs.State.{JournalState}
 use Rattle.cx_msg.specs.declared.kept.Record.{Record}
 use Rattle.cx_role.specs.Role.{Appending}
 use Rattle.cx_node.specs.declared.guest.Guest.{Guest}
-use Rattle.cx_node.specs.declared.input.Refusal.{Refusal}
-use Rattle.cx_node.specs.declared.input.Refusal.TheVariants as refusal
 use Rattle.cx_node.specs.declared.node.RunEnd.{RunEnd}
 use Rattle.cx_node.specs.declared.node.RunEnd.TheVariants as end
 use Rattle.cx_node.specs.declared.node.Stop.{Stop}
@@ -27,13 +25,6 @@ use Rattle.cx_node.specs.Opening.{IsBadAs, IsFirstBad}
 use Rattle.cx_node.specs.Serving.{Outside, Served, ServedPart, hosts}
 
 -- ---- what is answered
-
--- where an input is refused
-abbrev pub refused_status : Refusal → Status
-refused_status refusal.NoMemory = status.NoMemory
-refused_status refusal.ReadFault = status.ReadFault
-refused_status (refusal.BadInput line) = status.BadInput line
-refused_status refusal.BadWords = status.BadWords
 
 -- where not all roles could be opened
 abbrev pub unopened_status : OpenStop → Status

@@ -1,5 +1,6 @@
 -- What the input of a node says: its header's cluster, and the requests of the lines behind it.
-use Rattle.std.specs.Prelude.{◌≡◌, ℕ, Bool, true, false, List, Option, None, Some, Result, Ok, Err, if◌then◌else◌}
+use Rattle.std.specs.Prelude.{◌≡◌, ◌⊎◌, ℕ, Bool, true, false, List, Option, None, Some, Result, Ok, Err, if◌then◌else◌}
+use Rattle.std.specs.Io.KnownBytes.{Consumes}
 use Rattle.std.specs.List.{list_all}
 use Rattle.cx_base.specs.declared.cluster.Cluster.{Cluster}
 use Rattle.cx_base.specs.declared.role.RoleId.{RoleId}
@@ -70,3 +71,12 @@ IsAnswer ended roles heard (Err refusal.NoMemory) = Unit {0}
 IsAnswer ended roles heard (Err refusal.ReadFault) = (refused_of roles heard ≡ None) × (ended ≡ false)
 IsAnswer ended roles heard (Err (refusal.BadInput line)) = refused_of roles heard ≡ Some (refusal.BadInput line)
 IsAnswer ended roles heard (Err refusal.BadWords) = refused_of roles heard ≡ Some refusal.BadWords
+
+-- what bytes that a read failed behind are refused for, or else the failed read
+abbrev pub refusal_of_part : Option Refusal → Refusal
+refusal_of_part None = refusal.ReadFault
+refusal_of_part (Some why) = why
+
+-- Where a read failed, an input is refused for what the whole lines of the bytes that were read say, or for that; or memory was wanting.
+abbrev pub FailsRead : List RoleId → Option (List ℕ) → Option (List ℕ) → Refusal → Type 0
+FailsRead roles left left_after why = (why ≡ refusal.NoMemory) ⊎ ((bytes : List ℕ) × Consumes left left_after bytes × (why ≡ refusal_of_part (refused_of roles (lines bytes))))

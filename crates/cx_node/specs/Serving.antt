@@ -14,11 +14,12 @@ use Rattle.cx_journal.specs.State.{records_or_none, told_records}
 use Rattle.cx_model.specs.World.{records_of}
 use Rattle.cx_msg.specs.declared.kept.Record.{Record}
 use Rattle.cx_node.specs.declared.input.Heard.TheVariants.{Lines}
+use Rattle.cx_node.specs.declared.input.Refusal.{Refusal}
 use Rattle.cx_node.specs.declared.input.Refusal.TheVariants as refusal
 use Rattle.cx_node.specs.declared.node.RunEnd.{RunEnd}
 use Rattle.cx_node.specs.declared.node.RunEnd.TheVariants as end
 use Rattle.cx_node.specs.Hosted.{Hosted, Moved}
-use Rattle.cx_node.specs.Input.{input_of, refused_of}
+use Rattle.cx_node.specs.Input.{FailsRead, input_of, refused_of}
 use Rattle.cx_node.specs.Node.{IsEnd, Takes}
 use Rattle.cx_node.specs.Opening.{IsBadAs, IsFirstBad, is_durable, opened_as}
 use Rattle.cx_node.specs.Ports.{bind_of, sendings}
@@ -118,6 +119,17 @@ pub record IsUntouched (old new : Outside) : Type 0 where
   pub held : (me : RoleId) → new.held me ≡ old.held me
   pub stores : (me : RoleId) → new.stores me ≡ old.stores me
 
+-- the status of an input that is refused
+abbrev pub refused_status : Refusal → Status
+refused_status refusal.NoMemory = status.NoMemory
+refused_status refusal.ReadFault = status.ReadFault
+refused_status (refusal.BadInput line) = status.BadInput line
+refused_status refusal.BadWords = status.BadWords
+
+-- the status of an input of which a read failed
+abbrev pub AnswersPart : List RoleId → Option (List ℕ) → Option (List ℕ) → Status → Type 0
+AnswersPart roles left left_after s = (why : Refusal) × (s ≡ refused_status why) × FailsRead roles left left_after why
+
 -- What a node answered: what was done, and why.
 pub record Answered (roles : List RoleId) (turns : ℕ) (old new : Outside) (s : Status) : Type 0 where
   -- Done: all hosted clients have finished, or none is hosted and all turns were made; Turns: all were made, and a client hasn't finished.
@@ -135,7 +147,8 @@ pub record Answered (roles : List RoleId) (turns : ℕ) (old new : Outside) (s :
   pub bad_store : (role : RoleId) (at : ℕ) → s ≡ status.BadStore role at → EndsEarly roles old new
   pub bad_place : (role : RoleId) (at : ℕ) → s ≡ status.BadStore role at → old.tells ≡ true → (c : Cluster) × (events : List Event) × Says roles old.left c events × IsFirstBad roles c old.held role at
   pub no_memory : s ≡ status.NoMemory → IsUntouched old new ⊎ EndsEarly roles old new
-  -- A failed write or take, and a store that failed, is always told.
+  -- A failed read is always told, unless the whole lines before it are refused. A failed write or take, and a store that failed, is always told.
+  pub heard : (new.reads ≡ old.reads) ⊎ AnswersPart roles old.left new.left s
   pub written : (s ≡ status.WriteFault → ⊥) → new.writes ≡ old.writes
   pub linked : (s ≡ status.LinkFault → ⊥) → new.links ≡ old.links
   pub stored : (role : RoleId) → (s ≡ status.StoreFault role → ⊥) → new.stores role ≡ old.stores role

@@ -1,6 +1,6 @@
 //! What the input of a node says.
 
-ghost use Rattle.std.specs.Prelude.{◌≡◌, ◌≤◌, ℕ, Some, None, Err, IfOk, IfErr, IfSome, IsErrOf, IsTrue, false, is_some};
+ghost use Rattle.std.specs.Prelude.{◌≡◌, ◌⊎◌, ◌≤◌, ℕ, Some, None, Err, IfOk, IfErr, IfSome, IsErrOf, IsTrue, false, is_some};
 ghost use Rattle.std.specs.Io.KnownBytes.{IsAtEnd};
 ghost use Rattle.std.specs.List.{list_all};
 ghost use Rattle.cx_base.specs.declared.role.RoleId.{RoleId};
@@ -10,7 +10,7 @@ ghost use Rattle.cx_script.specs.Requests.{IsScript, script_of};
 ghost use Rattle.cx_cluster.specs.Reading.{header_cluster};
 ghost use Rattle.cx_node.specs.declared.input.Heard.TheVariants.{Lines, Nothing};
 ghost use Rattle.cx_node.specs.declared.input.Refusal.TheVariants as refusal;
-ghost use Rattle.cx_node.specs.Input.{IsAnswer, IsRefusal, bad_line_of, behind, heard_of, input_of, lines, refused_of, with_port};
+ghost use Rattle.cx_node.specs.Input.{FailsRead, IsAnswer, IsRefusal, bad_line_of, behind, heard_of, input_of, lines, refused_of, with_port};
 
 use cx_base::{Cluster, NoMemory, RoleId};
 use cx_cluster::{ClusterFault, read};
@@ -190,6 +190,8 @@ pub fn listen<S: Source>(
     ensures bad_input { (line : ℕ) → result ≡ Err (refusal.BadInput line) → IfSome (S.left source.old) (λ all. refused_of roles.now (input_of all) ≡ Some (refusal.BadInput line)) }
     ensures bad_words { result ≡ Err refusal.BadWords → IfSome (S.left source.old) (λ all. refused_of roles.now (input_of all) ≡ Some refusal.BadWords) }
     ensures read_fault { IsErrOf result Refusal.ReadFault → Rises (S.faults source.old) (S.faults source.new) }
+    // A failed read is always told, unless the whole lines before it are refused.
+    ensures read_failed { (S.faults source.new ≡ S.faults source.old) ⊎ IfErr result (FailsRead roles.now (S.left source.old) (S.left source.new)) }
     ensures later { S.faults source.old ≤ S.faults source.new }
 
     // Where no read failed, the answer is what the whole input says, or want of memory.

@@ -12,9 +12,9 @@ ghost use Rattle.cx_node.specs.declared.node.RunEnd.{RunEnd};
 ghost use Rattle.cx_node.specs.declared.node.Stop.{Stop};
 ghost use Rattle.cx_node.specs.Doing.{scene};
 ghost use Rattle.cx_node.specs.Guest.{AreReady};
-ghost use Rattle.cx_node.specs.Hosting.{GivesBack, HostAnswered, Ran, ended_status, refused_status, unopened_status};
+ghost use Rattle.cx_node.specs.Hosting.{GivesBack, HostAnswered, Ran, ended_status, unopened_status};
 ghost use Rattle.cx_node.specs.Opening.{lent_to};
-ghost use Rattle.cx_node.specs.Serving.{Answered, Completes, TellsBad, outside};
+ghost use Rattle.cx_node.specs.Serving.{Answered, Completes, TellsBad, outside, refused_status};
 
 use crate::Seat;
 use crate::binding::bind_all;

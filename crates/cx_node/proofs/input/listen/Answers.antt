@@ -2,7 +2,7 @@ use Rattle.std.proofs.Common.{false, subst}
 use Rattle.std.specs.Io.KnownBytes.{Consumes}
 use Rattle.cx_node.specs.Input.{IsAnswer, lines}
 use Rattle.cx_node.specs.declared.input.Refusal.TheVariants as refusal
-use Rattle.cx_node.proofs.Refuses.{all_complete, long_is_refused, refused_of_all}
+use Rattle.cx_node.proofs.Refuses.{all_complete, long_is_refused, read_failed, refused_of_all}
 use Rattle.cx_node.proofs.Taken.{answer_port, answer_scripts}
 use Rattle.cx_node.proofs.input.listen.Goals as goal
 
@@ -60,3 +60,10 @@ returns-in-Failed-clause-complete g c = λ still.
     let consumed : Consumes (g.S.Source.left c.args.source.now) (g.S.Source.left c.read_all.new.source) bytes = rw c.deref-in-Failed.ensures.value c.in-Failed.ensures.bytes in
     all_complete c.args.roles.now (g.S.Source.left c.args.source.now) (g.S.Source.left c.read_all.new.source) bytes c.answer_bytes-in-Failed.result consumed
     (λ is. still c.in-Failed.ensures.cause) c.answer_bytes-in-Failed.ensures
+
+pub returns-in-Failed-clause-read_failed : goal.returns-in-Failed-clause-read_failed
+returns-in-Failed-clause-read_failed g c =
+    let bytes = c.deref-in-Failed.result.now in
+    let consumed : Consumes (g.S.Source.left c.args.source.now) (g.S.Source.left c.read_all.new.source) bytes = rw c.deref-in-Failed.ensures.value c.in-Failed.ensures.bytes in
+    read_failed c.args.roles.now (g.S.Source.left c.args.source.now) (g.S.Source.left c.read_all.new.source) (g.S.Source.faults c.args.source.now) (g.S.Source.faults c.read_all.new.source)
+    bytes c.answer_bytes-in-Failed.result consumed c.answer_bytes-in-Failed.ensures
