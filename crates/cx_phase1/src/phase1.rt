@@ -77,13 +77,15 @@ impl Phase1 {
     }
 
     /// An acceptor promises, and tells what it voted from the slot `cw` on: votes of rising slots of the window of 32 slots
-    /// from there on. Want of memory leaves all as it was, and so do the answers `Same` and `Unasked`.
+    /// from there on. Want of memory leaves all as it was, and so do the answers `Same` and `Unasked`,
+    /// of which the latter takes none.
     pub fn answer(&mut self, acceptor: u16, cw: u64, votes: &Votes) -> Result<Told, NoMemory>
         requires cw { IsTrue (field.mark.fits cw) }
         requires votes { IsTrue ((field.votes cw).fits votes.now) }
         ensures told { IfOk result (λ told. told ≡ told_by self.old (record { acceptor = acceptor; cw = cw; votes = votes.now })) }
         ensures counted { OnOk result (self.new ≡ counted_by self.old (record { acceptor = acceptor; cw = cw; votes = votes.now })) }
         ensures no_memory { OnErr result (self.new ≡ self.old) }
+        ensures spared { OnErr result (is_member_of self.old.live acceptor ≡ true) }
     {
         if !is_member_of(&self.live, acceptor) {
             return Ok(Told::Unasked);

@@ -5,6 +5,7 @@ ghost use Rattle.std.specs.Option.{option_copied};
 ghost use Rattle.cx_base.specs.Log.{ready_values, still_early};
 ghost use Rattle.cx_rlog.specs.State.{IsReady, LogState};
 ghost use Rattle.cx_rlog.specs.Taken.{early_after, taken_at};
+ghost use Rattle.cx_rlog.specs.declared.taken.Taken.TheVariants.{Early};
 
 use crate::early;
 use crate::taken::Taken;
@@ -70,12 +71,13 @@ impl Log {
     }
 
     /// Takes note of a chosen value for a slot: one that is held already is past, one 32 or more above the slots held finds
-    /// no room, one above the next slot waits where none waits for its slot, and the next one changes nothing yet.
+    /// no room, one above the next slot waits where none waits for its slot, and the next one changes nothing yet. Only a value that waits takes memory.
     pub fn take(&mut self, alloc: Global, slot: u64, value: &Value) -> Result<Taken, NoMemory>
         requires { slot < 2 ^ 40 }
         ensures answer { IfOk result (λ taken. taken ≡ taken_at (length self.old.list) slot) }
         ensures early { IfOk result (λ taken. self.new ≡ record self.old { early = early_after taken slot value.now self.old.early }) }
         ensures err { OnErr result (self.new ≡ self.old) }
+        ensures spared { OnErr result (taken_at (length self.old.list) slot ≡ Early) }
     {
         let held = self.list.len() as u64;
         if slot < held {
