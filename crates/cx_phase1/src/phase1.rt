@@ -1,6 +1,6 @@
 //! Who has promised.
 
-ghost use Rattle.std.specs.Prelude.{◌≡◌, ◌≤◌, ◌^◌, [], IsTrue, IfOk, OnOk, OnErr};
+ghost use Rattle.std.specs.Prelude.{◌≡◌, ◌≤◌, ◌^◌, [], true, IsTrue, IfOk, OnOk, OnErr};
 ghost use Rattle.cx_field.specs.Fields as field;
 ghost use Rattle.cx_model.specs.Matched.{is_member_of, rows_whole};
 ghost use Rattle.cx_model.specs.Plan.{plan};

@@ -15,6 +15,7 @@ use Rattle.cx_model.specs.declared.states.Pending.{Pending}
 use Rattle.cx_model.specs.Outcome.{Outcome, answered, replied}
 use Rattle.cx_model.specs.Proxy.{ProxyVolatile, proxy_rules, pending_at, with_pending, raised_to, phase2a_to, column_for, ask, propose_over, propose_row, announcement, vote_counted, vote_for}
 use Rattle.cx_model.specs.Rules.{refused}
+use Rattle.cx_role.specs.Role.{takes_no_memory}
 use Rattle.cx_proxy.specs.Declined.{declined, declined_over, uncounted}
 use Rattle.cx_proxy.specs.Places.{IsPlace}
 
@@ -187,3 +188,24 @@ vote_chooses c me v acceptor i s place p is here h whole =
     at_place c me v acceptor i s place p is here
     ∙ goes_on c me v acceptor i p h
     ∙ rw whole (ap (λ (ps : List Pending). replied {V = ProxyVolatile} why.Chosen (record v { pending = ps }) (announcement c me p)) (is.put one (is.slot p here)))
+
+-- ---- rows that take memory
+
+pub asks_spare : (c : Cluster) (me : RoleId) (v : ProxyVolatile) (cw : ℕ) (p : Pending) → declined (max v.known cw) p v.pending ≡ None
+    → takes_no_memory (propose_row c me (raised_to cw v) p).why ≡ false
+asks_spare c me v cw p h = ap (λ (o : Outcome ProxyVolatile). takes_no_memory o.why) (asks c me v cw p h)
+
+counted_spare : (c : Cluster) (me : RoleId) (v : ProxyVolatile) (p : Pending) → takes_no_memory (vote_counted c me v p).why ≡ false
+counted_spare c me v p = whole (column_whole p.grid p.marks)
+  where
+    whole : (b : Bool) → takes_no_memory (if b then replied why.Chosen (record v { pending = with_pending (record p { done = true }) v.pending }) (announcement c me p)
+        else answered why.Counted (record v { pending = with_pending p v.pending })).why ≡ false
+    whole true = refl
+    whole false = refl
+
+-- a vote that counts
+pub vote_spare : (c : Cluster) (me : RoleId) (v : ProxyVolatile) (acceptor : ℕ) (i : Round) (s place : ℕ) (p : Pending) → IsPlace s v.pending place → slice_get v.pending place ≡ Some p
+    → uncounted acceptor i p ≡ None → takes_no_memory (vote_for c me v acceptor i (pending_at s v.pending)).why ≡ false
+vote_spare c me v acceptor i s place p is here h =
+    ap (λ (o : Outcome ProxyVolatile). takes_no_memory o.why) (at_place c me v acceptor i s place p is here ∙ goes_on c me v acceptor i p h)
+    ∙ counted_spare c me v (record p { marks = with_mark acceptor p.marks })

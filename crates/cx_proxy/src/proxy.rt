@@ -13,7 +13,7 @@ ghost use Rattle.cx_proxy.specs.Holds.{IsPending};
 
 use crate::pendings::{declined, drop_below, note, place_of, put, uncounted};
 use crate::sends::{again_all, announce, ask_column};
-use cx_base::{Cluster, Duplicate, NoMemory, Order, RoleId, Round, Why};
+use cx_base::{Cluster, Duplicate, NoMemory, Order, RoleId, Round, Value, Why};
 use cx_grid::{Marks, column_whole};
 use cx_keeper::Keeper;
 use cx_model::Pending;
@@ -72,23 +72,29 @@ impl Proxy {
                     round: *round,
                     grid: *grid,
                     cw: *cw,
-                    value: value.copy(self.alloc)?,
+                    value: Value::Noop,
                     marks: Marks::new(),
                     done: false,
                 };
-                self.propose(pending, out)
+                self.propose(pending, value, out)
             }
             Msg::Phase2B { round, slot } => self.vote(datagram.from().index, *round, *slot, out),
             _ => Ok(Why::Stranger),
         }
     }
 
-    // A leader hands over a value for a slot.
-    fn propose(&mut self, pending: Pending, out: &mut Outbox) -> Result<Why, NoMemory>
-        requires parts { IsPending pending }
+    // A leader hands over a value for a slot. It comes beside the other parts, since it is copied only where it will be asked for:
+    // one that is past or old takes no memory.
+    fn propose(
+        &mut self,
+        pending: Pending,
+        value: &Value,
+        out: &mut Outbox,
+    ) -> Result<Why, NoMemory>
+        requires parts { IsPending (record pending { value = value.now }) }
         requires empty { out.old.list ≡ [] }
-        ensures ok { IfOk result (λ why. Replies proxy_rules self.old (propose_row self.old.cluster self.old.me (raised_to pending.cw self.old.volatile) pending) why self.new out.new.list) }
-        ensures spared { OnErr result (takes_no_memory (propose_row self.old.cluster self.old.me (raised_to pending.cw self.old.volatile) pending).why ≡ false) }
+        ensures ok { IfOk result (λ why. Replies proxy_rules self.old (propose_row self.old.cluster self.old.me (raised_to pending.cw self.old.volatile) (record pending { value = value.now })) why self.new out.new.list) }
+        ensures spared { OnErr result (takes_no_memory (propose_row self.old.cluster self.old.me (raised_to pending.cw self.old.volatile) (record pending { value = value.now })).why ≡ false) }
         ensures state { OnErr result (self.new ≡ self.old) }
     {
         let known = self.known.max(pending.cw);
@@ -97,9 +103,11 @@ impl Proxy {
             drop_below(&mut self.pending, known);
             return Ok(why);
         }
+        let mut asked = pending;
+        asked.value = value.copy(self.alloc)?;
         self.pending.reserve(1)?;
-        ask_column(self.alloc, &self.cluster, self.me, &pending, out)?;
-        put(&mut self.pending, pending);
+        ask_column(self.alloc, &self.cluster, self.me, &asked, out)?;
+        put(&mut self.pending, asked);
         self.known = known;
         drop_below(&mut self.pending, known);
         Ok(Why::Asking)

@@ -8,13 +8,13 @@ use Rattle.cx_msg.specs.Letter.{Letter}
 use Rattle.cx_model.specs.declared.states.Pending.{Pending}
 use Rattle.cx_model.specs.Proxy.{ProxyVolatile, proxy_rules, vote_for, pending_at, announcement}
 use Rattle.cx_model.specs.Rules.{Running}
-use Rattle.cx_role.specs.Role.{Replies}
+use Rattle.cx_role.specs.Role.{Replies, takes_no_memory}
 use Rattle.cx_proxy.specs.Declined.{uncounted}
 use Rattle.cx_proxy.specs.Holds.{Holds}
 use Rattle.cx_proxy.specs.Places.{IsPlace}
 use Rattle.cx_proxy.proofs.Holding.{holds_noted}
-use Rattle.cx_proxy.proofs.Replying.{replies}
-use Rattle.cx_proxy.proofs.Rows.{vote_stops, vote_counts, vote_chooses}
+use Rattle.cx_proxy.proofs.Replying.{at_error, replies}
+use Rattle.cx_proxy.proofs.Rows.{vote_stops, vote_counts, vote_chooses, vote_spare}
 use Rattle.cx_proxy.proofs.proxy.Proxy.vote.Goals as goal
 
 pub returns-in-Some-uncounted-clause-ok : goal.returns-in-Some-uncounted-clause-ok
@@ -97,3 +97,27 @@ returns-clause-ok c =
     c.self.view_is (subst (λ (l : List Pending).
     Replies proxy_rules s (vote_for s.cluster s.me s.volatile c.args.acceptor c.args.round (pending_at c.args.slot s.volatile.pending)) why.Chosen (next l) c.announce.new.out.list)
     (sym noted) step)
+
+pub returns-in_err-marks-clause-spared : goal.returns-in_err-marks-clause-spared
+returns-in_err-marks-clause-spared c =
+    let i = c.self.inside in
+    let ps : List Pending = i.pending.items in
+    let p : Pending = c.index-pending.result.now in
+    let v : ProxyVolatile = record { known = i.known; pending = ps } in
+    let is : IsPlace c.args.slot ps c.in-Some.place = subst (λ (l : List Pending). IsPlace c.args.slot l c.in-Some.place) c.deref.ensures.value c.in-Some.ensures.some in
+    let here : slice_get ps c.in-Some.place ≡ Some p = slice_get_read ps (length ps) c.in-Some.place p refl is.within c.index-pending.ensures in
+    let counts : uncounted c.args.acceptor c.args.round p ≡ None = sym c.in_default-uncounted.ensures in
+    at_error c.from_residual.result (subst (λ (s : Running (Unit {0}) ProxyVolatile). takes_no_memory (vote_for s.cluster s.me s.volatile c.args.acceptor c.args.round (pending_at c.args.slot s.volatile.pending)).why ≡ false)
+    c.self.view_is (vote_spare i.cluster i.me v c.args.acceptor c.args.round c.args.slot c.in-Some.place p is here counts))
+
+pub returns-in_err-announce-clause-spared : goal.returns-in_err-announce-clause-spared
+returns-in_err-announce-clause-spared c =
+    let i = c.self.inside in
+    let ps : List Pending = i.pending.items in
+    let p : Pending = c.index-pending.result.now in
+    let v : ProxyVolatile = record { known = i.known; pending = ps } in
+    let is : IsPlace c.args.slot ps c.in-Some.place = subst (λ (l : List Pending). IsPlace c.args.slot l c.in-Some.place) c.deref.ensures.value c.in-Some.ensures.some in
+    let here : slice_get ps c.in-Some.place ≡ Some p = slice_get_read ps (length ps) c.in-Some.place p refl is.within c.index-pending.ensures in
+    let counts : uncounted c.args.acceptor c.args.round p ≡ None = sym c.in_default-uncounted.ensures in
+    at_error c.from_residual-in_err-announce.result (subst (λ (s : Running (Unit {0}) ProxyVolatile). takes_no_memory (vote_for s.cluster s.me s.volatile c.args.acceptor c.args.round (pending_at c.args.slot s.volatile.pending)).why ≡ false)
+    c.self.view_is (vote_spare i.cluster i.me v c.args.acceptor c.args.round c.args.slot c.in-Some.place p is here counts))
