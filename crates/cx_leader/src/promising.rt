@@ -47,6 +47,9 @@ impl Leader {
         let Some(phase1) = &self.phase1 else {
             return Ok(Why::Unasked);
         };
+        if !phase1.asks(acceptor) {
+            return Ok(Why::Unasked);
+        }
         let mut phase1 = phase1.copy(self.alloc)?;
         match phase1.answer(acceptor, cw, votes)? {
             Told::Unasked => Ok(Why::Unasked),
