@@ -1,7 +1,8 @@
 -- What a node answered, from what hosting answered over an input that was accepted.
-use Rattle.std.proofs.Common.{◌≡◌, ◌⊎◌, ℕ, true, List, Option, None, Some, refl, sym, ap, ◌∙◌, subst, inl, inr}
+use Rattle.std.proofs.Common.{◌≡◌, ◌⊎◌, ℕ, Bool, true, false, List, Option, None, Some, Result, Err, refl, sym, ap, ◌∙◌, subst, inl, inr}
 use Rattle.std.specs.Prelude.{IfSome}
 use Rattle.std.specs.List.{list_all}
+use Rattle.cx_base.specs.Faults.{Rises}
 use Rattle.cx_base.specs.declared.cluster.Cluster.{Cluster}
 use Rattle.cx_base.specs.declared.event.Event.{Event}
 use Rattle.cx_base.specs.declared.role.RoleId.{RoleId}
@@ -16,7 +17,7 @@ use Rattle.cx_node.specs.declared.input.Refusal.TheVariants as refusal
 use Rattle.cx_node.specs.Hosting.{HasRun, HostAnswered, HostDid}
 use Rattle.cx_node.specs.Input.{FailsRead, input_of, refused_of}
 use Rattle.cx_node.specs.Opening.{IsFirstBad}
-use Rattle.cx_node.specs.Serving.{AllRead, Answered, AnswersPart, Completes, EndsWell, Outside, Says, TellsBad, refused_status}
+use Rattle.cx_node.specs.Serving.{AllRead, Answered, AnswersPart, Completes, EndsWell, IsUntouched, Outside, Says, TellsBad, refused_status}
 use Rattle.cx_node.proofs.FirstBad.{one_first}
 
 -- what was heard is what the input says, and it is refused for nothing
@@ -55,6 +56,70 @@ pub heard_so : (roles : List RoleId) (left left_after : Option (List ℕ)) (read
     → (reads_after ≡ reads) ⊎ FailsRead roles left left_after why → (reads_after ≡ reads) ⊎ AnswersPart roles left left_after s
 heard_so roles left left_after reads reads_after why s is (inl still) = inl still
 heard_so roles left left_after reads reads_after why s is (inr fails) = inr (why, is, fails)
+
+pub err_is : {A : Type 0} {why other : Refusal} → why ≡ other → ◌≡◌ {A = Result A Refusal} (Err why) (Err other)
+err_is e = ap Err e
+
+-- what is answered where the input is refused, and nothing else was used
+pub refused_so : (roles : List RoleId) (turns : ℕ) (old new : Outside) (why : Refusal) (s : Status) → s ≡ refused_status why → IsUntouched old new
+    → (why ≡ refusal.BadWords → IfSome old.left (λ all. refused_of roles (input_of all) ≡ Some refusal.BadWords))
+    → ((line : ℕ) → why ≡ refusal.BadInput line → IfSome old.left (λ all. refused_of roles (input_of all) ≡ Some (refusal.BadInput line)))
+    → (why ≡ refusal.ReadFault → Rises old.reads new.reads) → (new.reads ≡ old.reads) ⊎ FailsRead roles old.left new.left why → Answered roles turns old new s
+refused_so roles turns old new why s is untouched words line fault fails = record {
+  done = λ e. absurd (untrue (ran e));
+  turns_ended = λ e. absurd (untrue (ran e));
+  bad_words = λ e. (words (of_words why (sym is ∙ e)), untouched);
+  bad_input = λ n e. (line n (of_line why n (sym is ∙ e)), untouched);
+  read_fault = λ e. (fault (of_fault why (sym is ∙ e)), untouched);
+  link_fault = λ e. absurd (untrue (ran e));
+  write_fault = λ e. absurd (untrue (ran e));
+  store_fault = λ role e. absurd (untrue (ran e));
+  bad_store = λ role at e. absurd (untrue (ran e));
+  bad_place = λ role at e. absurd (untrue (ran e));
+  no_memory = λ e. inl untouched;
+  heard = heard_so roles old.left new.left old.reads new.reads why s is fails;
+  written = λ _. untouched.writes;
+  linked = λ _. untouched.links;
+  stored = λ role _. untouched.stores role;
+}
+  where
+    -- whether a status is that of an input that is refused
+    before_run : Status → Bool
+    before_run status.NoMemory = true
+    before_run status.ReadFault = true
+    before_run (status.BadInput line) = true
+    before_run status.BadWords = true
+    before_run t = false
+
+    is_before : (why : Refusal) → before_run (refused_status why) ≡ true
+    is_before refusal.NoMemory = refl
+    is_before refusal.ReadFault = refl
+    is_before (refusal.BadInput line) = refl
+    is_before refusal.BadWords = refl
+
+    untrue : false ≡ true → ⊥
+    untrue e = cc
+
+    ran : {t : Status} → s ≡ t → before_run t ≡ true
+    ran e = ap before_run (sym e ∙ is) ∙ is_before why
+
+    of_words : (why : Refusal) → refused_status why ≡ status.BadWords → why ≡ refusal.BadWords
+    of_words refusal.NoMemory e = cc
+    of_words refusal.ReadFault e = cc
+    of_words (refusal.BadInput line) e = cc
+    of_words refusal.BadWords e = refl
+
+    of_line : (why : Refusal) (n : ℕ) → refused_status why ≡ status.BadInput n → why ≡ refusal.BadInput n
+    of_line refusal.NoMemory n e = cc
+    of_line refusal.ReadFault n e = cc
+    of_line (refusal.BadInput line) n e = let same : line ≡ n = cc in ap refusal.BadInput same
+    of_line refusal.BadWords n e = cc
+
+    of_fault : (why : Refusal) → refused_status why ≡ status.ReadFault → why ≡ refusal.ReadFault
+    of_fault refusal.NoMemory e = cc
+    of_fault refusal.ReadFault e = refl
+    of_fault (refusal.BadInput line) e = cc
+    of_fault refusal.BadWords e = cc
 
 not_refused : (roles : List RoleId) (left : Option (List ℕ)) (why : Refusal) (all : List ℕ) → left ≡ Some all → refused_of roles (input_of all) ≡ None
     → IfSome left (λ all. refused_of roles (input_of all) ≡ Some why) → ⊥

@@ -4,7 +4,7 @@ use Rattle.std.specs.Prelude.{slice_index}
 use Rattle.std.proofs.lemmas.Bool.{cases_Bool}
 use Rattle.cx_base.specs.declared.role.Kind.{Kind}
 use Rattle.cx_msg.specs.declared.kept.Record.{Record}
-use Rattle.cx_journal.specs.Payload.{may_keep, payload_read}
+use Rattle.cx_journal.specs.Payload.{may_keep, part_break, payload_read}
 use Rattle.cx_journal.specs.Image.{Image, image, image_at, framed, sized, with_first, with_record}
 use Rattle.cx_journal.specs.State.{records_or_none, told_records}
 use Rattle.cx_journal.proofs.Payloads.{read_so, refused}
@@ -34,10 +34,13 @@ payload_also k payload r read = elim (cases_Bool (may_keep (Some k) (slice_index
     none : ◌≡◌ {A = Result Record ℕ} (Err 0) (Ok r) → payload_read None payload ≡ Ok r
     none e = cc
 
+broken_also : (p q : ℕ) → IsAlso (Err p) (Err q)
+broken_also p q rs e = cc
+
 sized_also : (k : Kind) (at : ℕ) (bytes : List ℕ) (n : ℕ) (f g : ℕ → List ℕ → Image) → ((a : ℕ) (b : List ℕ) → IsAlso (f a b) (g a b)) → IsAlso (sized (Some k) at bytes n f) (sized None at bytes n g)
 sized_also k at bytes n f g also =
     if_also (n == 0 || nat_lt 32768 n) _ _ _ _ (λ rs e. e)
-    (if_also (nat_lt (length bytes) (4 + n)) _ _ _ _ (λ rs e. e)
+    (if_also (nat_lt (length bytes) (4 + n)) _ _ _ _ (broken_also (at + 4 + part_break (Some k) n (drop 4 bytes)) (at + 4 + part_break None n (drop 4 bytes)))
     (first_also (at + 4) (payload_read (Some k) (take n (drop 4 bytes))) (payload_read None (take n (drop 4 bytes))) (f (at + (4 + n)) (drop (4 + n) bytes)) (g (at + (4 + n)) (drop (4 + n) bytes))
     (payload_also k (take n (drop 4 bytes))) (also (at + (4 + n)) (drop (4 + n) bytes))))
 

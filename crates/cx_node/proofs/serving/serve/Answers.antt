@@ -1,6 +1,6 @@
-use Rattle.std.proofs.Common.{rules, sym, subst}
+use Rattle.std.proofs.Common.{refl, sym, subst}
 use Rattle.cx_node.specs.Serving.{Says, outside}
-use Rattle.cx_node.proofs.Answering.{answered_so, completes_so, heard_so, refused_tells_bad, says_heard, tells_bad_so}
+use Rattle.cx_node.proofs.Answering.{answered_so, completes_so, err_is, refused_so, refused_tells_bad, says_heard, tells_bad_so}
 use Rattle.cx_node.proofs.serving.serve.Goals as goal
 
 pub returns-in-Ok-clause-answered : goal.returns-in-Ok-clause-answered
@@ -29,9 +29,10 @@ returns-in-Ok-clause-tells_bad g c =
 
 pub returns-in-Err-clause-answered : goal.returns-in-Err-clause-answered
 returns-in-Err-clause-answered g c =
-    let heard = heard_so c.args.roles.now (g.S.Source.left c.args.input.now) (g.S.Source.left c.listen.new.source) (g.S.Source.faults c.args.input.now) (g.S.Source.faults c.listen.new.source)
-    c.in-Err.refusal c.refused.result c.refused.ensures c.in-Err.ensures.read_failed in
-    search (rules, heard)
+    let heard = c.in-Err.ensures in
+    refused_so c.args.roles.now c.args.turns _ _ c.in-Err.refusal c.refused.result c.refused.ensures
+    (record { link = refl; links = refl; out = refl; writes = refl; held = λ me. refl; stores = λ me. refl })
+    (λ e. heard.bad_words (err_is e)) (λ line e. heard.bad_input line (err_is e)) (λ e. heard.read_fault (err_is e)) heard.read_failed
 
 pub returns-in-Err-clause-complete : goal.returns-in-Err-clause-complete
 returns-in-Err-clause-complete g c = completes_so _ _ _ _ _ (returns-in-Err-clause-answered g c)
