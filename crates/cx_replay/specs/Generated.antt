@@ -11,7 +11,7 @@ use Rattle.cx_model.specs.Chosen.{chosen_prefix}
 use Rattle.cx_model.specs.World.{World, run}
 use Rattle.cx_script.specs.Generator.{State, gen_cluster, next_event, next_state}
 use Rattle.cx_trace.specs.Summary.{replicas_text}
-use Rattle.cx_world.specs.Counts.{answers_in, read_answers_in}
+use Rattle.cx_history.specs.Answers.{answers_in, read_answers_in}
 use Rattle.cx_world.specs.Folded.{folded_of}
 
 -- the generator of a seed after so many events

@@ -21,7 +21,7 @@ fn run_events(alloc: Global, seed: u64, count: u64) -> Result<World, NoMemory>
     let mut world = World::new(alloc, gen_cluster())?;
     let mut generator = Gen::new(seed);
     for made in 0..count {
-        let sent = world.sent_since(0).len() as u64;
+        let sent = world.counts().datagrams;
         let event = generator.next(sent);
         world.step(&event)?;
     }

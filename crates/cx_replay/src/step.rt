@@ -27,7 +27,8 @@ pub fn step_into(
 {
     let effect = world.step(event)?;
     event_into(event, &effect, text)?;
-    datagrams_into(alloc, effect.first, world.sent_since(effect.first), text)
+    let sent = world.sent_since(effect.first)?;
+    datagrams_into(alloc, effect.first, &sent, text)
 }
 
 /// What each replica's kept values leave, the replicas in order.

@@ -84,14 +84,4 @@ impl Outbox {
         self.list.clear();
         self.spare = 0;
     }
-
-    /// Moves what was sent to the end of a list, or leaves that list as it was.
-    pub fn move_to(&mut self, sent: &mut Vec<Datagram>) -> Result<(), NoMemory>
-        ensures ok { OnOk result (sent.new.items ≡ sent.old.items ++ self.old.list) }
-        ensures empty { OnOk result (self.new.list ≡ []) }
-        ensures err { OnErr result (sent.new.items ≡ sent.old.items) }
-    {
-        sent.append(&mut self.list)?;
-        Ok(())
-    }
 }

@@ -1,5 +1,5 @@
 -- The world as contracts see it: the model's world, and whether a step was cut off.
-use Rattle.std.specs.Prelude.{◌≡◌, Bool, List, [], ◌++◌, Option, length, take, option_to_list}
+use Rattle.std.specs.Prelude.{◌≡◌, Bool, List, [], ◌++◌, Option, length, option_to_list}
 use Rattle.cx_base.specs.declared.cluster.Cluster.{Cluster}
 use Rattle.cx_base.specs.declared.event.Event.{Event}
 use Rattle.cx_base.specs.declared.event.Happened.{Happened}
@@ -14,6 +14,7 @@ use Rattle.cx_model.specs.Proxy.{ProxyVolatile}
 use Rattle.cx_model.specs.Reader.{ReaderVolatile}
 use Rattle.cx_model.specs.Replica.{ReplicaDurable, ReplicaVolatile}
 use Rattle.cx_model.specs.Rules.{Running}
+use Rattle.cx_history.specs.Begins.{IsPrefix}
 use Rattle.cx_model.specs.World.{World, Roles, Change, change, step, run, event_list}
 use Rattle.cx_msg.specs.Letter.{Letter}
 use Rattle.cx_msg.specs.declared.input.KeptRecord.{KeptRecord}
@@ -25,9 +26,6 @@ use Rattle.cx_world.specs.declared.change.Seats.{Seats}
 pub record WorldState : Type 0 where
   pub world : World
   pub spent : Bool
-
-abbrev pub IsPrefix : {A : Type 0} → List A → List A → Type 0
-IsPrefix short long = take (length short) long ≡ short
 
 -- each history begins with that from before
 pub record BeginWith (old new : World) : Type 0 where

@@ -11,12 +11,12 @@ ghost use Rattle.cx_msg.specs.declared.message.Msg.{Msg};
 ghost use Rattle.cx_msg.specs.declared.input.Act.TheVariants.{Give};
 ghost use Rattle.cx_world.specs.World.{AsksAfter, Changes, ChangesAfter};
 
-use crate::history::History;
 use crate::seat::{Seat, Turned, act_at};
 use cx_acceptor::Acceptor;
-use cx_base::{Command, Cut, Duplicate, Event, Kind, NoMemory, Op, RoleId, Why};
+use cx_base::{Command, Cut, Event, Kind, NoMemory, Op, RoleId, Why};
 use cx_batch::{Batcher, Unbatcher};
 use cx_field::Token;
+use cx_history::{Events, Sent};
 use cx_leader::Leader;
 use cx_match::Matchmaker;
 use cx_msg::{Act, Datagram, Input, KeptRecord, read_req, submit};
@@ -156,7 +156,7 @@ fn send(event: &Event, out: &mut Outbox) -> Result<(), NoMemory>
 }
 
 // A client asks.
-fn ask(token: Token, event: &Event, events: &History, out: &mut Outbox) -> Result<Changed, NoMemory>
+fn ask(token: Token, event: &Event, events: &Events, out: &mut Outbox) -> Result<Changed, NoMemory>
     requires empty { out.old.list ≡ [] }
     requires taken { IsTrue (takes_event event.now) }
     ensures { IfOk result (λ changed. AsksAfter (λ w. ask w event.now (Some token)) events.now changed out.new.list) }
@@ -172,15 +172,14 @@ fn ask(token: Token, event: &Event, events: &History, out: &mut Outbox) -> Resul
 fn deliver(
     alloc: Global,
     seats: &mut Seats,
-    datagram: &Datagram,
+    datagram: Datagram,
     cut: Cut,
     out: &mut Outbox,
 ) -> Result<Changed, NoMemory>
     requires { out.old.list ≡ [] }
-    ensures { IfOk result (λ changed. Changes (λ w. come w cut (Some datagram.now)) seats.old changed seats.new out.new.list) }
+    ensures { IfOk result (λ changed. Changes (λ w. come w cut (Some datagram)) seats.old changed seats.new out.new.list) }
 {
     let who = datagram.to();
-    let datagram = datagram.copy(alloc)?;
     let take = Act::Give {
         input: Input::Take { datagram },
         cut,
@@ -198,8 +197,8 @@ fn give(input: Input, cut: Cut) -> Act
 pub fn change(
     alloc: Global,
     seats: &mut Seats,
-    sent: &[Datagram],
-    events: &History,
+    sent: &Sent,
+    events: &Events,
     event: &Event,
     out: &mut Outbox,
 ) -> Result<Changed, NoMemory>
@@ -222,13 +221,10 @@ pub fn change(
             };
             ask(token, event, events, out)
         }
-        Event::Deliver { number, cut } => {
-            let number = *number as usize;
-            if number >= sent.len() {
-                return Ok(nothing(None, Why::Absent));
-            }
-            deliver(alloc, seats, &sent[number], *cut, out)
-        }
+        Event::Deliver { number, cut } => match sent.get(*number)? {
+            None => Ok(nothing(None, Why::Absent)),
+            Some(datagram) => deliver(alloc, seats, datagram, *cut, out),
+        },
         Event::Tick(role) => {
             let tick = give(Input::Tick, Cut::Whole);
             act(alloc, seats, *role, &tick, out)

@@ -1,10 +1,10 @@
 //! How much has happened.
 
 ghost use Rattle.std.specs.Prelude.{◌≡◌, length};
-ghost use Rattle.cx_world.specs.Counts.{is_answer, is_read_answer, answers_in, read_answers_in};
+ghost use Rattle.cx_history.specs.Answers.{answers_in, read_answers_in};
 
-use cx_base::Happened;
-use cx_msg::{Datagram, KeptRecord, Msg};
+use cx_history::{Events, Sent};
+use cx_msg::KeptRecord;
 
 /// How many events, datagrams, answers, answers to reads and kept records there are.
 #[derive(Clone, Copy, Debug, PartialEq, Eq)]
@@ -16,44 +16,8 @@ pub struct Counts {
     pub kept: u64,
 }
 
-fn is_answer(datagram: &Datagram) -> bool
-    ensures { result ≡ is_answer datagram.now.msg }
-{
-    matches!(datagram.msg(), Msg::Answer { .. })
-}
-
-fn is_read_answer(datagram: &Datagram) -> bool
-    ensures { result ≡ is_read_answer datagram.now.msg }
-{
-    matches!(datagram.msg(), Msg::ReadAnswer { .. })
-}
-
-fn answers(sent: &[Datagram]) -> usize
-    ensures { result ≡ answers_in sent.now }
-{
-    let mut count = 0;
-    for datagram in sent {
-        if is_answer(datagram) {
-            count += 1;
-        }
-    }
-    count
-}
-
-fn read_answers(sent: &[Datagram]) -> usize
-    ensures { result ≡ read_answers_in sent.now }
-{
-    let mut count = 0;
-    for datagram in sent {
-        if is_read_answer(datagram) {
-            count += 1;
-        }
-    }
-    count
-}
-
 /// The counts of these histories.
-pub fn count(events: &[Happened], kept: &[KeptRecord], sent: &[Datagram]) -> Counts
+pub fn count(events: &Events, kept: &[KeptRecord], sent: &Sent) -> Counts
     ensures events { result.events ≡ length events.now }
     ensures datagrams { result.datagrams ≡ length sent.now }
     ensures answers { result.answers ≡ answers_in sent.now }
@@ -61,10 +25,10 @@ pub fn count(events: &[Happened], kept: &[KeptRecord], sent: &[Datagram]) -> Cou
     ensures kept { result.kept ≡ length kept.now }
 {
     Counts {
-        events: events.len() as u64,
-        datagrams: sent.len() as u64,
-        answers: answers(sent) as u64,
-        reads: read_answers(sent) as u64,
+        events: events.len(),
+        datagrams: sent.len(),
+        answers: sent.answers(),
+        reads: sent.read_answers(),
         kept: kept.len() as u64,
     }
 }

@@ -9,10 +9,8 @@ mod change;
 mod chosen;
 mod counts;
 mod folded;
-mod history;
 mod seat;
 mod sorted;
-mod stale;
 mod world;
 
 pub use counts::Counts;

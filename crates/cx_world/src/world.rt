@@ -7,15 +7,16 @@ ghost use Rattle.cx_model.specs.World.{step, start, run, event_list};
 ghost use Rattle.cx_promises.specs.Lawful.{IsLawful, IsCommandList};
 ghost use Rattle.cx_world.specs.Counts.{counts_of};
 ghost use Rattle.cx_world.specs.Folded.{folded_of};
-ghost use Rattle.cx_world.specs.World.{IsPrefix, BeginWith, effect_of};
+ghost use Rattle.cx_history.specs.Begins.{IsPrefix};
+ghost use Rattle.cx_world.specs.World.{BeginWith, effect_of};
 
 use crate::change::{Changed, Seats, change};
 use crate::chosen::chosen_prefix;
 use crate::counts::{Counts, count};
 use crate::folded::folded;
-use crate::history::History;
 use crate::seat::open_all;
-use cx_base::{Cluster, Duplicate, Event, Happened, Kind, NoMemory, Values, Why};
+use cx_base::{Cluster, Event, Happened, Kind, NoMemory, Values, Why};
+use cx_history::{Events, Sent};
 use cx_msg::{Datagram, KeptRecord};
 use cx_role::Outbox;
 use cx_trace::{Effect, Folded};
@@ -29,9 +30,9 @@ pub struct World {
     alloc: Global,
     cluster: Cluster,
     seats: Seats,
-    events: History,
+    events: Events,
     kept: Vec<KeptRecord>,
-    sent: Vec<Datagram>,
+    sent: Sent,
     out: Outbox,
     spent: bool,
 }
@@ -44,9 +45,9 @@ impl Model for World {
 
     ghost use Rattle.cx_world.specs.World.{Holds, roles_of, lists_of};
 
-    ghost view = { λ w. record { world = record { cluster = w.cluster; roles = roles_of (lists_of w.seats); events = w.events; kept = w.kept.items; sent = w.sent.items }; spent = w.spent } };
+    ghost view = { λ w. record { world = record { cluster = w.cluster; roles = roles_of (lists_of w.seats); events = w.events; kept = w.kept.items; sent = w.sent }; spent = w.spent } };
 
-    ghost invariant = { λ w. w.spent ≡ false → Holds (record { cluster = w.cluster; roles = roles_of (lists_of w.seats); events = w.events; kept = w.kept.items; sent = w.sent.items }) (lists_of w.seats) w.out.list };
+    ghost invariant = { λ w. w.spent ≡ false → Holds (record { cluster = w.cluster; roles = roles_of (lists_of w.seats); events = w.events; kept = w.kept.items; sent = w.sent }) (lists_of w.seats) w.out.list };
 }
 
 fn push_if<T: Drop>(list: &mut Vec<T>, item: Option<T>) -> Result<(), NoMemory>
@@ -61,9 +62,9 @@ fn push_if<T: Drop>(list: &mut Vec<T>, item: Option<T>) -> Result<(), NoMemory>
 
 // Writes what happened into the histories.
 fn note(
-    events: &mut History,
+    events: &mut Events,
     kept: &mut Vec<KeptRecord>,
-    sent: &mut Vec<Datagram>,
+    sent: &mut Sent,
     event: &Event,
     why: Why,
     what: Option<KeptRecord>,
@@ -71,15 +72,17 @@ fn note(
 ) -> Result<(), NoMemory>
     ensures events { OnOk result (events.new ≡ events.old ++ record { event = event.now; why = why } ∷ []) }
     ensures kept { OnOk result (kept.new.items ≡ kept.old.items ++ option_to_list what) }
-    ensures sent { OnOk result (sent.new.items ≡ sent.old.items ++ out.old.list) }
+    ensures sent { OnOk result (sent.new ≡ sent.old ++ out.old.list) }
     ensures out { OnOk result (out.new.list ≡ []) }
     ensures events_begin { OnErr result (IsPrefix events.old events.new) }
     ensures kept_begin { OnErr result (IsPrefix kept.old.items kept.new.items) }
-    ensures sent_begin { OnErr result (IsPrefix sent.old.items sent.new.items) }
+    ensures sent_begin { OnErr result (IsPrefix sent.old sent.new) }
 {
     events.push(&Happened { event: *event, why })?;
     push_if(kept, what)?;
-    out.move_to(sent)
+    sent.append(out.as_slice())?;
+    out.clear();
+    Ok(())
 }
 
 impl World {
@@ -102,9 +105,9 @@ impl World {
             alloc,
             cluster,
             seats,
-            events: History::new(alloc),
+            events: Events::new(alloc),
             kept: Vec::new(alloc),
-            sent: Vec::new(alloc),
+            sent: Sent::new(alloc),
             out: Outbox::new(alloc),
             spent: false,
         })
@@ -123,7 +126,7 @@ impl World {
         ensures begun { OnErr result (BeginWith self.old.world self.new.world) }
     {
         self.spent = true;
-        let first = self.sent.len() as u64;
+        let first = self.sent.len();
         let Changed { who, why, kept } = change(
             self.alloc,
             &mut self.seats,
@@ -143,11 +146,11 @@ impl World {
         )?;
         self.spent = false;
         Ok(Effect {
-            event: self.events.as_slice().len() as u64,
+            event: self.events.len(),
             who,
             why,
             first,
-            end: self.sent.len() as u64,
+            end: self.sent.len(),
         })
     }
 
@@ -165,22 +168,19 @@ impl World {
         &self.cluster
     }
 
-    /// The datagrams that were sent since there were so many. It takes no memory.
-    pub fn sent_since(&self, first: u64) -> &[Datagram]
+    /// The datagrams that were sent since there were so many.
+    pub fn sent_since(&self, first: u64) -> Result<Vec<Datagram>, NoMemory>
         requires { first ≤ length self.now.world.sent }
-        ensures { result.now ≡ drop first self.now.world.sent }
+        ensures { IfOk result (λ list. list.items ≡ drop first self.now.world.sent) }
     {
-        &self.sent[first as usize..]
+        self.sent.since(first)
     }
 
     /// The datagram of this number, None exactly where it wasn't sent.
     pub fn datagram(&self, number: u64) -> Result<Option<Datagram>, NoMemory>
         ensures { IfOk result (λ datagram. datagram ≡ slice_get self.now.world.sent number) }
     {
-        match self.sent.get(number as usize) {
-            None => Ok(None),
-            Some(datagram) => Ok(Some(datagram.copy(self.alloc)?)),
-        }
+        self.sent.get(number)
     }
 
     /// The values chosen in slot 0, 1 and so on, up to the first slot without one; from the kept votes and rounds alone. In a world
@@ -203,7 +203,7 @@ impl World {
     pub fn counts(&self) -> Counts
         ensures { result ≡ counts_of self.now.world }
     {
-        count(self.events.as_slice(), &self.kept, &self.sent)
+        count(&self.events, &self.kept, &self.sent)
     }
 
     /// What is true of every world that isn't spent: it is the run of its events, and what is promised of runs holds of it. It takes

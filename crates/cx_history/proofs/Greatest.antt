@@ -7,7 +7,7 @@ use Rattle.cx_base.specs.declared.event.Event.{Event}
 use Rattle.cx_base.specs.declared.event.Happened.{Happened}
 use Rattle.cx_field.specs.declared.parts.Token.{Token}
 use Rattle.cx_model.specs.Request.{is_stale, not_below, same_request, same_token, token_of, was_sent}
-use Rattle.cx_world.specs.History.{passes}
+use Rattle.cx_history.specs.Greatest.{passes}
 
 -- what a test refuses, a narrower one does
 none_narrower : {A : Type 0} (p q : A → Bool) → ((x : A) → q x ≡ false → p x ≡ false) → (xs : List A) → list_any q xs ≡ false → list_any p xs ≡ false

@@ -1,6 +1,6 @@
 use Rattle.std.proofs.Common.{rules}
-use Rattle.cx_world.proofs.Greatest.{new_is_fresh}
-use Rattle.cx_world.proofs.history.History.is_stale.Goals as goal
+use Rattle.cx_history.proofs.Greatest.{new_is_fresh}
+use Rattle.cx_history.proofs.events.Events.is_stale.Goals as goal
 
 pub returns-then-self-client : goal.returns-then-self-client
 returns-then-self-client c =

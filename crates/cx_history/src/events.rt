@@ -1,10 +1,11 @@
 //! The events that happened, and what tells at once that a request is new.
 
-ghost use Rattle.std.specs.Prelude.{◌≡◌, ◌++◌, ◌∷◌, [], OnErr, OnOk};
+ghost use Rattle.std.specs.Prelude.{◌≡◌, ◌++◌, ◌∷◌, [], OnErr, OnOk, length};
 ghost use Rattle.cx_model.specs.Request.{is_stale};
-ghost use Rattle.cx_world.specs.History.{Raises};
+ghost use Rattle.cx_history.specs.Greatest.{Raises};
 
-use crate::stale::{is_stale, token_of};
+use crate::entry::{Entry, token_of};
+use crate::stale::is_stale;
 use cx_base::{Event, Happened, NoMemory, Why};
 use cx_field::Token;
 use std::alloc::Global;
@@ -16,21 +17,22 @@ const CLIENTS: usize = 64;
 /// What happened, event by event. Beside it stands the greatest number that each client has sent: a request with a greater one
 /// is not stale, and no event has to be looked at.
 #[derive(Drop)]
-pub struct History {
-    events: Vec<Happened>,
+pub struct Events {
+    alloc: Global,
+    entries: Vec<Entry>,
     greatest: [u64; CLIENTS],
 }
 
-impl Model for History {
+impl Model for Events {
     ghost use Rattle.std.specs.Prelude.{List};
     ghost use Rattle.cx_base.specs.declared.event.Happened.{Happened};
-    ghost use Rattle.cx_world.specs.History.{AreGreatest};
+    ghost use Rattle.cx_history.specs.Greatest.{AreGreatest};
 
     ghost Value = { List Happened };
 
-    ghost view = { λ h. h.events.items };
+    ghost view = { λ h. h.entries.items };
 
-    ghost invariant = { λ h. AreGreatest h.greatest h.events.items };
+    ghost invariant = { λ h. AreGreatest h.greatest h.entries.items };
 }
 
 // Raises the greatest number of a client to that of a request that was sent.
@@ -49,42 +51,44 @@ fn raise(greatest: &mut [u64; CLIENTS], happened: &Happened)
     }
 }
 
-fn push_copy<T: Copy + Drop>(list: &mut Vec<T>, item: &T) -> Result<(), NoMemory>
-    ensures ok { OnOk result (list.new.items ≡ list.old.items ++ item.now ∷ []) }
-    ensures err { OnErr result (list.new.items ≡ list.old.items) }
+fn push_entry(alloc: Global, entries: &mut Vec<Entry>, happened: &Happened) -> Result<(), NoMemory>
+    ensures ok { OnOk result (entries.new.items ≡ entries.old.items ++ happened.now ∷ []) }
+    ensures err { OnErr result (entries.new.items ≡ entries.old.items) }
 {
-    list.push(*item)?;
+    let entry = Entry::new(alloc, happened)?;
+    entries.push(entry)?;
     Ok(())
 }
 
-impl History {
+impl Events {
     /// Nothing has happened. It takes no memory.
     pub fn new(alloc: Global) -> Self
         ensures { result ≡ [] }
     {
-        History {
-            events: Vec::new(alloc),
+        Events {
+            alloc,
+            entries: Vec::new(alloc),
             greatest: [0; CLIENTS],
         }
     }
 
-    /// What happened, in order.
-    pub fn as_slice(&self) -> &[Happened]
-        ensures { result.now ≡ self.now }
+    /// How many events happened. It takes no memory.
+    pub fn len(&self) -> u64
+        ensures { result ≡ length self.now }
     {
-        &self.events
+        self.entries.len() as u64
     }
 
-    /// Notes what happened last.
+    /// Notes what happened last. Want of memory changes nothing.
     pub fn push(&mut self, happened: &Happened) -> Result<(), NoMemory>
         ensures ok { OnOk result (self.new ≡ self.old ++ happened.now ∷ []) }
         ensures err { OnErr result (self.new ≡ self.old) }
     {
         raise(&mut self.greatest, happened);
-        push_copy(&mut self.events, happened)
+        push_entry(self.alloc, &mut self.entries, happened)
     }
 
-    /// Whether a request may not be made any more.
+    /// Whether a request may not be made any more. It takes no memory.
     pub fn is_stale(&self, token: Token, event: &Event) -> bool
         ensures { result ≡ is_stale token event.now self.now }
     {
@@ -92,6 +96,6 @@ impl History {
         if client < CLIENTS && self.greatest[client] < token.seq {
             return false;
         }
-        is_stale(token, event, &self.events)
+        is_stale(token, event, &self.entries)
     }
 }

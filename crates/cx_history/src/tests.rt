@@ -1,0 +1,81 @@
+//! Datagrams of the one put, held and read again.
+
+use crate::{Events, Sent};
+use cx_base::{Cut, Event, Happened, Key, Kind, RoleId, Why};
+use cx_field::Token;
+use cx_msg::{decode, encode_into};
+use std::alloc::Global;
+use std::test::Fail;
+
+const PROPOSE: &[u8] =
+    b"CX\x01\x0a\x03\0\0\x04\0\0\0/\0\0\0\x01\0\0\0\0\0\0\x01\x01\0\0\0\0\0\0\0\0\0\0\0\0\0\0\0\0\0\0\x01\x01\0\0\0\0\0\0\0\0\0\x01\x01\x01a\x011";
+
+const ANSWER: &[u8] = b"CX\x01\x10\x08\0\0\x01\0\0\0\x11\0\0\0\0\0\0\0\x01\0\0\0\0\0\0\0\x01\0";
+
+fn spelled(alloc: Global, sent: &Sent, number: u64) -> Result<Vec<u8>, Fail> {
+    let mut bytes = Vec::new(alloc);
+    if let Some(datagram) = sent.get(number)? {
+        encode_into(alloc, &datagram, &mut bytes)?;
+    }
+    Ok(bytes)
+}
+
+#[test]
+fn datagrams_are_read_as_they_were_sent(rt: HostRuntime) -> Result<(), Fail> {
+    let alloc = rt.alloc();
+    let mut sent = Sent::new(alloc);
+    sent.push(&decode(alloc, PROPOSE)?)?;
+    sent.append(&[decode(alloc, ANSWER)?])?;
+
+    assert_eq!(rt; sent.len(), 2);
+    assert_eq!(rt; sent.answers(), 1);
+    assert_eq!(rt; sent.read_answers(), 0);
+    assert_eq!(rt; spelled(alloc, &sent, 0)?.as_slice(), PROPOSE);
+    assert_eq!(rt; spelled(alloc, &sent, 1)?.as_slice(), ANSWER);
+    assert!(rt; sent.get(2)?.is_none());
+
+    let last = sent.since(1)?;
+    let mut bytes = Vec::new(alloc);
+    encode_into(alloc, &last[0], &mut bytes)?;
+    assert_eq!(rt; last.len(), 1);
+    assert_eq!(rt; bytes.as_slice(), ANSWER);
+    Ok(())
+}
+
+#[test]
+fn an_equal_number_with_another_key_is_stale(rt: HostRuntime) -> Result<(), Fail> {
+    let alloc = rt.alloc();
+    let token = Token { client: 0, seq: 2 };
+    let read_of = |key| Event::Read {
+        client: 0,
+        seq: 2,
+        reader: 0,
+        replica: 0,
+        key,
+    };
+    let first = Key::from_bytes(b"a").ok_or("a key")?;
+    let other = Key::from_bytes(b"b").ok_or("a key")?;
+    let mut events = Events::new(alloc);
+    events.push(&Happened {
+        event: Event::Deliver {
+            number: 0,
+            cut: Cut::Whole,
+        },
+        why: Why::Absent,
+    })?;
+    events.push(&Happened {
+        event: Event::Tick(RoleId::new(Kind::Replica, 0)),
+        why: Why::Idle,
+    })?;
+    assert!(rt; !events.is_stale(token, &read_of(first)));
+    events.push(&Happened {
+        event: read_of(first),
+        why: Why::Sent,
+    })?;
+
+    assert_eq!(rt; events.len(), 3);
+    assert!(rt; !events.is_stale(token, &read_of(first)));
+    assert!(rt; events.is_stale(token, &read_of(other)));
+    assert!(rt; events.is_stale(Token { client: 0, seq: 1 }, &read_of(first)));
+    Ok(())
+}
