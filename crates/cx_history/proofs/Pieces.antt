@@ -1,7 +1,8 @@
 -- Pieces stay what they are behind more bytes, and spell what was put.
-use Rattle.std.proofs.Common.{◌≡◌, ◌≤◌, ◌+◌, ◌-◌, ◌∙◌, ℕ, zero, suc, true, List, [], ◌∷◌, ◌++◌, Option, Some, None, Ok, length, take, drop, map, ap, sym, refl, arith}
+use Rattle.std.proofs.Common.{◌≡◌, ◌≤◌, ◌+◌, ◌-◌, ◌∙◌, ℕ, zero, suc, Bool, true, false, if◌then◌else◌, List, [], ◌∷◌, ◌++◌, Option, Some, None, Ok, length, take, drop, map, filter, ap, sym, refl, arith, add-zero}
 use Rattle.std.specs.List.{slice_get}
 use Rattle.std.proofs.lemmas.List.{drop-append-le, take-append-le, length-append, length-drop, map-append}
+use Rattle.std.proofs.lemmas.List.Elements.{filter-append}
 use Rattle.std.proofs.Math.Seq.{drop-append_seam, take-length}
 use Rattle.cx_msg.specs.Decoding.{decoded}
 use Rattle.cx_msg.specs.Letter.{Letter, fits, spelling}
@@ -71,3 +72,21 @@ pub pieces_from : (bytes : List ℕ) (n : ℕ) (ps : List Piece) → ArePieces b
 pieces_from bytes zero ps h = h
 pieces_from bytes (suc n) [] h = tt
 pieces_from bytes (suc n) (p ∷ ps) h = pieces_from bytes n ps h.1
+
+-- what passes a test is counted one by one
+pub counted_more : {A : Type 0} (q : A → Bool) (xs : List A) (x : A) (n : ℕ) → n ≡ length (filter q xs) → (if q x then n + 1 else n) ≡ length (filter q (xs ++ x ∷ []))
+counted_more q xs x n same =
+    let both : length (filter q (xs ++ x ∷ [])) ≡ length (filter q xs) + length (filter q (x ∷ [])) = ap length (filter-append q xs (x ∷ [])) ∙ length-append (filter q xs) (filter q (x ∷ [])) in
+    rw (both, same) (elim (q x) as (λ b. (if b then length (filter q xs) + 1 else length (filter q xs)) ≡ length (filter q xs) + length (if b then x ∷ [] else [])) [
+      | true ↦ refl
+      | false ↦ sym (add-zero (length (filter q xs)))
+    ])
+
+pub filtered_least : {A : Type 0} (q : A → Bool) (xs : List A) → length (filter q xs) ≤ length xs
+filtered_least q [] = omega arith
+filtered_least q (x ∷ xs) =
+    let rest = filtered_least q xs in
+    elim (q x) as (λ b. length (if b then x ∷ filter q xs else filter q xs) ≤ length (x ∷ xs)) [
+      | true ↦ omega (arith, rest)
+      | false ↦ omega (arith, rest)
+    ]

@@ -1,6 +1,7 @@
 //! What happened, held in little room.
 
 ghost use Rattle.std.specs.Prelude.{◌≡◌, ◌&&◌, not, IfOk};
+ghost use Rattle.cx_history.specs.Entries.{event_of};
 ghost use Rattle.cx_model.specs.Request.{token_of, same_request, same_token, not_below, was_sent};
 
 use cx_base::{Cut, Event, Happened, NoMemory, RoleId, Why, same_op};

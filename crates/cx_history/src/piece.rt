@@ -1,6 +1,7 @@
 //! Datagrams as pieces of one buffer.
 
-ghost use Rattle.std.specs.Prelude.{◌≡◌, ◌++◌, IfOk, OnOk, OnErr};
+ghost use Rattle.std.specs.Prelude.{◌≡◌, ◌++◌, IfOk, OnErr, IsTrue};
+ghost use Rattle.cx_msg.specs.Letter.{fits};
 ghost use Rattle.cx_history.specs.Pieces.{ArePieces, IsPiece, IsPut, letter_at, letters_at};
 
 use cx_base::NoMemory;
@@ -14,11 +15,19 @@ pub struct Piece {
     pub size: usize,
 }
 
+// Each field of a datagram is in its range.
+fn field_ranges(datagram: &Datagram)
+    ensures { IsTrue (fits datagram.now) }
+{
+    let _ = datagram.from();
+}
+
 /// Puts the bytes of a datagram at the end of a buffer. Want of memory puts none.
 pub fn put_piece(alloc: Global, datagram: &Datagram, bytes: &mut Vec<u8>) -> Result<Piece, NoMemory>
     ensures ok { IfOk result (λ piece. IsPut datagram.now bytes.old.items piece bytes.new.items) }
     ensures err { OnErr result (bytes.new.items ≡ bytes.old.items) }
 {
+    field_ranges(datagram);
     let from = bytes.len();
     encode_into(alloc, datagram, bytes)?;
     Ok(Piece {

@@ -1,6 +1,6 @@
 //! The datagrams that were sent.
 
-ghost use Rattle.std.specs.Prelude.{◌≡◌, ◌≤◌, ◌<◌, ◌++◌, ◌∷◌, [], Some, IfOk, OnOk, OnErr, drop, length, slice_get};
+ghost use Rattle.std.specs.Prelude.{◌≡◌, ◌≤◌, ◌<◌, ◌+◌, ◌-◌, ◌^◌, ◌++◌, ◌∷◌, [], if◌then◌else◌, IfOk, OnOk, OnErr, drop, length, slice_get};
 ghost use Rattle.cx_history.specs.Begins.{IsPrefix};
 ghost use Rattle.cx_history.specs.Answers.{answers_in, read_answers_in};
 
@@ -32,6 +32,21 @@ impl Model for Sent {
     ghost view = { λ s. letters_at s.bytes.items s.pieces.items };
 
     ghost invariant = { λ s. IsSent s.bytes.items s.pieces.items s.answers s.reads };
+}
+
+// The piece of a number.
+fn piece_of(pieces: &[Piece], number: u64) -> Option<Piece>
+    ensures { result ≡ slice_get pieces.now number }
+{
+    pieces.get(number as usize).copied()
+}
+
+// One more where there is one.
+fn counted(count: u64, is_one: bool) -> u64
+    requires { count < 2 ^ 64 - 1 }
+    ensures { result ≡ (if is_one then count + 1 else count) }
+{
+    if is_one { count + 1 } else { count }
 }
 
 impl Sent {
@@ -73,9 +88,9 @@ impl Sent {
     pub fn get(&self, number: u64) -> Result<Option<Datagram>, NoMemory>
         ensures { IfOk result (λ datagram. datagram ≡ slice_get self.now number) }
     {
-        match self.pieces.get(number as usize) {
+        match piece_of(&self.pieces, number) {
             None => Ok(None),
-            Some(piece) => Ok(Some(read_piece(self.alloc, &self.bytes, *piece)?)),
+            Some(piece) => Ok(Some(read_piece(self.alloc, &self.bytes, piece)?)),
         }
     }
 
@@ -95,12 +110,10 @@ impl Sent {
         self.pieces.reserve(1)?;
         let piece = put_piece(self.alloc, datagram, &mut self.bytes)?;
         self.pieces.push_reserved(piece);
-        if is_answer(datagram) {
-            self.answers += 1;
-        }
-        if is_read_answer(datagram) {
-            self.reads += 1;
-        }
+        // How many were sent fits, and so does how many of them answer.
+        let _ = self.pieces.len();
+        self.answers = counted(self.answers, is_answer(datagram));
+        self.reads = counted(self.reads, is_read_answer(datagram));
         Ok(())
     }
 
