@@ -23,19 +23,6 @@ returns-in-Read c =
     ok_then _ (λ (x : Changed). ChangesAfter (λ w. change w c.args.event.now) c.args.sent.now c.args.events.now c.args.seats.now x c.args.seats.now c.ask-in-Read.new.out.list) c.ask-in-Read.result
     (λ x h w same known has. rw c.in-Read.is (rw c.in-Read.is at (h w known (lists_of c.args.seats.now) has))) c.ask-in-Read.ensures
 
-pub returns-then-number-sent : goal.returns-then-number-sent
-returns-then-number-sent c =
-    let none : slice_get c.args.sent.now c.in-Deliver.number ≡ None = slice_get_past c.args.sent.now c.in-Deliver.number (omega arith) in
-    λ w same known has.
-    let here : slice_get w.sent c.in-Deliver.number ≡ None = rw same none in
-    rw (c.in-Deliver.is, here) (quiet w (lists_of c.args.seats.now) None c.nothing.result.who why.Absent c.nothing.result.why [] c.args.out.now.list c.nothing.result.kept c.nothing.ensures.who c.nothing.ensures.why c.nothing.ensures.kept c.requires.empty has)
-
-pub returns-else-number-sent : goal.returns-else-number-sent
-returns-else-number-sent c =
-    let some = slice_get_read c.args.sent.now _ c.in-Deliver.number c.index-sent-number.result refl c.if-number-sent.false c.index-sent-number.is in
-    ok_then _ (λ (x : Changed). ChangesAfter (λ w. change w c.args.event.now) c.args.sent.now c.args.events.now c.args.seats.now x c.deliver.new.seats c.deliver.new.out.list) c.deliver.result
-    (λ x h w same known has. let here : slice_get w.sent c.in-Deliver.number ≡ Some c.index-sent-number.result = rw same some in rw (c.in-Deliver.is, here) (h w has)) c.deliver.ensures
-
 pub returns-in-Order : goal.returns-in-Order
 returns-in-Order c =
     ok_then _ (λ (x : Changed). ChangesAfter (λ w. change w c.args.event.now) c.args.sent.now c.args.events.now c.args.seats.now x c.act-in-Order.new.seats c.act-in-Order.new.out.list) c.act-in-Order.result

@@ -11,7 +11,7 @@ use Rattle.cx_world.proofs.world.World.chosen_prefix.Goals as goal
 pub returns-clause-agreed : goal.returns-clause-agreed
 returns-clause-agreed c =
     let fields = c.self.inside in
-    let w : World = record { cluster = fields.cluster; roles = roles_of (lists_of fields.seats); events = fields.events; kept = fields.kept.items; sent = fields.sent.items } in
+    let w : World = record { cluster = fields.cluster; roles = roles_of (lists_of fields.seats); events = fields.events; kept = fields.kept.items; sent = fields.sent } in
     λ fresh.
     let holds = c.self.invariant (ap (λ (x : WorldState). x.spent) c.self.view_is ∙ fresh) in
     let seen : WorldState = c.args.self.now in
