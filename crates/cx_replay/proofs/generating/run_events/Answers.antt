@@ -20,9 +20,9 @@ loop-made-preserved c =
     let w = c.loop-made.world.world in
     let before : World = run gen_cluster (gen_events seed made) in
     let event : Event = next_event (gen_state seed made) (length before.sent) in
-    let sent : c.counts.result.datagrams ≡ length before.sent = ap (λ (n : Counts). n.datagrams) c.counts.ensures ∙ ap (λ (w : World). length w.sent) c.loop-made.invariant.world in
+    let sent : c.counts-sent.result.datagrams ≡ length before.sent = ap (λ (n : Counts). n.datagrams) c.counts-sent.ensures ∙ ap (λ (w : World). length w.sent) c.loop-made.invariant.world in
     let event_is : c.next-event.result ≡ event =
-    c.next-event.ensures.event ∙ ap (λ g. next_event g c.counts.result.datagrams) c.loop-made.invariant.generator ∙ ap (next_event (gen_state seed made)) sent in
+    c.next-event.ensures.event ∙ ap (λ g. next_event g c.counts-sent.result.datagrams) c.loop-made.invariant.generator ∙ ap (next_event (gen_state seed made)) sent in
     record {
       generator = c.next-event.ensures.state ∙ ap next_state c.loop-made.invariant.generator ∙ sym (gen_state_more seed made);
       world = ap (λ (s : WorldState). s.world) c.in_ok-step.ensures.ok ∙ ap (step w) event_is ∙ ap (λ v. step v event) c.loop-made.invariant.world ∙ sym (gen_run_more seed made);
