@@ -1,13 +1,16 @@
 -- Which acceptors were counted, and the rows that they make.
-use Rattle.std.proofs.Common.{◌≡◌, ℕ, ◌==◌, Bool, true, false, ◌&&◌, ◌||◌, List, [], ◌∷◌, if◌then◌else◌, refl, ap, ◌∙◌}
+use Rattle.std.proofs.Common.{◌≡◌, ℕ, ◌==◌, Bool, true, false, ◌&&◌, ◌||◌, List, [], ◌∷◌, ◌++◌, if◌then◌else◌, refl, ap, sym, ◌∙◌}
 use Rattle.std.specs.Prelude.{nat_lt}
 use Rattle.std.specs.List.{list_all, list_any}
+use Rattle.std.proofs.lemmas.List.Folds.{list_any-append}
 use Rattle.std.proofs.lemmas.Bool.{eqb-true}
 use Rattle.cx_base.specs.Grid.{is_in}
 use Rattle.cx_base.specs.Lists.{below}
 use Rattle.cx_grid.specs.Quorum.{row_of, with_mark}
 use Rattle.cx_field.specs.declared.parts.Entry.{Entry}
+use Rattle.cx_model.specs.declared.states.Acked.{Acked}
 use Rattle.cx_model.specs.Matched.{rows_whole}
+use Rattle.cx_model.specs.Reader.{acked_by, has_acked}
 
 -- whole rows depend on which acceptors were counted alone
 pub rows_alike : (es : List Entry) (xs ys : List ℕ) → ((id : ℕ) → is_in id xs ≡ is_in id ys) → rows_whole es xs ≡ rows_whole es ys
@@ -34,8 +37,19 @@ in_with_mark id n (m ∷ ms) = at (n == m) refl (nat_lt n m) (in_with_mark id n 
     at false e true rest = refl
     at false e false rest = ap (λ (b : Bool). (m == id) || b) rest ∙ swap (n == id) (m == id) (is_in id ms)
 
--- what is left to count, and what was counted
-pub one_counted : (a left counted more all : Bool) → more ≡ (a || counted) → ((a || left) || counted) ≡ all → (left || more) ≡ all
-one_counted true true counted more all is h = h
-one_counted true false counted more all is h = is ∙ h
-one_counted false left counted more all is h = rw is h
+turned : (x y : Bool) → (x || y) ≡ (y || (x || false))
+turned true true = refl
+turned true false = refl
+turned false true = refl
+turned false false = refl
+
+-- one more is counted
+pub acked_more : (ms : List ℕ) (acks : List Acked) (a : Acked) → ((id : ℕ) → is_in id ms ≡ has_acked id acks) → (id : ℕ) → is_in id (with_mark a.acceptor ms) ≡ has_acked id (acks ++ a ∷ [])
+acked_more ms acks a same id =
+    let one : has_acked id (acks ++ a ∷ []) ≡ (has_acked id acks || ((a.acceptor == id) || false)) = list_any-append (λ (x : Acked). x.acceptor == id) acks (a ∷ []) in
+    in_with_mark id a.acceptor ms ∙ ap (λ (b : Bool). (a.acceptor == id) || b) (same id) ∙ turned (a.acceptor == id) (has_acked id acks) ∙ sym one
+
+-- whoever was counted is one of those
+pub acked_are : (id : ℕ) (acks : List Acked) → has_acked id acks ≡ is_in id (acked_by acks)
+acked_are id [] = refl
+acked_are id (a ∷ acks) = ap (λ (b : Bool). (a.acceptor == id) || b) (acked_are id acks)

@@ -12,7 +12,7 @@ use Rattle.cx_msg.specs.declared.kept.Record.{Record}
 use Rattle.cx_msg.specs.declared.message.Msg.TheVariants as msg
 use Rattle.cx_model.specs.Matched.{greatest_watermark, live_entries, is_member_of, rows_whole}
 use Rattle.cx_model.specs.Names.{names}
-use Rattle.cx_model.specs.Outcome.{Outcome, answered}
+use Rattle.cx_model.specs.Outcome.{answered}
 use Rattle.cx_model.specs.Reader.{Reading, ReaderVolatile, acked_by, greatest_mark, has_acked, is_matched, pre_read_ack_row, reader_rules, reader_takes, reading_of, send_read, with_reading}
 use Rattle.cx_model.specs.Rules.{IsFit}
 

@@ -54,10 +54,5 @@ seen_most a left greatest fit most =
     let here = mark_most a.mark ((and_parts (nat_lt a.acceptor 64) (mark.fits a.mark) ((and_parts (is_ack a) (are_acks left) fit).0)).1) in
     omega arith
 
-pub markable : (a : Acked) (left : List Acked) → are_acks (a ∷ left) ≡ true → a.acceptor < 64
-markable a left fit =
-    let here = (and_parts (nat_lt a.acceptor 64) (mark.fits a.mark) ((and_parts (is_ack a) (are_acks left) fit).0)).0 in
-    grind (arith, nat_tests, here)
-
 pub left_fit : (a : Acked) (left : List Acked) → are_acks (a ∷ left) ≡ true → are_acks left ≡ true
 left_fit a left fit = (and_parts (is_ack a) (are_acks left) fit).1

@@ -1,8 +1,7 @@
 //! One read in progress.
 
-ghost use Rattle.std.specs.Prelude.{◌≡◌, ◌≤◌, ◌<◌, ◌++◌, ◌∷◌, [], map, true, ℕ, IsTrue, IfOk};
+ghost use Rattle.std.specs.Prelude.{◌≡◌, ◌≤◌, ◌<◌, ◌++◌, ◌∷◌, [], map, true, IsTrue, IfOk};
 ghost use Rattle.std.specs.List.{list_any};
-ghost use Rattle.cx_base.specs.Grid.{is_in};
 ghost use Rattle.cx_base.specs.Role.{role};
 ghost use Rattle.cx_base.specs.declared.role.Kind.{Kind as KindOf};
 ghost use Rattle.cx_model.specs.Matched.{greatest_watermark, is_counted, is_member_of, live_entries, members_of, rows_whole};
@@ -30,6 +29,8 @@ pub struct Reading {
     key: Key,
     told: Vec<MatchAnswer>,
     acks: Vec<Acked>,
+    // The acceptors that were counted, as a set.
+    counted: Marks,
 }
 
 impl Model for Reading {
@@ -40,7 +41,7 @@ impl Model for Reading {
 
     ghost view = { λ r. record { token = r.token; replica = r.replica; key = r.key; told = r.told.items; acks = r.acks.items } };
 
-    ghost invariant = { λ r. IsReading r.token r.told.items r.acks.items };
+    ghost invariant = { λ r. IsReading r.token r.told.items r.acks.items r.counted };
 }
 
 impl Reading {
@@ -55,6 +56,7 @@ impl Reading {
             key,
             told: Vec::new(alloc),
             acks: Vec::new(alloc),
+            counted: Marks::new(),
         }
     }
 
@@ -84,7 +86,7 @@ impl Reading {
     pub fn has_acked(&self, acceptor: u16) -> bool
         ensures { result ≡ has_acked acceptor self.now.acks }
     {
-        has_acked(&self.acks, acceptor)
+        self.counted.contains(acceptor)
     }
 
     /// Whether a grid is live.
@@ -121,7 +123,7 @@ impl Reading {
     pub fn rows_whole(&self) -> bool
         ensures { result ≡ rows_whole (live_entries self.now.told) (acked_by self.now.acks) }
     {
-        matched::rows_whole(&self.told, &marked(&self.acks))
+        matched::rows_whole(&self.told, &self.counted)
     }
 
     /// The read with one more matchmaker counted. This one stays, so that want of memory changes nothing.
@@ -142,6 +144,7 @@ impl Reading {
     {
         let mut more = self.copy(alloc)?;
         more.acks.push(ack)?;
+        more.counted.add(ack.acceptor);
         Ok(more)
     }
 
@@ -176,14 +179,9 @@ impl Duplicate for Reading {
             key: self.key,
             told: copied(alloc, &self.told)?,
             acks: Vec::from_slice(alloc, &self.acks)?,
+            counted: self.counted.copy(alloc)?,
         })
     }
-}
-
-fn has_acked(acks: &[Acked], acceptor: u16) -> bool
-    ensures { result ≡ has_acked acceptor acks.now }
-{
-    acks.iter().any(|ack| ack.acceptor == acceptor)
 }
 
 fn greatest_mark(acks: &[Acked]) -> u64
@@ -196,18 +194,6 @@ fn greatest_mark(acks: &[Acked]) -> u64
         greatest = ack.mark.max(greatest);
     }
     greatest
-}
-
-// The acceptors that were counted, as a set.
-fn marked(acks: &[Acked]) -> Marks
-    requires { IsTrue (are_acks acks.now) }
-    ensures { (id : ℕ) → is_in id result ≡ is_in id (acked_by acks.now) }
-{
-    let mut marks = Marks::new();
-    for ack in acks {
-        marks.add(ack.acceptor);
-    }
-    marks
 }
 
 // The same answers again.
