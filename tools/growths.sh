@@ -9,13 +9,14 @@ room=$(mktemp -d)
 trap 'rm -rf "$room"' EXIT
 cc -O1 -shared -fPIC -o "$room/refuse.so" "$top/tools/refuse.c" -ldl || exit 2
 
-# refused N COMMAND..: runs it with its growth N refused, and leaves in `count` how many growths it asked for
+# refused N COMMAND..: runs it in an empty folder with its growth N refused, and leaves in `count` how many growths it asked for
 refused() {
   local n=$1
   shift
-  rm -f "$room/count"
+  rm -rf "$room/count" "$room/run"
+  mkdir "$room/run"
   {
-    REFUSE=$n REFUSE_COUNT="$room/count" timeout 60 env LD_PRELOAD="$room/refuse.so" "$@" >"$room/out" 2>"$room/err" <"$room/in"
+    (cd "$room/run" && REFUSE=$n REFUSE_COUNT="$room/count" exec timeout 60 env LD_PRELOAD="$room/refuse.so" "$@" >"$room/out" 2>"$room/err" <"$room/in")
   } 2>/dev/null
   status=$?
   count=$(cat "$room/count" 2>/dev/null || echo 0)
@@ -47,8 +48,11 @@ worst=0
 if [[ ${1:-} == --program ]]; then
   shift
   cat >"$room/in"
+  program=$(realpath "$1")
+  shift
   tried=0 faults=0 unseen=0 wanted="0 9"
-  each "$@"
+  each "$program" "$@"
+  set -- "$program" "$@"
   echo "$*: $tried growths refused, $unseen of them without a word, $faults faults"
   exit $((faults > 0))
 fi
