@@ -6,7 +6,8 @@ ghost use Rattle.cx_model.specs.Replica.{replica_after};
 ghost use Rattle.cx_model.specs.World.{log_of};
 ghost use Rattle.cx_world.specs.Folded.{folded_of};
 
-use cx_base::{Command, Kind, NoMemory, RoleId, Value, acts, copy_all};
+use crate::acting::{CLIENTS, acts_behind, raise};
+use cx_base::{Command, Kind, NoMemory, RoleId, Value, copy_all};
 use cx_kv::Store;
 use cx_msg::{KeptRecord, Record};
 use cx_trace::Folded;
@@ -54,10 +55,12 @@ fn map_behind(alloc: Global, commands: &[Command]) -> Result<Store, NoMemory>
     ensures { IfOk result (λ store. store ≡ map_behind [] [] commands.now) }
 {
     let mut store = Store::new(alloc)?;
+    let mut greatest = [0; CLIENTS];
     for (place, command) in commands.iter().enumerate() {
-        if acts(&commands[..place], command) {
+        if acts_behind(&greatest, &commands[..place], command) {
             store.apply(command)?;
         }
+        raise(&mut greatest, command);
     }
     Ok(store)
 }
