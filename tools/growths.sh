@@ -34,37 +34,44 @@ each() {
     refused "$n" "$@"
     [[ $count -lt $n && $status == 0 ]] && break
     tried=$((tried + 1))
+    ended[$status]=$((${ended[$status]:-0} + 1))
     if ! is_well; then
       faults=$((faults + 1))
       echo "growth $n of $*: status $status"
       tail -n 3 "$room/err"
     fi
-    [[ $status == 0 ]] && unseen=$((unseen + 1))
     n=$((n + 1))
   done
 }
 
+# How the runs ended: each status with how often it came.
+endings() {
+  local status
+  for status in "${!ended[@]}"; do echo -n ", ${ended[$status]} with status $status"; done
+}
+
 worst=0
+declare -A ended=()
 if [[ ${1:-} == --program ]]; then
   shift
   cat >"$room/in"
   program=$(realpath "$1")
   shift
-  tried=0 faults=0 unseen=0 wanted="0 9"
+  tried=0 faults=0 wanted="0 9"
   each "$program" "$@"
   set -- "$program" "$@"
-  echo "$*: $tried growths refused, $unseen of them without a word, $faults faults"
+  echo "$*: $tried growths refused$(endings), $faults faults"
   exit $((faults > 0))
 fi
 : >"$room/in"
 for crate in "$@"; do
   tests="$top/crates/$crate/out/${crate}_tests"
   (cd "$top/crates/$crate" && rt test) >"$room/said" 2>&1 || { tail -n 5 "$room/said"; exit 2; }
-  tried=0 faults=0 unseen=0 wanted="0 101"
+  tried=0 faults=0 wanted="0 101" ended=()
   while read -r test; do
     each "$tests" "$test"
   done < <("$tests" --list | sed -n 's/: test$//p')
-  echo "$crate: $tried growths refused, $unseen of them without a word, $faults faults"
+  echo "$crate: $tried growths refused$(endings), $faults faults"
   [[ $faults == 0 ]] || worst=1
 done
 exit $worst
