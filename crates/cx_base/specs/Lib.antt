@@ -1,6 +1,7 @@
 pub mod Asked
 pub mod Faults
 pub mod Fold
+pub mod Greatest
 pub mod Grid
 pub mod GridFields
 pub mod Lists

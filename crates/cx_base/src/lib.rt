@@ -6,10 +6,12 @@
 
 mod cluster;
 mod command;
+mod command_list;
 mod event;
 mod faults;
 mod few;
 mod fold;
+mod greatest;
 mod grid;
 mod grid_fault;
 mod memory;
@@ -22,10 +24,12 @@ mod why;
 
 pub use cluster::Cluster;
 pub use command::{Answered, Command, Commands, Op, Pair, Placed, Reply, Value, Values};
+pub use command_list::CommandList;
 pub use event::{Cut, Event, Happened, Order};
 pub use faults::Faults;
 pub use few::{Few, Series, copy_all};
 pub use fold::acts;
+pub use greatest::{CLIENTS, Greatest};
 pub use grid::{Grid, MEMBERS};
 pub use grid_fault::GridFault;
 pub use memory::{Duplicate, NoMemory};

@@ -1,0 +1,53 @@
+//! The greatest number that each client has used, by which most numbers are told at once to be new.
+
+ghost use Rattle.std.specs.Prelude.{◌≡◌, replicate};
+ghost use Rattle.cx_base.specs.Greatest.{is_above, raised};
+
+use std::marker::Model;
+
+/// How many clients a cluster has at most.
+pub const CLIENTS: usize = 64;
+
+/// The greatest number that each client of a cluster has used, 0 where it has used none.
+#[derive(Debug, Drop)]
+pub struct Greatest {
+    numbers: [u64; CLIENTS],
+}
+
+impl Model for Greatest {
+    ghost use Rattle.std.specs.Prelude.{◌≡◌, ℕ, List, length};
+
+    ghost Value = { List ℕ };
+
+    ghost view = { λ g. g.numbers };
+
+    ghost invariant = { λ g. length g.numbers ≡ 64 };
+}
+
+impl Greatest {
+    /// No client has used a number. It takes no memory.
+    pub fn new() -> Self
+        ensures { result ≡ replicate 64 0 }
+    {
+        Greatest {
+            numbers: [0; CLIENTS],
+        }
+    }
+
+    /// Whether a number is above its client's greatest one. None is of a client that no cluster has. It takes no memory.
+    pub fn is_above(&self, client: u16, seq: u64) -> bool
+        ensures { result ≡ is_above self.now client seq }
+    {
+        let client = usize::from(client);
+        client < CLIENTS && self.numbers[client] < seq
+    }
+
+    /// A client has used a number: it is the client's greatest if it is above the one before. It takes no memory.
+    pub fn raise(&mut self, client: u16, seq: u64)
+        ensures { self.new ≡ raised self.old client seq }
+    {
+        if self.is_above(client, seq) {
+            self.numbers[usize::from(client)] = seq;
+        }
+    }
+}
