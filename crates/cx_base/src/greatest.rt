@@ -1,6 +1,6 @@
 //! The greatest number that each client has used, by which most numbers are told at once to be new.
 
-ghost use Rattle.std.specs.Prelude.{◌≡◌, replicate};
+ghost use Rattle.std.specs.Prelude.{◌≡◌, length, replicate};
 ghost use Rattle.cx_base.specs.Greatest.{is_above, raised};
 
 use std::marker::Model;
@@ -36,7 +36,8 @@ impl Greatest {
 
     /// Whether a number is above its client's greatest one. None is of a client that no cluster has. It takes no memory.
     pub fn is_above(&self, client: u16, seq: u64) -> bool
-        ensures { result ≡ is_above self.now client seq }
+        ensures above { result ≡ is_above self.now client seq }
+        ensures clients { length self.now ≡ 64 }
     {
         let client = usize::from(client);
         client < CLIENTS && self.numbers[client] < seq
