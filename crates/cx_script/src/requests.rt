@@ -1,6 +1,6 @@
 //! The lines of a node: requests alone, the numbers of each client rising.
 
-ghost use Rattle.std.specs.Prelude.{◌≡◌, ◌<◌, ◌++◌, List, IfOk, nat_lt, get_or, option_map, option_to_list, slice_set, if◌then◌else◌};
+ghost use Rattle.std.specs.Prelude.{◌≡◌, ◌<◌, ◌++◌, List, IfOk, nat_lt, get_or, length, option_to_list, slice_set, if◌then◌else◌};
 ghost use Rattle.cx_base.specs.declared.event.Event.{Event as Happening};
 ghost use Rattle.cx_script.specs.Grammar.{line_event};
 ghost use Rattle.cx_script.specs.Requests.{Tells, asker, asks, request_behind, requests_of, script_of};
@@ -8,11 +8,8 @@ ghost use Rattle.cx_script.specs.Requests.{Tells, asker, asks, request_behind, r
 use crate::event::line;
 use crate::fault::LineFault;
 use crate::lines::{MAX_LINES, Schedule, first_line, keep};
-use cx_base::{Cluster, Event, NoMemory};
+use cx_base::{Cluster, Event, Greatest, NoMemory};
 use std::alloc::Global;
-
-/// The greatest number of clients.
-const CLIENTS: usize = 64;
 
 // The client and the number of a request.
 fn asker(event: &Event) -> Option<(u16, u64)>
@@ -26,23 +23,21 @@ fn asker(event: &Event) -> Option<(u16, u64)>
 }
 
 // Whether a number is above its client's greatest one, which it then becomes.
-fn rises(greatest: &mut [u64; CLIENTS], client: u16, seq: u64) -> bool
+fn rises(greatest: &mut Greatest, client: u16, seq: u64) -> bool
     requires { client < 64 }
     ensures above { result ≡ nat_lt (get_or greatest.old client 0) seq }
     ensures noted { greatest.new ≡ (if result then slice_set greatest.old client seq else greatest.old) }
+    ensures clients { length greatest.old ≡ 64 }
 {
-    let client = usize::from(client);
-    if seq <= greatest[client] {
-        return false;
-    }
-    greatest[client] = seq;
-    true
+    let above = greatest.is_above(client, seq);
+    greatest.raise(client, seq);
+    above
 }
 
 // A line behind others, of which the greatest number of each client is known.
 fn request(
     cluster: &Cluster,
-    greatest: &mut [u64; CLIENTS],
+    greatest: &mut Greatest,
     text: &[u8],
 ) -> Result<Option<Event>, LineFault>
     ensures request { (before : List Happening) → Tells before greatest.old → result ≡ request_behind before (line_event cluster.now text.now) }
@@ -64,7 +59,7 @@ pub fn read_requests(alloc: Global, cluster: &Cluster, bytes: &[u8]) -> Result<S
     ensures { IfOk result (λ schedule. schedule ≡ requests_of cluster.now bytes.now) }
 {
     let mut events = Vec::new(alloc);
-    let mut greatest = [0; CLIENTS];
+    let mut greatest = Greatest::new();
     let mut rest = bytes;
     let mut number = 0;
     while let Some((text, behind)) = first_line(rest) {

@@ -5,7 +5,7 @@ ghost use Rattle.cx_base.specs.Fold.{commands_of};
 ghost use Rattle.cx_trace.specs.Summary.{acts_text, command_text, commands_text, op_text, slot_text, slots_text};
 
 use crate::put::{put, put_number, put_request};
-use cx_base::{Command, NoMemory, Op, Value, acts};
+use cx_base::{Command, CommandList, NoMemory, Op, Value};
 
 fn put_op(text: &mut Vec<u8>, op: &Op) -> Result<(), NoMemory>
     ensures { OnOk result (text.new.items ≡ text.old.items ++ op_text op.now) }
@@ -32,10 +32,10 @@ fn put_op(text: &mut Vec<u8>, op: &Op) -> Result<(), NoMemory>
 
 // Whether a command acts behind those before it, in a word.
 #[tactic(auto, unfolding(crate::specs::Summary::acts_text))]
-fn put_acts(text: &mut Vec<u8>, before: &[Command], command: &Command) -> Result<(), NoMemory>
+fn put_acts(text: &mut Vec<u8>, before: &CommandList, command: &Command) -> Result<(), NoMemory>
     ensures { OnOk result (text.new.items ≡ text.old.items ++ acts_text before.now command.now) }
 {
-    if acts(before, command) {
+    if before.acts(command) {
         put(text, b"acts")
     } else {
         put(text, b"past")
@@ -46,7 +46,7 @@ fn put_acts(text: &mut Vec<u8>, before: &[Command], command: &Command) -> Result
 fn put_command(
     text: &mut Vec<u8>,
     slot: u64,
-    before: &[Command],
+    before: &CommandList,
     command: &Command,
 ) -> Result<(), NoMemory>
     ensures { OnOk result (text.new.items ≡ text.old.items ++ command_text slot before.now command.now) }
@@ -65,15 +65,15 @@ fn put_command(
 fn put_commands(
     text: &mut Vec<u8>,
     slot: u64,
-    before: &mut Vec<Command>,
+    before: &mut CommandList,
     commands: &[Command],
 ) -> Result<(), NoMemory>
-    ensures text { OnOk result (text.new.items ≡ text.old.items ++ commands_text slot before.old.items commands.now) }
-    ensures before { OnOk result (before.new.items ≡ before.old.items ++ commands.now) }
+    ensures text { OnOk result (text.new.items ≡ text.old.items ++ commands_text slot before.old commands.now) }
+    ensures before { OnOk result (before.new ≡ before.old ++ commands.now) }
 {
     for command in commands {
         put_command(text, slot, before, command)?;
-        before.push(*command)?;
+        before.push(command)?;
     }
     Ok(())
 }
@@ -81,11 +81,11 @@ fn put_commands(
 fn put_slot(
     text: &mut Vec<u8>,
     slot: u64,
-    before: &mut Vec<Command>,
+    before: &mut CommandList,
     value: &Value,
 ) -> Result<(), NoMemory>
-    ensures text { OnOk result (text.new.items ≡ text.old.items ++ slot_text slot before.old.items value.now) }
-    ensures before { OnOk result (before.new.items ≡ before.old.items ++ commands_of value.now) }
+    ensures text { OnOk result (text.new.items ≡ text.old.items ++ slot_text slot before.old value.now) }
+    ensures before { OnOk result (before.new ≡ before.old ++ commands_of value.now) }
 {
     match value {
         Value::Noop => {
@@ -99,10 +99,10 @@ fn put_slot(
 // The values of the slots from 0 on, behind no command.
 pub fn put_slots(
     text: &mut Vec<u8>,
-    before: &mut Vec<Command>,
+    before: &mut CommandList,
     chosen: &[Value],
 ) -> Result<(), NoMemory>
-    ensures { OnOk result (text.new.items ≡ text.old.items ++ slots_text 0 before.old.items chosen.now) }
+    ensures { OnOk result (text.new.items ≡ text.old.items ++ slots_text 0 before.old chosen.now) }
 {
     for (slot, value) in chosen.iter().enumerate() {
         put_slot(text, slot as u64, before, value)?;

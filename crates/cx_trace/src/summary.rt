@@ -5,7 +5,7 @@ ghost use Rattle.cx_trace.specs.Summary.{replica_text, replicas_text, summary_te
 
 use crate::commands::put_slots;
 use crate::put::{put, put_number, put_role_at};
-use cx_base::{Kind, NoMemory, Value};
+use cx_base::{CommandList, Kind, NoMemory, Value};
 use cx_kv::Store;
 use std::alloc::Global;
 
@@ -52,7 +52,7 @@ pub fn summary_into(
     put(&mut text, b"chosen ")?;
     put_number(&mut text, chosen.len() as u64)?;
     put(&mut text, b"\n")?;
-    put_slots(&mut text, &mut Vec::new(alloc), chosen)?;
+    put_slots(&mut text, &mut CommandList::new(alloc), chosen)?;
     put_replicas(&mut text, replicas)?;
     put(out, &text)
 }

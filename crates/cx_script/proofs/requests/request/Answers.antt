@@ -25,6 +25,6 @@ returns-in-Some-asker-clause-told c = λ before tells.
     let is = sym c.in-Some-asker.ensures in
     let small = client_small c.args.cluster.now c.args.text.now c.in-Some.event c.in-Some-asker.client c.in-Some-asker.seq spelled is in
     let told : c.rises.new.greatest ≡ slice_set c.args.greatest.now c.in-Some-asker.client c.in-Some-asker.seq = c.if-rises.ensures.noted in
-    let inside : c.in-Some-asker.client < length c.args.greatest.now = rw c.told-greatest small in
+    let inside : c.in-Some-asker.client < length c.args.greatest.now = rw c.if-rises.ensures.clients small in
     subst (Tells (before ++ c.in-Some.event ∷ [])) (sym told)
     (tells_next before c.args.greatest.now c.in-Some.event c.in-Some-asker.client c.in-Some-asker.seq is small inside tells (sym c.if-rises.ensures.above))

@@ -4,6 +4,6 @@ use Rattle.cx_trace.proofs.commands.put_commands.Given as goal
 
 abbrev pub invariant-loop-command : goal.invariant-loop-command
 invariant-loop-command l = record {
-  text : l.text.items ++ commands_text l.slot l.before.items (drop l.command-index l.commands) ≡ l.fn.text.items ++ commands_text l.slot l.fn.before.items l.commands;
-  before : l.before.items ++ drop l.command-index l.commands ≡ l.fn.before.items ++ l.commands;
+  text : l.text.items ++ commands_text l.slot l.before (drop l.command-index l.commands) ≡ l.fn.text.items ++ commands_text l.slot l.fn.before l.commands;
+  before : l.before ++ drop l.command-index l.commands ≡ l.fn.before ++ l.commands;
 }
