@@ -1,5 +1,5 @@
 pub mod Answers
 pub mod Begins
 pub mod Entries
-pub mod Greatest
 pub mod Pieces
+pub mod Reached

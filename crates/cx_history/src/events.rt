@@ -1,18 +1,17 @@
 //! The events that happened, and what tells at once that a request is new.
 
-ghost use Rattle.std.specs.Prelude.{◌≡◌, ◌++◌, ◌∷◌, [], OnErr, OnOk, length};
+ghost use Rattle.std.specs.Prelude.{◌≡◌, ◌++◌, ◌∷◌, [], List, OnErr, OnOk, length};
+ghost use Rattle.cx_base.specs.Greatest.{Bounds};
 ghost use Rattle.cx_model.specs.Request.{is_stale};
-ghost use Rattle.cx_history.specs.Greatest.{Raises};
+ghost use Rattle.cx_history.specs.Reached.{reaches};
+ghost use Rattle.cx_base.specs.declared.event.Happened.{Happened as Entered};
 
 use crate::entry::{Entry, token_of};
 use crate::stale::is_stale;
-use cx_base::{Event, Happened, NoMemory, Why};
+use cx_base::{Event, Greatest, Happened, NoMemory, Why};
 use cx_field::Token;
 use std::alloc::Global;
 use std::marker::Model;
-
-/// How many clients a cluster has at most.
-const CLIENTS: usize = 64;
 
 /// What happened, event by event. Beside it stands the greatest number that each client has sent: a request with a greater one
 /// is not stale, and no event has to be looked at.
@@ -20,34 +19,31 @@ const CLIENTS: usize = 64;
 pub struct Events {
     alloc: Global,
     entries: Vec<Entry>,
-    greatest: [u64; CLIENTS],
+    greatest: Greatest,
 }
 
 impl Model for Events {
     ghost use Rattle.std.specs.Prelude.{List};
     ghost use Rattle.cx_base.specs.declared.event.Happened.{Happened};
-    ghost use Rattle.cx_history.specs.Greatest.{AreGreatest};
+    ghost use Rattle.cx_base.specs.Greatest.{Bounds};
+    ghost use Rattle.cx_history.specs.Reached.{reaches};
 
     ghost Value = { List Happened };
 
     ghost view = { λ h. h.entries.items };
 
-    ghost invariant = { λ h. AreGreatest h.greatest h.entries.items };
+    ghost invariant = { λ h. Bounds reaches h.greatest h.entries.items };
 }
 
 // Raises the greatest number of a client to that of a request that was sent.
-fn raise(greatest: &mut [u64; CLIENTS], happened: &Happened)
-    ensures { Raises greatest.old greatest.new happened.now }
+fn raise(greatest: &mut Greatest, happened: &Happened)
+    ensures { (events : List Entered) → Bounds reaches greatest.old events → Bounds reaches greatest.new (events ++ happened.now ∷ []) }
 {
     if !matches!(happened.why, Why::Sent) {
         return;
     }
-    let Some(token) = token_of(&happened.event) else {
-        return;
-    };
-    let client = usize::from(token.client);
-    if client < CLIENTS && greatest[client] < token.seq {
-        greatest[client] = token.seq;
+    if let Some(token) = token_of(&happened.event) {
+        greatest.raise(token.client, token.seq);
     }
 }
 
@@ -68,7 +64,7 @@ impl Events {
         Events {
             alloc,
             entries: Vec::new(alloc),
-            greatest: [0; CLIENTS],
+            greatest: Greatest::new(),
         }
     }
 
@@ -84,16 +80,16 @@ impl Events {
         ensures ok { OnOk result (self.new ≡ self.old ++ happened.now ∷ []) }
         ensures err { OnErr result (self.new ≡ self.old) }
     {
+        push_entry(self.alloc, &mut self.entries, happened)?;
         raise(&mut self.greatest, happened);
-        push_entry(self.alloc, &mut self.entries, happened)
+        Ok(())
     }
 
     /// Whether a request may not be made any more. It takes no memory.
     pub fn is_stale(&self, token: Token, event: &Event) -> bool
         ensures { result ≡ is_stale token event.now self.now }
     {
-        let client = usize::from(token.client);
-        if client < CLIENTS && self.greatest[client] < token.seq {
+        if self.greatest.is_above(token.client, token.seq) {
             return false;
         }
         is_stale(token, event, &self.entries)

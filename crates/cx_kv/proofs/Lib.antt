@@ -1,3 +1,4 @@
+pub mod Behind
 pub mod Keys
 pub mod Maps
 pub mod Names

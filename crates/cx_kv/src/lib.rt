@@ -1,19 +1,22 @@
-//! The key-value map of a replica: one step of the fold of commands.
+//! The key-value map of a replica, and the fold of commands.
 //!
-//! Replicas stand on it. A step leaves the map and gives the reply that the definitions of the fold name: `Store::apply`.
+//! Replicas stand on its step, which leaves the map and gives the reply that the definitions of the fold name: `Store::apply`.
+//! Summaries of runs stand on the whole fold: `fold`.
 #![tactic(auto)]
 
 mod append;
+mod folding;
 mod order;
 mod pairs;
 mod store;
 
+pub use folding::fold;
 pub use store::Store;
 
 #[cfg(test)]
 mod tests {
     use super::*;
-    use cx_base::{Command, Duplicate, Key, Op, Reply, Text};
+    use cx_base::{Command, Duplicate, Few, Key, Op, Reply, Text, Value};
     use std::test::Fail;
 
     #[test]
@@ -44,6 +47,27 @@ mod tests {
         assert_eq!(rt; text.as_slice(), b" a=1 b=11".as_slice());
         assert_eq!(rt; store.get(&a).copied(), Some(one));
         assert_eq!(rt; store.as_slice().len(), 2);
+        Ok(())
+    }
+
+    #[test]
+    fn folds(rt: HostRuntime) -> Result<(), Fail> {
+        let alloc = rt.alloc();
+        let key = Key::from_bytes(b"a").ok_or("a key")?;
+        let one = Text::from_bytes(b"1").ok_or("a text")?;
+        let command = |client, seq| Command {
+            client,
+            seq,
+            op: Op::App(key, one),
+        };
+        let values = [
+            Value::Batch(Few::from_vec(vec![in alloc; command(0, 2)]?)),
+            Value::Noop,
+            Value::Batch(Few::from_vec(vec![in alloc; command(0, 1), command(0, 2)]?)),
+            Value::Batch(Few::from_vec(vec![in alloc; command(1, 1), command(0, 3)]?)),
+        ];
+        let store = fold(alloc, &values)?;
+        assert_eq!(rt; store.get(&key).copied(), Text::from_bytes(b"111"));
         Ok(())
     }
 }

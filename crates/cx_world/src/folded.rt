@@ -1,14 +1,12 @@
 //! What a replica's kept values leave in the map.
 
-ghost use Rattle.std.specs.Prelude.{◌≡◌, [], IfOk, OnOk};
-ghost use Rattle.cx_base.specs.Fold.{command_list, map_behind};
+ghost use Rattle.std.specs.Prelude.{◌≡◌, IfOk, OnOk};
 ghost use Rattle.cx_model.specs.Replica.{replica_after};
 ghost use Rattle.cx_model.specs.World.{log_of};
 ghost use Rattle.cx_world.specs.Folded.{folded_of};
 
-use crate::acting::{CLIENTS, acts_behind, raise};
-use cx_base::{Command, Kind, NoMemory, RoleId, Value, copy_all};
-use cx_kv::Store;
+use cx_base::{Kind, NoMemory, RoleId, Value, copy_all};
+use cx_kv::fold;
 use cx_msg::{KeptRecord, Record};
 use cx_trace::Folded;
 use std::alloc::Global;
@@ -37,42 +35,13 @@ fn keep(alloc: Global, what: &Record, log: &mut Vec<Value>) -> Result<(), NoMemo
     Ok(())
 }
 
-// The commands of values, in order.
-fn commands(alloc: Global, values: &[Value]) -> Result<Vec<Command>, NoMemory>
-    ensures { IfOk result (λ commands. commands.items ≡ command_list values.now) }
-{
-    let mut commands = Vec::new(alloc);
-    for value in values {
-        if let Value::Batch(batch) = value {
-            commands.extend_from_slice(batch.as_slice())?;
-        }
-    }
-    Ok(commands)
-}
-
-// The map behind the commands, of which those act that act behind all before them.
-fn map_behind(alloc: Global, commands: &[Command]) -> Result<Store, NoMemory>
-    ensures { IfOk result (λ store. store ≡ map_behind [] [] commands.now) }
-{
-    let mut store = Store::new(alloc)?;
-    let mut greatest = [0; CLIENTS];
-    for (place, command) in commands.iter().enumerate() {
-        if acts_behind(&greatest, &commands[..place], command) {
-            store.apply(command)?;
-        }
-        raise(&mut greatest, command);
-    }
-    Ok(store)
-}
-
 /// How many values a replica kept, and the map that they leave.
 pub fn folded(alloc: Global, kept: &[KeptRecord], replica: u16) -> Result<Folded, NoMemory>
     ensures { IfOk result (λ folded. folded ≡ folded_of replica kept.now) }
 {
     let log = log(alloc, kept, replica)?;
-    let commands = commands(alloc, &log)?;
     Ok(Folded {
         held: log.len() as u64,
-        store: map_behind(alloc, &commands)?,
+        store: fold(alloc, &log)?,
     })
 }

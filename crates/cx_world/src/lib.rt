@@ -5,7 +5,6 @@
 //! the run of its events, and that run is lawful: agreement, one command list, fresh reads, safe retirement (`World::law`).
 #![tactic(auto)]
 
-mod acting;
 mod change;
 mod chosen;
 mod counts;

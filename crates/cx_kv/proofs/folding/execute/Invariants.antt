@@ -1,0 +1,9 @@
+use Rattle.std.proofs.Common.{◌≡◌, ◌++◌, drop}
+use Rattle.cx_base.specs.Fold.{map_behind}
+use Rattle.cx_kv.proofs.folding.execute.Given as goal
+
+abbrev pub invariant-loop-command : goal.invariant-loop-command
+invariant-loop-command l = record {
+  store : map_behind l.before l.store (drop l.command-index l.commands) ≡ map_behind l.fn.before l.fn.store l.commands;
+  before : l.before ++ drop l.command-index l.commands ≡ l.fn.before ++ l.commands;
+}
