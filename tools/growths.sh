@@ -1,8 +1,11 @@
 #!/usr/bin/env bash
-# Refuses each growth of memory in turn while a crate's tests run, and says how many were refused and how the runs ended. A run may fail its test, by an
-# error or an assertion, since a call answers that memory is wanting; it must not fault or hang. Use: tools/growths.sh CRATE.. (each is proved and built by
-# `rt test` first), or tools/growths.sh --program PROGRAM WORD.. for each growth of one run of a program, whose input is this script's own: it must end
-# with the status of want of memory, or with 0.
+# Refuses each growth of memory in turn, and says how many were refused, how the runs ended, and what stood after each.
+#   tools/growths.sh CRATE..                   while the tests of a crate run, which `rt test` proves and builds first. A run may fail its test, by an
+#                                              error or an assertion, since a call answers that memory is wanting; it must not fault or hang.
+#   tools/growths.sh --program PROGRAM WORD..  of one run of a program, whose input is this script's own. It must end with the status of want of
+#                                              memory, or with 0. What it wrote must be whole lines, a front of what it writes where nothing is refused
+#                                              (a node's text depends on its sockets: of it the lines alone are looked at), and a second run in its
+#                                              folder, with nothing refused, must end well: its stores stand.
 set -u
 top="$(cd "$(dirname "${BASH_SOURCE[0]}")/.." && pwd)"
 room=$(mktemp -d)
@@ -22,6 +25,17 @@ refused() {
   count=$(cat "$room/count" 2>/dev/null || echo 0)
 }
 
+# stands PROGRAM WORD..: whether what the last run left is as it should be
+stands() {
+  local size
+  size=$(stat -c %s "$room/out")
+  [[ -z $(tail -c 1 "$room/out") ]] || { echo "a line is cut"; return 1; }
+  [[ $2 == node ]] || cmp -s -n "$size" "$room/out" "$room/whole" || { echo "the text is no front of the whole run's"; return 1; }
+  (cd "$room/run" && exec timeout 60 "$@" >"$room/again" 2>"$room/err" <"$room/in")
+  [[ " $again " == *" $? "* ]] || { echo "a second run does not end well: $(tail -n 1 "$room/err")"; return 1; }
+  stood=$((stood + 1))
+}
+
 # A failed assertion of a test aborts it.
 is_well() {
   [[ " $wanted " == *" $status "* ]] || { [[ $status == 134 ]] && grep -q '^assertion' "$room/err"; }
@@ -39,6 +53,9 @@ each() {
       faults=$((faults + 1))
       echo "growth $n of $*: status $status"
       tail -n 3 "$room/err"
+    elif [[ -n $again ]] && ! stands "$@"; then
+      faults=$((faults + 1))
+      echo "growth $n of $*: see above"
     fi
     n=$((n + 1))
   done
@@ -50,17 +67,21 @@ endings() {
   for status in "${!ended[@]}"; do echo -n ", ${ended[$status]} with status $status"; done
 }
 
-worst=0
+worst=0 again=""
 declare -A ended=()
 if [[ ${1:-} == --program ]]; then
   shift
   cat >"$room/in"
   program=$(realpath "$1")
   shift
-  tried=0 faults=0 wanted="0 9"
+  tried=0 faults=0 stood=0 wanted="0 9" again="0"
+  [[ $1 == node ]] && again="0 8"
+  refused 0 "$program" "$@"
+  cp "$room/out" "$room/whole"
   each "$program" "$@"
   set -- "$program" "$@"
   echo "$*: $tried growths refused$(endings), $faults faults"
+  echo "after $stood of them: whole lines, and a second run in the same folder that ends well"
   exit $((faults > 0))
 fi
 : >"$room/in"

@@ -27,7 +27,7 @@ pub fn step_into(
 {
     let effect = world.step(event)?;
     event_into(event, &effect, text)?;
-    let sent = world.sent_since(effect.first)?;
+    let sent = world.sent().since(effect.first)?;
     datagrams_into(alloc, effect.first, &sent, text)
 }
 

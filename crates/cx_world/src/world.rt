@@ -1,6 +1,6 @@
 //! The world: all roles, and the histories of what happened.
 
-ghost use Rattle.std.specs.Prelude.{◌≡◌, ◌≤◌, ◌++◌, ◌∷◌, [], true, false, IfOk, OnOk, OnErr, IsTrue, length, drop, option_to_list, slice_get};
+ghost use Rattle.std.specs.Prelude.{◌≡◌, ◌++◌, ◌∷◌, [], true, false, IfOk, OnOk, OnErr, IsTrue, option_to_list, slice_get};
 ghost use Rattle.cx_base.specs.Asked.{takes_event};
 ghost use Rattle.cx_model.specs.Chosen.{chosen_prefix};
 ghost use Rattle.cx_model.specs.World.{step, start, run, event_list};
@@ -168,12 +168,11 @@ impl World {
         &self.cluster
     }
 
-    /// The datagrams that were sent since there were so many.
-    pub fn sent_since(&self, first: u64) -> Result<Vec<Datagram>, NoMemory>
-        requires { first ≤ length self.now.world.sent }
-        ensures { IfOk result (λ list. list.items ≡ drop first self.now.world.sent) }
+    /// The datagrams that were sent, numbered from 0. It takes no memory.
+    pub fn sent(&self) -> &Sent
+        ensures { result.now ≡ self.now.world.sent }
     {
-        self.sent.since(first)
+        &self.sent
     }
 
     /// The datagram of this number, None exactly where it wasn't sent.
