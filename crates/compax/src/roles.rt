@@ -1,16 +1,15 @@
 //! The roles that words name.
 
-ghost use Rattle.std.specs.Prelude.{◌≡◌, ◌==◌, ◌&&◌, ◌+◌, ◌*◌, ◌^◌, ℕ, nat_lt, if◌then◌else◌, map, position, IfOk, None, Some, option_map, slice_get};
-ghost use Rattle.std.specs.Char.{is_ascii_digit, digit_value};
-ghost use Rattle.std.specs.List.{before_first, after_first, list_any};
+ghost use Rattle.std.specs.Prelude.{◌≡◌, ℕ, map, IfOk, Some, option_map, slice_get};
+ghost use Rattle.std.specs.List.{list_any};
 ghost use Rattle.std.specs.Str.{bytes_eq};
 ghost use Rattle.cx_base.specs.declared.role.RoleId.{RoleId};
 ghost use Rattle.cx_base.specs.Role.{same_role};
 ghost use Rattle.cx_script.specs.Places.{index_below};
-ghost use Rattle.cx_script.specs.Words.{number_of};
 ghost use Rattle.compax.specs.Roles.{all_roles, kind_named, role_of, roles_of, stand_once};
 
 use cx_base::{Kind, RoleId};
+use cx_script::{number, parted};
 use std::alloc::{AllocError, Global};
 use std::marker::Model;
 
@@ -56,46 +55,6 @@ fn kind_named(name: &[u8]) -> Option<Kind>
     KINDS.iter().copied().find(|kind| is(name, kind.text()))
 }
 
-fn colon(word: &[u8]) -> Option<usize>
-    ensures { result ≡ position (λ b. b == 58) word.now }
-{
-    word.iter().position(|byte| *byte == b':')
-}
-
-// What stands before the first colon of a word and what behind it: the whole word and nothing where there is none.
-fn parted(word: &[u8]) -> (&[u8], &[u8])
-    ensures front { result.0.now ≡ before_first (λ b. b == 58) word.now }
-    ensures back { result.1.now ≡ after_first (λ b. b == 58) word.now }
-{
-    match colon(word) {
-        Some(place) => (&word[..place], &word[place + 1..]),
-        None => (word, &[]),
-    }
-}
-
-fn with_digit(number: u64, byte: u8) -> Option<u64>
-    ensures { result ≡ (if is_ascii_digit byte && nat_lt (number * 10 + digit_value byte) (2 ^ 64) then Some (number * 10 + digit_value byte) else None) }
-{
-    if !byte.is_ascii_digit() {
-        return None;
-    }
-    number.checked_mul(10)?.checked_add(u64::from(byte - b'0'))
-}
-
-// The number that decimal digits spell, where it has at most 64 bits.
-fn number(digits: &[u8]) -> Option<u64>
-    ensures { result ≡ number_of digits.now }
-{
-    if digits.is_empty() {
-        return None;
-    }
-    let mut number = 0;
-    for byte in digits {
-        number = with_digit(number, *byte)?;
-    }
-    Some(number)
-}
-
 fn index(digits: &[u8]) -> Option<u16>
     ensures { result ≡ index_below 65536 digits.now }
 {
@@ -110,7 +69,7 @@ fn index(digits: &[u8]) -> Option<u16>
 fn role_of(word: &str) -> Option<RoleId>
     ensures { result ≡ role_of word.now }
 {
-    let (name, digits) = parted(word.as_bytes());
+    let (name, digits) = parted(word.as_bytes(), b':');
     let kind = kind_named(name)?;
     let index = index(digits)?;
     Some(RoleId::new(kind, index))

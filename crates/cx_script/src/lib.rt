@@ -8,9 +8,7 @@
 //! `script` of each client is one that a client may be opened with (`requests_rise`).
 //!
 //! Where a source fails in the middle, its reader has only whole lines to go by: a line that isn't ended by a line feed is then no
-//! line, except that more than 1,024 bytes of it, or 16,384 in the header, are a fault by themselves. `counted` cuts the bytes
-//! so, for `split_header` and `read_schedule` to read, and `is_long_header` tells of a header that hasn't ended whether it is
-//! bad already.
+//! line, except that more than 1,024 bytes of it, or 16,384 in the header, are a fault by themselves (`specs/Unended.antt`).
 #![tactic(auto)]
 
 mod count;
@@ -27,7 +25,6 @@ mod requests;
 mod split;
 #[cfg(test)]
 mod tests;
-mod unended;
 mod words;
 
 pub use event::{MAX_LINE_LENGTH, line};
@@ -36,5 +33,6 @@ pub use generator::{Gen, gen_cluster};
 pub use header::{MAX_HEADER_LENGTH, split_header};
 pub use law::{generated_events_are_taken, requests_rise, spelled_events_are_taken};
 pub use lines::{MAX_LINES, Schedule, read_schedule};
+pub use number::number;
 pub use requests::{read_requests, script};
-pub use unended::{counted, is_long_header};
+pub use split::parted;

@@ -1,9 +1,0 @@
-use Rattle.std.proofs.Common.{◌≡◌, ◌<◌, ◌^◌, drop}
-use Rattle.cx_script.proofs.Digits.{after}
-use Rattle.compax.proofs.roles.number.Given as goal
-
-abbrev pub invariant-loop-byte : goal.invariant-loop-byte
-invariant-loop-byte l = record {
-  decided : after l.number (drop l.byte-index l.digits) ≡ after 0 l.digits;
-  fits : l.number < 2 ^ 64;
-}
