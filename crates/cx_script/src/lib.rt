@@ -12,6 +12,7 @@
 #![tactic(auto)]
 
 mod count;
+mod digits;
 mod event;
 mod fault;
 mod generator;
@@ -19,7 +20,6 @@ mod grid;
 mod header;
 mod law;
 mod lines;
-mod number;
 mod place;
 mod requests;
 mod split;
@@ -27,12 +27,12 @@ mod split;
 mod tests;
 mod words;
 
+pub use digits::number;
 pub use event::{MAX_LINE_LENGTH, line};
 pub use fault::LineFault;
 pub use generator::{Gen, gen_cluster};
 pub use header::{MAX_HEADER_LENGTH, split_header};
 pub use law::{generated_events_are_taken, requests_rise, spelled_events_are_taken};
 pub use lines::{MAX_LINES, Schedule, read_schedule};
-pub use number::number;
 pub use requests::{read_requests, script};
 pub use split::parted;
