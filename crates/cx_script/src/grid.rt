@@ -4,7 +4,7 @@ ghost use Rattle.std.specs.Prelude.{◌≡◌, ◌==◌, ◌<◌, length, Some, 
 ghost use Rattle.std.specs.List.{slice_split};
 ghost use Rattle.cx_script.specs.Places.{sides_of, sides_word, ids_of, members_word};
 
-use crate::digits::number;
+use crate::decimal::number;
 use crate::fault::LineFault;
 use crate::place::index_below;
 use crate::split::{first_part, parted};

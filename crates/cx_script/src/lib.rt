@@ -12,7 +12,7 @@
 #![tactic(auto)]
 
 mod count;
-mod digits;
+mod decimal;
 mod event;
 mod fault;
 mod generator;
@@ -27,7 +27,7 @@ mod split;
 mod tests;
 mod words;
 
-pub use digits::number;
+pub use decimal::number;
 pub use event::{MAX_LINE_LENGTH, line};
 pub use fault::LineFault;
 pub use generator::{Gen, gen_cluster};

@@ -5,7 +5,7 @@ ghost use Rattle.std.specs.Str.{bytes_eq};
 ghost use Rattle.cx_script.specs.Places.{seq_word, number_word, key_word, text_word, index_below, index_word, server_kind, server_word};
 
 use crate::count::count_of;
-use crate::digits::number;
+use crate::decimal::number;
 use crate::fault::LineFault;
 use crate::split::parted;
 use cx_base::{Cluster, Key, Kind, RoleId, Text};

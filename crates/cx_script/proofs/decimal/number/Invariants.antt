@@ -1,6 +1,6 @@
 use Rattle.std.proofs.Common.{◌≡◌, ◌<◌, ◌^◌, drop}
 use Rattle.cx_script.proofs.Digits.{after}
-use Rattle.cx_script.proofs.digits.number.Given as goal
+use Rattle.cx_script.proofs.decimal.number.Given as goal
 
 abbrev pub invariant-loop-byte : goal.invariant-loop-byte
 invariant-loop-byte l = record {
