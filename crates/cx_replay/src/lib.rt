@@ -16,3 +16,4 @@ mod step;
 
 pub use generating::run_gen;
 pub use replaying::replay;
+pub use step::{end_into, step_into};
