@@ -8,7 +8,9 @@
 //! `script` of each client is one that a client may be opened with (`requests_rise`).
 //!
 //! Where a source fails in the middle, its reader has only whole lines to go by: a line that isn't ended by a line feed is then no
-//! line, except that more than 1,024 bytes of it, or 16,384 in the header, are a fault by themselves (`specs/Unended.antt`).
+//! line, except that more than 1,024 bytes of it, or 16,384 in the header, are a fault by themselves. `counted` cuts the bytes
+//! so, for `split_header` and `read_requests` to read, and `is_long_header` tells of a header that hasn't ended whether it is
+//! bad already.
 #![tactic(auto)]
 
 mod count;
@@ -25,6 +27,7 @@ mod requests;
 mod split;
 #[cfg(test)]
 mod tests;
+mod unended;
 mod words;
 
 pub use decimal::number;
@@ -36,3 +39,4 @@ pub use law::{generated_events_are_taken, requests_rise, spelled_events_are_take
 pub use lines::{MAX_LINES, Schedule, read_schedule};
 pub use requests::{read_requests, script};
 pub use split::parted;
+pub use unended::{counted, is_long_header};

@@ -1,0 +1,63 @@
+//! What counts of bytes behind which others may come.
+
+ghost use Rattle.std.specs.Prelude.{◌≡◌, ◌≤◌, ◌==◌, drop, length, position, take};
+ghost use Rattle.cx_script.specs.Unended.{counted, is_long_header, unended, whole_lines};
+
+use crate::header::MAX_HEADER_LENGTH;
+use crate::lines::{first_line, without_return};
+use crate::split::place_of;
+
+const LINE_FEED: u8 = b'\n';
+
+// How far behind the start the next line feed is.
+fn feed_from(bytes: &[u8], start: usize) -> Option<usize>
+    requires { start ≤ length bytes.now }
+    ensures { result ≡ position (λ b. b == 10) (drop start bytes.now) }
+{
+    place_of(&bytes[start..], LINE_FEED)
+}
+
+// How many bytes the whole lines have.
+fn whole_length(bytes: &[u8]) -> usize
+    ensures within { result ≤ length bytes.now }
+    ensures whole { take result bytes.now ≡ whole_lines bytes.now }
+    ensures last { drop result bytes.now ≡ unended bytes.now }
+{
+    let mut start = 0;
+    while let Some(place) = feed_from(bytes, start) {
+        start += place + 1;
+    }
+    start
+}
+
+/// What counts of bytes behind which others may come, where a line has at most so many bytes: the whole lines, which are ended
+/// by a line feed, and the last one too where it is longer already. It takes no memory.
+#[tactic(auto, unfolding(crate::specs::Unended::counted))]
+pub fn counted(bytes: &[u8], most: usize) -> &[u8]
+    ensures { result.now ≡ counted most bytes.now }
+{
+    let (whole, last) = bytes.split_at(whole_length(bytes));
+    if without_return(last).len() > most {
+        bytes
+    } else {
+        whole
+    }
+}
+
+/// Whether the lines of a header that hasn't ended have more than 16,384 bytes, each with a line feed in place of a carriage
+/// return and a line feed. It takes no memory.
+#[tactic(auto, unfolding(crate::specs::Unended::is_long_header))]
+pub fn is_long_header(bytes: &[u8]) -> bool
+    ensures { result ≡ is_long_header bytes.now }
+{
+    let mut rest = bytes;
+    let mut room = MAX_HEADER_LENGTH;
+    while let Some((line, behind)) = first_line(rest) {
+        if line.len() >= room {
+            return true;
+        }
+        room -= line.len() + 1;
+        rest = behind;
+    }
+    false
+}
