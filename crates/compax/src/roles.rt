@@ -1,7 +1,7 @@
 //! The roles that words name.
 
-ghost use Rattle.std.specs.Prelude.{◌≡◌, ℕ, map, IfOk, Some, option_map, slice_get};
-ghost use Rattle.std.specs.List.{list_any};
+ghost use Rattle.std.specs.Prelude.{◌≡◌, ◌==◌, ℕ, map, IfOk, Some, option_map, slice_get};
+ghost use Rattle.std.specs.List.{before_first, after_first, list_any};
 ghost use Rattle.std.specs.Str.{bytes_eq};
 ghost use Rattle.cx_base.specs.declared.role.RoleId.{RoleId};
 ghost use Rattle.cx_base.specs.Role.{same_role};
@@ -55,6 +55,14 @@ fn kind_named(name: &[u8]) -> Option<Kind>
     KINDS.iter().copied().find(|kind| is(name, kind.text()))
 }
 
+// What stands before the first colon of a word and what behind it.
+fn parts(word: &[u8]) -> (&[u8], &[u8])
+    ensures front { result.0.now ≡ before_first (λ b. b == 58) word.now }
+    ensures back { result.1.now ≡ after_first (λ b. b == 58) word.now }
+{
+    parted(word, b':')
+}
+
 fn index(digits: &[u8]) -> Option<u16>
     ensures { result ≡ index_below 65536 digits.now }
 {
@@ -69,7 +77,7 @@ fn index(digits: &[u8]) -> Option<u16>
 fn role_of(word: &str) -> Option<RoleId>
     ensures { result ≡ role_of word.now }
 {
-    let (name, digits) = parted(word.as_bytes(), b':');
+    let (name, digits) = parts(word.as_bytes());
     let kind = kind_named(name)?;
     let index = index(digits)?;
     Some(RoleId::new(kind, index))

@@ -1,6 +1,6 @@
 //! A replay that reads its input whole before it runs it.
 
-ghost use Rattle.std.specs.Prelude.{◌≡◌, ◌++◌, IfOk, IsTrue};
+ghost use Rattle.std.specs.Prelude.{◌≡◌, ◌++◌, IfOk, IsTrue, OnOk};
 ghost use Rattle.std.specs.List.{list_all};
 ghost use Rattle.cx_base.specs.Asked.{takes_event};
 ghost use Rattle.cx_cluster.specs.Reading.{header_cluster};
@@ -14,6 +14,16 @@ use cx_replay::{end_into, step_into};
 use cx_script::{read_schedule, spelled_events_are_taken, split_header};
 use cx_world::World;
 use std::alloc::Global;
+
+// Puts the summary behind a text, where it is wanted.
+fn end_text(alloc: Global, world: &World, summed: bool, text: &mut Vec<u8>) -> Result<(), NoMemory>
+    ensures { OnOk result (text.new.items ≡ text.old.items ++ ending summed world.now.world) }
+{
+    if summed {
+        end_into(alloc, world, text)?;
+    }
+    Ok(())
+}
 
 // Runs the events from the start of a cluster: the lines of each, and the summary where it is wanted.
 fn run_text(
@@ -30,9 +40,7 @@ fn run_text(
     for event in events {
         step_into(alloc, &mut world, event, &mut text)?;
     }
-    if summed {
-        end_into(alloc, &world, &mut text)?;
-    }
+    end_text(alloc, &world, summed, &mut text)?;
     Ok(text)
 }
 
