@@ -5,7 +5,7 @@
 #   tools/growths.sh --program PROGRAM WORD..  of one run of a program, whose input is this script's own. It must end with the status of want of
 #                                              memory, or with 0. What it wrote must be whole lines, a front of what it writes where nothing is refused
 #                                              (a node's text depends on its sockets: of it the lines alone are looked at), and a second run in its
-#                                              folder, with nothing refused, must end well: its stores stand.
+#                                              folder, with nothing refused, must end well (a node's within 500 turns): its stores stand.
 set -u
 top="$(cd "$(dirname "${BASH_SOURCE[0]}")/.." && pwd)"
 room=$(mktemp -d)
@@ -31,8 +31,11 @@ stands() {
   size=$(stat -c %s "$room/out")
   [[ -z $(tail -c 1 "$room/out") ]] || { echo "a line is cut"; return 1; }
   [[ $2 == node ]] || cmp -s -n "$size" "$room/out" "$room/whole" || { echo "the text is no front of the whole run's"; return 1; }
+  # A client's earlier commands, asked for again behind its last one, get no answer: a node's second run is cut short.
+  [[ $2 == node ]] && set -- "$1" node --turns 500 "${@:3}"
   (cd "$room/run" && exec timeout 60 "$@" >"$room/again" 2>"$room/err" <"$room/in")
-  [[ " $again " == *" $? "* ]] || { echo "a second run does not end well: $(tail -n 1 "$room/err")"; return 1; }
+  status=$?
+  [[ " $again " == *" $status "* ]] || { echo "a second run does not end well: status $status, $(tail -n 1 "$room/err")"; return 1; }
   stood=$((stood + 1))
 }
 
