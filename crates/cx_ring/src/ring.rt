@@ -1,0 +1,158 @@
+//! Values of the slots of a window.
+
+ghost use Rattle.std.specs.Prelude.{◌≡◌, ◌==◌, ◌<◌, ◌≤◌, ◌+◌, ◌^◌, [], true, false, length, replicate, None, IfOk, OnOk, OnErr};
+ghost use Rattle.std.specs.Option.{option_copied};
+ghost use Rattle.cx_ring.specs.Ring.{value_at, with_value, raised};
+ghost use Rattle.cx_ring.specs.Places.{emptied, are_empty};
+
+use crate::order::{Slotted, from, kept, none, with};
+use crate::told::Told;
+use cx_base::{Duplicate, NoMemory};
+use std::alloc::Global;
+use std::marker::{Model, PhantomData};
+
+/// How many slots the window has.
+const SLOTS: u64 = 32;
+
+/// Values of the slots of a window of 32, at most one a slot: looked up at once, where contracts see the list of them in the
+/// order in which their slots came. The window moves up only.
+#[derive(Drop)]
+pub struct Ring<T: Drop, S: Slotted<T>> {
+    first: u64,
+    // The value of a slot stands at the place of its number modulo 32.
+    places: Vec<Option<T>>,
+    told: Told<T>,
+    by: PhantomData<S>,
+}
+
+impl<T: Drop, S: Slotted<T>> Model for Ring<T, S> {
+    ghost use Rattle.std.specs.Prelude.{◌==◌, vec_len};
+    ghost use Rattle.cx_ring.specs.Ring.{RingState, IsRing};
+
+    ghost Value = { RingState T };
+
+    ghost view = { λ r. record { first = r.first; items = r.told.items; room = vec_len r.places == 32 } };
+
+    ghost invariant = { λ r. IsRing S.at r.first r.places.items r.told.items };
+}
+
+// The place of a slot.
+fn place_of(slot: u64) -> usize {
+    (slot % SLOTS) as usize
+}
+
+fn no_places<T: Drop>(alloc: Global) -> Result<Vec<Option<T>>, NoMemory>
+    ensures { IfOk result (λ places. places.items ≡ replicate 32 None) }
+{
+    let mut places = Vec::with_capacity(alloc, SLOTS as usize)?;
+    for _ in 0..SLOTS {
+        places.push(None)?;
+    }
+    Ok(places)
+}
+
+// Empties the places of so many slots from the first on.
+fn empty<T: Drop>(places: &mut Vec<Option<T>>, first: u64, count: u64)
+    requires { first + count < 2 ^ 64 }
+    ensures { places.new.items ≡ emptied first count places.old.items }
+{
+    for slot in first..first + count {
+        if let Some(place) = places.get_mut(place_of(slot)) {
+            *place = None;
+        }
+    }
+}
+
+fn are_empty<T>(places: &[Option<T>]) -> bool
+    ensures { result ≡ are_empty places.now }
+{
+    for place in places {
+        if place.is_some() {
+            return false;
+        }
+    }
+    true
+}
+
+impl<T: Drop, S: Slotted<T>> Ring<T, S> {
+    /// No values, of the window that begins at a slot. It takes no memory.
+    pub fn new(alloc: Global, first: u64) -> Self
+        requires { first ≤ 2 ^ 40 }
+        ensures { result ≡ record { first = first; items = []; room = false } }
+    {
+        Ring {
+            first,
+            places: Vec::new(alloc),
+            told: none(),
+            by: PhantomData,
+        }
+    }
+
+    /// Makes room for a value of each slot.
+    pub fn make_room(&mut self, alloc: Global) -> Result<(), NoMemory>
+        ensures ok { OnOk result (self.new ≡ record self.old { room = true }) }
+        ensures err { OnErr result (self.new ≡ self.old) }
+    {
+        if self.places.is_empty() {
+            self.places = no_places(alloc)?;
+        }
+        Ok(())
+    }
+
+    /// The slot at which the window begins. It takes no memory.
+    pub fn first(&self) -> u64
+        ensures first { result ≡ self.now.first }
+        ensures limit { self.now.first ≤ 2 ^ 40 }
+    {
+        self.first
+    }
+
+    /// The value of a slot. It takes no memory.
+    pub fn get(&self, slot: u64) -> Option<&T>
+        ensures { option_copied result ≡ value_at S.at slot self.now.items }
+    {
+        if slot < self.first || slot - self.first >= SLOTS {
+            return None;
+        }
+        self.places.get(place_of(slot))?.as_ref()
+    }
+
+    /// Whether it has no value. It takes no memory.
+    pub fn is_empty(&self) -> bool
+        ensures { result ≡ (length self.now.items == 0) }
+    {
+        are_empty(&self.places)
+    }
+
+    /// Puts a value of a slot of the window into the place of the earlier one of its slot, which it answers. It takes no memory.
+    pub fn put(&mut self, one: T) -> Option<T>
+        requires room { self.old.room ≡ true }
+        requires low { self.old.first ≤ S.at one }
+        requires high { S.at one < self.old.first + 32 }
+        ensures items { self.new ≡ record self.old { items = with_value S.at one self.old.items } }
+        ensures earlier { result ≡ value_at S.at (S.at one) self.old.items }
+    {
+        self.told = with::<T, S>(&self.told, &one);
+        let place = place_of(S::slot(&one));
+        self.places[place].replace(one)
+    }
+
+    /// Lets the window begin at a slot, or leaves a later beginning; the values below it are dropped. It takes no memory.
+    pub fn raise(&mut self, first: u64)
+        requires { first ≤ 2 ^ 40 }
+        ensures { self.new ≡ raised S.at first self.old }
+    {
+        let first = self.first.max(first);
+        empty(&mut self.places, self.first, (first - self.first).min(SLOTS));
+        self.told = from::<T, S>(first, &self.told);
+        self.first = first;
+    }
+
+    /// Drops all values. It takes no memory.
+    pub fn clear(&mut self)
+        ensures { self.new ≡ record self.old { items = [] } }
+    {
+        empty(&mut self.places, self.first, SLOTS);
+        self.told = none();
+    }
+}
