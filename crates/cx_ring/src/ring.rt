@@ -1,9 +1,9 @@
 //! Values of the slots of a window.
 
-ghost use Rattle.std.specs.Prelude.{◌≡◌, ◌==◌, ◌<◌, ◌≤◌, ◌+◌, ◌^◌, [], true, false, length, replicate, None, IfOk, OnOk, OnErr};
+ghost use Rattle.std.specs.Prelude.{◌≡◌, ◌==◌, ◌<◌, ◌≤◌, ◌+◌, ◌%◌, ◌^◌, [], true, false, length, replicate, get_or, slice_set, None, IfOk, OnOk, OnErr};
 ghost use Rattle.std.specs.Option.{option_copied};
 ghost use Rattle.cx_ring.specs.Ring.{value_at, with_value, raised};
-ghost use Rattle.cx_ring.specs.Places.{emptied, are_empty};
+ghost use Rattle.cx_ring.specs.Places.{emptied};
 
 use crate::order::{Slotted, from, kept, none, with};
 use crate::told::Told;
@@ -37,7 +37,9 @@ impl<T: Drop, S: Slotted<T>> Model for Ring<T, S> {
 }
 
 // The place of a slot.
-fn place_of(slot: u64) -> usize {
+fn place_of(slot: u64) -> usize
+    ensures { result ≡ slot % 32 }
+{
     (slot % SLOTS) as usize
 }
 
@@ -51,27 +53,31 @@ fn no_places<T: Drop>(alloc: Global) -> Result<Vec<Option<T>>, NoMemory>
     Ok(places)
 }
 
+fn value_of<T>(places: &[Option<T>], place: usize) -> Option<&T>
+    ensures { option_copied result ≡ get_or places.now place None }
+{
+    match places.get(place) {
+        Some(one) => one.as_ref(),
+        None => None,
+    }
+}
+
+fn empty_place<T: Drop>(places: &mut Vec<Option<T>>, place: usize)
+    ensures { places.new.items ≡ slice_set places.old.items place None }
+{
+    if place < places.len() {
+        places[place] = None;
+    }
+}
+
 // Empties the places of so many slots from the first on.
 fn empty<T: Drop>(places: &mut Vec<Option<T>>, first: u64, count: u64)
     requires { first + count < 2 ^ 64 }
     ensures { places.new.items ≡ emptied first count places.old.items }
 {
     for slot in first..first + count {
-        if let Some(place) = places.get_mut(place_of(slot)) {
-            *place = None;
-        }
+        empty_place(places, place_of(slot));
     }
-}
-
-fn are_empty<T>(places: &[Option<T>]) -> bool
-    ensures { result ≡ are_empty places.now }
-{
-    for place in places {
-        if place.is_some() {
-            return false;
-        }
-    }
-    true
 }
 
 impl<T: Drop, S: Slotted<T>> Ring<T, S> {
@@ -114,14 +120,19 @@ impl<T: Drop, S: Slotted<T>> Ring<T, S> {
         if slot < self.first || slot - self.first >= SLOTS {
             return None;
         }
-        self.places.get(place_of(slot))?.as_ref()
+        value_of(&self.places, place_of(slot))
     }
 
     /// Whether it has no value. It takes no memory.
     pub fn is_empty(&self) -> bool
         ensures { result ≡ (length self.now.items == 0) }
     {
-        are_empty(&self.places)
+        for slot in self.first..self.first + SLOTS {
+            if self.get(slot).is_some() {
+                return false;
+            }
+        }
+        true
     }
 
     /// Puts a value of a slot of the window into the place of the earlier one of its slot, which it answers. It takes no memory.
@@ -143,7 +154,11 @@ impl<T: Drop, S: Slotted<T>> Ring<T, S> {
         ensures { self.new ≡ raised S.at first self.old }
     {
         let first = self.first.max(first);
-        empty(&mut self.places, self.first, (first - self.first).min(SLOTS));
+        empty(
+            &mut self.places,
+            self.first,
+            (first - self.first).min(SLOTS),
+        );
         self.told = from::<T, S>(first, &self.told);
         self.first = first;
     }
@@ -154,5 +169,33 @@ impl<T: Drop, S: Slotted<T>> Ring<T, S> {
     {
         empty(&mut self.places, self.first, SLOTS);
         self.told = none();
+    }
+}
+
+fn copy_places<T: Duplicate>(
+    alloc: Global,
+    places: &[Option<T>],
+) -> Result<Vec<Option<T>>, NoMemory>
+    ensures { IfOk result (λ copied. copied.items ≡ places.now) }
+{
+    let mut copied = Vec::with_capacity(alloc, places.len())?;
+    for place in places {
+        let one = match place {
+            None => None,
+            Some(one) => Some(one.copy(alloc)?),
+        };
+        copied.push(one)?;
+    }
+    Ok(copied)
+}
+
+impl<T: Duplicate, S: Slotted<T>> Duplicate for Ring<T, S> {
+    fn copy(&self, alloc: Global) -> Result<Self, NoMemory> {
+        Ok(Ring {
+            first: self.first,
+            places: copy_places(alloc, &self.places)?,
+            told: kept(&self.told),
+            by: PhantomData,
+        })
     }
 }
