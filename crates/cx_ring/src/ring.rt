@@ -154,11 +154,8 @@ impl<T: Drop, S: Slotted<T>> Ring<T, S> {
         ensures { self.new ≡ raised S.at first self.old }
     {
         let first = self.first.max(first);
-        empty(
-            &mut self.places,
-            self.first,
-            (first - self.first).min(SLOTS),
-        );
+        let count = (first - self.first).min(SLOTS);
+        empty(&mut self.places, self.first, count);
         self.told = from::<T, S>(first, &self.told);
         self.first = first;
     }

@@ -1,9 +1,10 @@
 -- The values that follow, one step on, and those that still wait.
-use Rattle.std.proofs.Common.{◌≡◌, ℕ, suc, ◌+◌, inl, inr, List, [], ◌∷◌, ◌++◌, refl, ap, sym, ◌∙◌, append_assoc, Some, filter, nat_le}
+use Rattle.std.proofs.Common.{◌≡◌, ℕ, suc, ◌+◌, inl, inr, List, [], ◌∷◌, ◌++◌, refl, ap, sym, ◌∙◌, append_assoc, Some, max, filter, nat_le}
 use Rattle.std.proofs.lemmas.Bool.{cases_Bool}
 use Rattle.cx_base.specs.Log.{following, still_early, value_for}
 use Rattle.cx_base.specs.declared.command.Value.{Value}
 use Rattle.cx_base.specs.declared.command.Placed.{Placed}
+use Rattle.cx_ring.specs.Ring.{RingState, raised}
 
 -- the value of a slot, and those that follow it
 pub following_more : (early : List Placed) (slot next later left : ℕ) (v : Value) → next ≡ slot + 1 → left ≡ suc later → value_for slot early ≡ Some v
@@ -21,3 +22,8 @@ still_early-filter held (p ∷ early) = elim (cases_Bool (nat_le held p.slot)) a
   | inl e ↦ rw e (ap (λ (rest : List Placed). p ∷ rest) (still_early-filter held early))
   | inr e ↦ rw e (still_early-filter held early)
 ]
+
+-- those that still wait once the window begins at the slots held
+pub still_raised : (s new : ℕ) (r later : RingState Placed) → later ≡ raised (λ (p : Placed). p.slot) s r → max r.first s ≡ new → later.items ≡ still_early new r.items
+still_raised s new r later e n =
+    ap (λ (x : RingState Placed). x.items) e ∙ ap (λ k. filter (λ (p : Placed). nat_le k p.slot) r.items) n ∙ still_early-filter new r.items

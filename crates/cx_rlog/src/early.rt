@@ -1,11 +1,13 @@
 //! Values that came before their turn.
 
-ghost use Rattle.std.specs.Prelude.{◌≡◌, ◌+◌, ◌<◌, ◌≤◌, ◌^◌, vec_len, OnErr, OnOk, IfOk};
+ghost use Rattle.std.specs.Prelude.{◌≡◌, ◌+◌, ◌<◌, ◌≤◌, ◌^◌, max, vec_len, OnErr, OnOk, IfOk};
 ghost use Rattle.std.specs.Option.{option_copied};
 ghost use Rattle.cx_base.specs.Log.{ready_values, still_early, value_for};
+ghost use Rattle.cx_ring.specs.Ring.{IsNear};
 ghost use Rattle.cx_rlog.specs.Taken.{waiting_with};
 
 use cx_base::{Duplicate, NoMemory, Placed, Value};
+use cx_ring::{Ring, Slotted};
 use std::alloc::Global;
 
 /// The number of slots.
@@ -14,52 +16,50 @@ const SLOTS: u64 = 1 << 40;
 /// The most values that may follow the next one at once.
 const FOLLOWING: u64 = 31;
 
-/// The value that waits for a slot.
-pub fn value_for(early: &[Placed], slot: u64) -> Option<&Value>
-    ensures { option_copied result ≡ value_for slot early.now }
-{
-    for placed in early {
-        if placed.slot == slot {
-            return Some(&placed.value);
-        }
+/// A value that waits stands at its slot.
+pub struct Waiting;
+
+impl Slotted<Placed> for Waiting {
+    ghost at = { λ p. p.slot };
+
+    fn slot(one: &Placed) -> u64 {
+        one.slot
     }
-    None
+}
+
+/// The values that wait, in a window from the slots held on.
+pub type Early = Ring<Placed, Waiting>;
+
+/// The value that waits for a slot.
+pub fn value_for(early: &Early, slot: u64) -> Option<&Value>
+    ensures { option_copied result ≡ value_for slot early.now.items }
+{
+    match early.get(slot) {
+        Some(placed) => Some(&placed.value),
+        None => None,
+    }
 }
 
 /// Lets a value wait, where none waits for its slot.
-pub fn wait(
-    alloc: Global,
-    early: &mut Vec<Placed>,
-    slot: u64,
-    value: &Value,
-) -> Result<(), NoMemory>
+pub fn wait(alloc: Global, early: &mut Early, slot: u64, value: &Value) -> Result<(), NoMemory>
+    requires { IsNear early.old.first slot }
     ensures ok { OnOk result (early.new.items ≡ waiting_with (value_for slot early.old.items) slot value.now early.old.items) }
     ensures err { OnErr result (early.new.items ≡ early.old.items) }
+    ensures first { early.new.first ≡ early.old.first }
 {
-    if value_for(early.as_slice(), slot).is_some() {
+    if value_for(early, slot).is_some() {
         return Ok(());
     }
     let value = value.copy(alloc)?;
-    early.push(Placed { slot, value })?;
+    early.make_room(alloc)?;
+    early.put(Placed { slot, value });
     Ok(())
 }
 
-/// Drops those that wait no longer once so many slots are held.
-pub fn keep_early(early: &mut Vec<Placed>, held: u64)
-    ensures { early.new.items ≡ still_early held early.old.items }
-{
-    early.retain(|placed| held <= placed.slot);
-}
-
 /// A value for the slot held, and the waiting ones that follow it.
-pub fn ready(
-    alloc: Global,
-    early: &[Placed],
-    held: u64,
-    value: &Value,
-) -> Result<Vec<Value>, NoMemory>
+pub fn ready(alloc: Global, early: &Early, held: u64, value: &Value) -> Result<Vec<Value>, NoMemory>
     requires { held < 2 ^ 40 }
-    ensures values { IfOk result (λ values. values.items ≡ ready_values held early.now value.now) }
+    ensures values { IfOk result (λ values. values.items ≡ ready_values held early.now.items value.now) }
     ensures some { IfOk result (λ values. 1 ≤ vec_len values) }
     ensures few { IfOk result (λ values. vec_len values ≤ 32) }
     ensures short { IfOk result (λ values. held + vec_len values ≤ 2 ^ 40) }

@@ -7,9 +7,10 @@ ghost use Rattle.cx_rlog.specs.State.{IsReady, LogState};
 ghost use Rattle.cx_rlog.specs.Taken.{early_after, taken_at};
 ghost use Rattle.cx_rlog.specs.declared.taken.Taken.TheVariants.{Early};
 
-use crate::early;
+use crate::early::{self, Early};
 use crate::taken::Taken;
-use cx_base::{Duplicate, Few, NoMemory, Placed, Value, copy_all};
+use cx_base::{Duplicate, Few, NoMemory, Value, copy_all};
+use cx_ring::Ring;
 use std::alloc::Global;
 use std::marker::Model;
 
@@ -18,10 +19,11 @@ const AHEAD: u64 = 32;
 
 /// The chosen values in slot order, and those that came before their turn (VLDB 2021: replicas execute in slot order).
 /// Slots are below 2^40, and a value waits at most 31 slots ahead (this project's own limits).
-#[derive(Debug, Drop)]
+#[derive(Drop)]
 pub struct Log {
     list: Vec<Value>,
-    early: Vec<Placed>,
+    // Its window begins at the slots held.
+    early: Early,
     spare: usize,
 }
 
@@ -33,7 +35,7 @@ impl Model for Log {
 
     ghost view = { λ log. record { list = log.list.items; early = log.early.items; spare = log.spare } };
 
-    ghost invariant = { λ log. IsLog (vec_len log.list) (vec_capacity log.list) log.spare log.early.items };
+    ghost invariant = { λ log. IsLog (vec_len log.list) (vec_capacity log.list) log.spare log.early.first log.early.items };
 }
 
 impl Log {
@@ -43,7 +45,7 @@ impl Log {
     {
         Ok(Log {
             list: Vec::new(alloc),
-            early: Vec::new(alloc),
+            early: Ring::new(alloc, 0),
             spare: 0,
         })
     }
@@ -105,7 +107,7 @@ impl Log {
         ensures early { self.new.early ≡ self.old.early }
     {
         let held = self.list.len() as u64;
-        let values = early::ready(alloc, self.early.as_slice(), held, value)?;
+        let values = early::ready(alloc, &self.early, held, value)?;
         if self.spare < values.len() {
             self.list.reserve(values.len())?;
             self.spare = values.len();
@@ -125,7 +127,8 @@ impl Log {
         let mut values = values.into_vec();
         self.spare -= values.len();
         self.list.append(&mut values).unwrap();
-        early::keep_early(&mut self.early, self.list.len() as u64);
+        let held = self.list.len() as u64;
+        self.early.raise(held);
     }
 
     /// Holds more values, while none waits: for a log that is opened from its records.
@@ -137,6 +140,7 @@ impl Log {
     {
         let mut more = copy_all(alloc, values)?;
         self.list.append(&mut more)?;
+        self.early.raise(self.list.len() as u64);
         self.spare = 0;
         Ok(())
     }
@@ -146,7 +150,7 @@ impl Duplicate for Log {
     fn copy(&self, alloc: Global) -> Result<Self, NoMemory> {
         let mut list = copy_all(alloc, self.list.as_slice())?;
         list.reserve(self.spare)?;
-        let early = copy_all(alloc, self.early.as_slice())?;
+        let early = self.early.copy(alloc)?;
         Ok(Log {
             list,
             early,

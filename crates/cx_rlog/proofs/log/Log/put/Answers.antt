@@ -1,6 +1,9 @@
-use Rattle.std.proofs.Common.{◌≡◌, ◌+◌, ◌≤◌, ◌^◌, List, length, sym, subst, ap, arith, vec_len}
+use Rattle.std.proofs.Common.{◌≡◌, ◌+◌, ◌≤◌, ◌^◌, List, max, length, sym, subst, ap, ◌∙◌, arith, vec_len}
 use Rattle.cx_base.specs.declared.command.Value.{Value}
+use Rattle.cx_base.specs.declared.command.Placed.{Placed}
+use Rattle.cx_ring.specs.Ring.{RingState}
 use Rattle.cx_rlog.specs.State.{IsReady, LogState}
+use Rattle.cx_rlog.proofs.Following.{still_raised}
 use Rattle.cx_rlog.proofs.Waiting.{ready_waiting}
 use Rattle.cx_rlog.proofs.log.Log.put.Goals as goal
 
@@ -19,8 +22,20 @@ invariant_of-self c =
     let total : new ≡ held + length c.args.values = omega (arith, c.into_vec-values.result.ok.0) in
     let within : new ≤ 2 ^ 40 = omega (arith, inside.list.ok.0) in
     let waiting = ready_waiting state c.args.values held new (omega (arith, inside.list.ok.0)) ready c.self.invariant.waiting total within in
+    let first : c.raise.new.self.first ≡ max inside.early.first c.len-held.result = ap (λ (r : RingState Placed). r.first) c.raise.ensures in
+    let begins : c.raise.new.self.first ≡ new = omega (arith, c.len-held.ensures, c.self.invariant.window) in
+    let still = still_raised c.len-held.result new inside.early c.raise.new.self c.raise.ensures (sym first ∙ begins) in
     record {
       room = omega (arith, c.self.invariant.room, c.append.ensures.capacity, c.into_vec-values.result.ok.0);
       short = within;
-      waiting = rw (c.keep_early.ensures, c.len-2.ensures) waiting;
+      window = begins;
+      waiting = rw still waiting;
     }
+
+pub returns-clause-early : goal.returns-clause-early
+returns-clause-early c =
+    let inside = c.self.inside in
+    let items : inside.early.items ≡ c.args.self.now.early = ap (λ (s : LogState). s.early) c.self.view_is in
+    let more : vec_len c.append.new.self ≡ vec_len inside.list + vec_len c.into_vec-values.result = rw c.unwrap.ensures at c.append.ensures.len in
+    let begins : max inside.early.first c.len-held.result ≡ length c.append.new.self.items = omega (arith, c.len-held.ensures, c.self.invariant.window, c.append.new.self.ok.0) in
+    rw (sym items) (still_raised c.len-held.result (length c.append.new.self.items) inside.early c.raise.new.self c.raise.ensures begins)

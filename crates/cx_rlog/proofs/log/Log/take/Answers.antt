@@ -1,4 +1,4 @@
-use Rattle.std.proofs.Common.{sym, subst, arith, vec_len}
+use Rattle.std.proofs.Common.{sym, ◌∙◌, subst, arith, vec_len}
 use Rattle.cx_base.specs.Log.{value_for}
 use Rattle.cx_rlog.specs.State.{AreEarly}
 use Rattle.cx_rlog.proofs.Waiting.{AreEarly-waiting}
@@ -11,6 +11,7 @@ invariant_of-self-2 c =
     record {
       room = c.self.invariant.room;
       short = c.self.invariant.short;
+      window = c.in_ok-wait.ensures.first ∙ c.self.invariant.window;
       waiting = subst (AreEarly held) (sym c.in_ok-wait.ensures.ok)
           (AreEarly-waiting held c.args.slot c.args.value.now early (value_for c.args.slot early) c.self.invariant.waiting
           (record { above = omega arith; near = omega arith; real = c.requires }));
