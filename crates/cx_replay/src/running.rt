@@ -25,8 +25,14 @@ pub enum RunEnd {
     NoMemory,
 }
 
-// Makes the step of an event, and writes its lines.
-fn run_event<W: Sink>(alloc: Global, event: &Event, world: &mut World, out: &mut W) -> RunEnd
+// Makes the step of an event, and writes its lines. The text holds them on their way: its memory serves all events.
+fn run_event<W: Sink>(
+    alloc: Global,
+    event: &Event,
+    world: &mut World,
+    text: &mut Vec<u8>,
+    out: &mut W,
+) -> RunEnd
     requires fresh { world.old.spent ≡ false }
     requires taken { IsTrue (takes_event event.now) }
     ensures world { result ≡ end.Done → world.new ≡ record { world = step world.old.world event.now; spent = false } }
@@ -35,12 +41,12 @@ fn run_event<W: Sink>(alloc: Global, event: &Event, world: &mut World, out: &mut
     ensures cause { result ≡ end.WriteFault → Rises (W.faults out.old) (W.faults out.new) }
     ensures still { (result ≡ end.WriteFault → ⊥) → W.faults out.new ≡ W.faults out.old }
 {
-    let mut text = Vec::new(alloc);
-    match step_into(alloc, world, event, &mut text) {
+    text.clear();
+    match step_into(alloc, world, event, text) {
         Ok(()) => {}
         Err(NoMemory) => return RunEnd::NoMemory,
     }
-    if !write_all(out, &text) {
+    if !write_all(out, text) {
         return RunEnd::WriteFault;
     }
     RunEnd::Done
@@ -51,24 +57,25 @@ fn run_line<W: Sink>(
     alloc: Global,
     cluster: &Cluster,
     number: u64,
-    text: &[u8],
+    spelled: &[u8],
     world: &mut World,
+    text: &mut Vec<u8>,
     out: &mut W,
 ) -> Result<(), Status>
     requires fresh { world.old.spent ≡ false }
-    ensures { RunsLine cluster.now number text.now world.old world.new (W.taken out.old) (W.taken out.new) (W.faults out.old) (W.faults out.new) result }
+    ensures { RunsLine cluster.now number spelled.now world.old world.new (W.taken out.old) (W.taken out.new) (W.faults out.old) (W.faults out.new) result }
 {
     spelled_events_are_taken();
     if number > MAX_LINES {
         return Err(Status::BadInput { line: number });
     }
-    let Ok(event) = line(cluster, text) else {
+    let Ok(event) = line(cluster, spelled) else {
         return Err(Status::BadInput { line: number });
     };
     let Some(event) = event else {
         return Ok(());
     };
-    match run_event(alloc, &event, world, out) {
+    match run_event(alloc, &event, world, text, out) {
         RunEnd::Done => Ok(()),
         RunEnd::WriteFault => Err(Status::WriteFault),
         RunEnd::NoMemory => Err(Status::NoMemory),
@@ -116,19 +123,24 @@ pub fn run_lines<S: Source, W: Sink>(
         Ok(world) => world,
         Err(NoMemory) => return Status::NoMemory,
     };
+    let mut text = Vec::new(alloc);
     let mut number = 0;
     loop {
         number += 1;
         match lines.next(input, MAX_LINE_LENGTH) {
             Next::Line => {
-                let text = lines.text();
-                if let Err(status) = run_line(alloc, &cluster, number, text, &mut world, out) {
+                let next = lines.text();
+                if let Err(status) = run_line(
+                    alloc, &cluster, number, next, &mut world, &mut text, out,
+                ) {
                     return status;
                 }
             }
             Next::Last => {
                 let last = lines.text();
-                if let Err(status) = run_line(alloc, &cluster, number, last, &mut world, out) {
+                if let Err(status) = run_line(
+                    alloc, &cluster, number, last, &mut world, &mut text, out,
+                ) {
                     return status;
                 }
                 return sum(alloc, &world, out);

@@ -28,7 +28,7 @@ loop-lines-init g c =
 pub returns-in-Err-run_line-clause-replayed : goal.returns-in-Err-run_line-clause-replayed
 returns-in-Err-run_line-clause-replayed g c = λ left b.
     let read : g.S.Source.faults c.next.new.source ≡ g.S.Source.faults c.args.input.now = search rules in
-    stops_at_line _ _ _ _ _ _ c.loop-lines.lines c.next.new.self _ _ _ _ _ _ _ _ read c.loop-lines.invariant.wrote (c.loop-lines.invariant.along left b) c.text-text.result.now c.text-text.ensures c.in-Line.ensures.gives
+    stops_at_line _ _ _ _ _ _ c.loop-lines.lines c.next.new.self _ _ _ _ _ _ _ _ read c.loop-lines.invariant.wrote (c.loop-lines.invariant.along left b) c.text-next.result.now c.text-next.ensures c.in-Line.ensures.gives
     c.in-Err-run_line.status c.in-Err-run_line.ensures
 
 pub loop-lines-preserved : goal.loop-lines-preserved
@@ -37,7 +37,7 @@ loop-lines-preserved g c =
     let gives = c.in-Line.ensures.gives in
     record {
       along = λ left b. goes_along _ _ _ _ _ _ _ _ (c.loop-lines.invariant.along left b) _ c.next.new.self.held gives.part ran.event _ _ gives.free gives.hands
-          (subst (λ l. Spells c.args.cluster (c.loop-lines.number + 1) l ran.event) (c.text-text.ensures ∙ gives.text) ran.spells) (ap world_of ran.world) ran.written;
+          (subst (λ l. Spells c.args.cluster (c.loop-lines.number + 1) l ran.event) (c.text-next.ensures ∙ gives.text) ran.spells) (ap world_of ran.world) ran.written;
       running = ap spent_of ran.world;
       count = ran.counted;
       read = search rules;
