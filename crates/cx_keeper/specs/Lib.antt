@@ -1,2 +1,3 @@
 pub mod Keeper
 pub mod MemKeeper
+pub mod Pieces

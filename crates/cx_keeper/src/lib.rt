@@ -6,6 +6,11 @@
 
 mod keeper;
 mod mem_keeper;
+mod records;
 
 pub use keeper::{KeepFault, Keeper, OpenFault};
 pub use mem_keeper::MemKeeper;
+pub use records::Records;
+
+#[cfg(test)]
+mod tests;

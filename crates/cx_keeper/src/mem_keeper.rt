@@ -3,8 +3,8 @@
 ghost use Rattle.std.specs.Prelude.{◌≡◌, ◌≤◌, ◌+◌, [], IfOk, length, drop, option_to_list};
 ghost use Rattle.cx_keeper.specs.MemKeeper.{tells_of, kept_of, faults_of, mem_append_gives, mem_append_is};
 
-use crate::{KeepFault, Keeper, OpenFault};
-use cx_base::{Cut, Duplicate, Faults, NoMemory, copy_all};
+use crate::{KeepFault, Keeper, OpenFault, Records};
+use cx_base::{Cut, Faults, NoMemory};
 use cx_msg::Record;
 use std::alloc::Global;
 use std::marker::Model;
@@ -12,8 +12,7 @@ use std::marker::Model;
 /// Keeps records in memory, and lets an append fail where it is told to.
 #[derive(Drop)]
 pub struct MemKeeper {
-    alloc: Global,
-    kept: Vec<Record>,
+    kept: Records,
     cut: Cut,
     faults: Faults,
 }
@@ -25,9 +24,9 @@ impl Model for MemKeeper {
 
     ghost Value = { MemKeeperState };
 
-    ghost view = { λ keeper. record { kept = keeper.kept.items; cut = keeper.cut; faults = keeper.faults } };
+    ghost view = { λ keeper. record { kept = keeper.kept; cut = keeper.cut; faults = keeper.faults } };
 
-    ghost invariant = { λ keeper. IsTrue (all_fit keeper.kept.items) };
+    ghost invariant = { λ keeper. IsTrue (all_fit keeper.kept) };
 }
 
 impl MemKeeper {
@@ -36,8 +35,7 @@ impl MemKeeper {
         ensures { result ≡ record { kept = []; cut = Cut.Whole; faults = 0 } }
     {
         MemKeeper {
-            alloc,
-            kept: Vec::new(alloc),
+            kept: Records::new(alloc),
             cut: Cut::Whole,
             faults: Faults::none(),
         }
@@ -56,10 +54,7 @@ impl MemKeeper {
         requires most { length self.now.kept ≤ count + 1 }
         ensures { IfOk result (λ r. option_to_list r ≡ drop count self.now.kept) }
     {
-        match self.kept.get(count) {
-            None => Ok(None),
-            Some(record) => Ok(Some(record.copy(self.alloc)?)),
-        }
+        self.kept.get(count)
     }
 
     /// How appends go from here on: `Torn` loses the record and fails, `Kept` keeps it and fails. It takes no memory.
@@ -84,7 +79,7 @@ impl Keeper for MemKeeper {
     fn append(&mut self, what: &Record) -> Result<(), KeepFault> {
         match self.cut {
             Cut::Whole => {
-                self.kept.push(what.copy(self.alloc)?)?;
+                self.kept.push(what)?;
                 Ok(())
             }
             Cut::Torn => {
@@ -92,7 +87,7 @@ impl Keeper for MemKeeper {
                 Err(KeepFault::Failed)
             }
             Cut::Kept => {
-                self.kept.push(what.copy(self.alloc)?)?;
+                self.kept.push(what)?;
                 self.faults.add();
                 Err(KeepFault::Failed)
             }
@@ -100,6 +95,6 @@ impl Keeper for MemKeeper {
     }
 
     fn recover(&mut self) -> Result<Vec<Record>, OpenFault> {
-        Ok(copy_all(self.alloc, &self.kept)?)
+        Ok(self.kept.all()?)
     }
 }

@@ -1,0 +1,13 @@
+use Rattle.std.proofs.Common.{◌≡◌, List, ap, subst}
+use Rattle.std.specs.Prelude.{IfOk}
+use Rattle.std.specs.List.{slice_get}
+use Rattle.cx_msg.specs.declared.kept.Record.{Record}
+use Rattle.cx_keeper.specs.MemKeeper.{kept_of}
+use Rattle.cx_keeper.proofs.Since.{kept_last}
+use Rattle.cx_keeper.proofs.mem_keeper.MemKeeper.kept_since.Goals as goal
+
+pub returns : goal.returns
+returns c =
+    let kept : c.self.inside.kept ≡ c.args.self.now.kept = ap kept_of c.self.view_is in
+    kept_last c.args.self.now.kept c.args.count c.get.result c.requires.most
+    (subst (λ (l : List Record). IfOk c.get.result (λ r. r ≡ slice_get l c.args.count)) kept c.get.ensures)
