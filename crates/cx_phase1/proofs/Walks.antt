@@ -1,6 +1,7 @@
 -- Going over a list.
-use Rattle.std.specs.Prelude.{◌≡◌, ◌<◌, ◌+◌, ◌-◌, ℕ, suc, List, [], ◌∷◌, ◌++◌, length, map, refl}
+use Rattle.std.specs.Prelude.{◌≡◌, ◌≤◌, ◌<◌, ◌+◌, ◌-◌, ℕ, suc, List, [], ◌∷◌, ◌++◌, length, map, refl}
 use Rattle.std.proofs.Common.{drop, get_or, drop-cons, append_assoc, arith, ap, sym, ◌∙◌}
+use Rattle.std.proofs.lemmas.List.{drop_all}
 use Rattle.cx_base.specs.Lists.{numbers}
 
 -- what is left at a place is the value there and what is left behind it
@@ -10,6 +11,10 @@ next_left xs i x lt is = let k : i + 1 ≡ suc i = omega arith in drop-cons xs i
 -- Of what is left f gives the whole answer. If g takes the next value in, then it gives the answer of what is left behind it.
 pub carried : {X Y : Type 0} (f g : List X → Y) (xs : List X) (i : ℕ) (x : X) (all : Y) → i < length xs → x ≡ get_or xs i x → ((rest : List X) → g rest ≡ f (x ∷ rest)) → f (drop i xs) ≡ all → g (drop (i + 1) xs) ≡ all
 carried f g xs i x all lt is step so_far = step (drop (i + 1) xs) ∙ ap f (sym (next_left xs i x lt is)) ∙ so_far
+
+-- and nothing is left at the end
+pub carried_out : {X Y : Type 0} (f : List X → Y) (xs : List X) (i : ℕ) (all : Y) → length xs ≤ i → f (drop i xs) ≡ all → f [] ≡ all
+carried_out f xs i all le so_far = ap f (sym (drop_all i xs le)) ∙ so_far
 
 numbers_on : (i n : ℕ) → i < n → numbers i (n - i) ≡ i ∷ numbers (i + 1) (n - (i + 1))
 numbers_on i n lt = let e : n - i ≡ suc (n - (i + 1)) = omega arith in rw e refl

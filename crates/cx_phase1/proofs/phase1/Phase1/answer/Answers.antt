@@ -1,4 +1,4 @@
-use Rattle.std.proofs.Common.{◌≡◌, ◌++◌, ◌∷◌, [], true, false, refl, sym, ap, ◌∙◌}
+use Rattle.std.proofs.Common.{◌≡◌, ◌<◌, ◌++◌, ◌∷◌, [], true, false, refl, arith, sym, ap, ◌∙◌}
 use Rattle.cx_grid.specs.Quorum.{with_mark}
 use Rattle.cx_model.specs.declared.states.Promised.{Promised}
 use Rattle.cx_model.specs.Matched.{is_member_of, rows_whole}
@@ -29,7 +29,8 @@ take_in-requires-clause-votes c =
 pub add-requires : goal.add-requires
 add-requires c =
     let member : is_member_of c.self.inside.live.items c.args.acceptor ≡ true = ap (λ es. is_member_of es c.args.acceptor) (sym c.deref.ensures.value) ∙ sym c.is_member_of.ensures ∙ c.if-not-is_member_of.false in
-    member_below_64 c.self.inside.live.items c.args.acceptor c.self.invariant.ids member
+    let below : c.args.acceptor < 64 = member_below_64 c.self.inside.live.items c.args.acceptor c.self.invariant.ids member in
+    omega arith
 
 pub invariant_of-self-2 : goal.invariant_of-self-2
 invariant_of-self-2 c =
