@@ -4,7 +4,7 @@ use Rattle.std.specs.List.{list_all, list_any}
 use Rattle.std.proofs.Common.{ap, arith, sym, ◌∙◌, ⊎_elim}
 use Rattle.std.proofs.lemmas.Bool.{false≢true, and_parts, or_cases, ltb-true, leb-true, eqb-true}
 use Rattle.std.proofs.lemmas.Bool.Decides.{nat_tests}
-use Rattle.std.proofs.lemmas.List.Elements.{All-nil, All-cons}
+use Rattle.std.proofs.lemmas.List.Elements.{All-nil, All-cons, All-push}
 use Rattle.std.proofs.lemmas.List.Folds.{list_any-append}
 use Rattle.cx_base.specs.Grid.{Shape, is_in}
 use Rattle.cx_base.specs.Lists.{below}
@@ -15,11 +15,14 @@ use Rattle.cx_field.specs.Ranges.{vote_in_range}
 use Rattle.cx_field.specs.declared.parts.Entry.{Entry}
 use Rattle.cx_field.specs.declared.parts.Vote.{Vote}
 use Rattle.cx_field.proofs.ListLaws.{votes_apart}
+use Rattle.cx_ring.specs.Ring.{RingState, raised}
 use Rattle.cx_model.specs.declared.states.Promised.{Promised}
 use Rattle.cx_model.specs.Matched.{is_member_of, rows_whole}
-use Rattle.cx_model.specs.Plan.{promised_by, has_promised}
+use Rattle.cx_model.specs.Plan.{promised_by, has_promised, end_told}
+use Rattle.cx_phase1.specs.Best.{slot_of, with_votes}
 use Rattle.cx_phase1.specs.Counting.{are_ids}
-use Rattle.cx_phase1.specs.Sound.{IsVote, IsPromise}
+use Rattle.cx_phase1.specs.Sound.{IsVote, IsPromise, IsSound}
+use Rattle.cx_phase1.proofs.BestLaws.{best_more}
 
 -- ---- members are below 64
 
@@ -103,4 +106,15 @@ unfolding field.mark
 promise_told p cw votes = record {
   cw = leb-true p.cw (2 ^ 40) (and_parts _ (nat_le p.cw (2 ^ 40)) cw).1;
   votes = are_in_range p.cw p.votes (votes_apart p.cw p.votes votes).1;
+}
+
+-- ---- one more answer is counted
+
+pub sound_more : (live : List Entry) (promises : List Promised) (marks : List ℕ) (best : RingState Vote) (end : ℕ) (p : Promised) → IsSound live promises marks best end → IsPromise p
+    → IsSound live (promises ++ p ∷ []) (with_mark p.acceptor marks) (with_votes p.votes (raised slot_of p.cw (record best { room = true }))) (end_told end p.votes)
+sound_more live promises marks best end p is told = record {
+  ids = is.ids;
+  marked = marked_more marks promises p is.marked;
+  told = All-push IsPromise promises p is.told told;
+  best = best_more promises p (record best { room = true }) end (record { first = is.best.first; votes = is.best.votes; end = is.best.end });
 }

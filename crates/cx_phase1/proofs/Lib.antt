@@ -1,3 +1,4 @@
+pub mod BestLaws
 pub mod BoundLaws
 pub mod CountLaws
 pub mod PlanLaws

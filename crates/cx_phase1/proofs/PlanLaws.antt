@@ -1,20 +1,15 @@
 -- The plan, told vote by vote.
-use Rattle.std.specs.Prelude.{◌≡◌, ◌≢◌, ◌+◌, ◌==◌, ℕ, Bool, true, false, max, List, [], ◌∷◌, ◌++◌, Option, None, Some, refl}
+use Rattle.std.specs.Prelude.{◌≡◌, ◌+◌, ◌==◌, ℕ, Bool, true, false, max, List, [], ◌∷◌, ◌++◌, Option, None, Some, refl}
 use Rattle.std.proofs.Common.{ap, arith, sym, ◌∙◌}
 use Rattle.std.proofs.lemmas.Bool.{eq-eqb}
 use Rattle.std.proofs.lemmas.Bool.Decides.{nat_tests}
 use Rattle.cx_base.specs.declared.round.Round.{Round}
 use Rattle.cx_base.specs.Round.{is_before}
 use Rattle.cx_field.specs.declared.parts.Vote.{Vote}
-use Rattle.cx_model.specs.declared.states.Promised.{Promised}
-use Rattle.cx_model.specs.Plan.{greatest_cw, end_told, best_vote, greater_vote}
+use Rattle.cx_model.specs.Plan.{end_told, best_vote, greater_vote}
 use Rattle.cx_phase1.specs.Best.{better}
 
--- a watermark may be taken before or after the others
-pub greatest_from : (low cw : ℕ) (promises : List Promised) → greatest_cw (max low cw) promises ≡ max cw (greatest_cw low promises)
-greatest_from low cw [] = omega arith
-greatest_from low cw (p ∷ promises) = omega (arith, greatest_from low cw promises)
-
+-- an end may be taken before or after the others
 pub end_from : (low end : ℕ) (votes : List Vote) → end_told (max low end) votes ≡ max end (end_told low votes)
 end_from low end [] = omega arith
 end_from low end (v ∷ votes) = omega (arith, end_from low end votes)
@@ -51,13 +46,6 @@ better-assoc (Some x) (Some y) (Some z) = ap (λ (v : Vote). Some v) (greater_by
 pub better_on : (best : Option Vote) (s : ℕ) (v : Vote) (votes : List Vote) → v.slot ≡ s → better (better best (Some v)) (best_vote s votes) ≡ better best (best_vote s (v ∷ votes))
 better_on best s v votes is = let at = eq-eqb v.slot s is in rw at (better-assoc best (Some v) (best_vote s votes))
 
-apart : (a b : ℕ) → a ≢ b → (a == b) ≡ false
-apart a b other = grind (arith, nat_tests)
-
--- one at another slot is passed over
-pub better_past : (best : Option Vote) (s : ℕ) (v : Vote) (votes : List Vote) → v.slot ≢ s → better best (best_vote s votes) ≡ better best (best_vote s (v ∷ votes))
-better_past best s v votes other = let at = apart v.slot s other in rw at refl
-
 -- no vote so far
 pub better_none : (best : Option Vote) → better best None ≡ best
 better_none None = refl
@@ -71,7 +59,3 @@ best_append_by s v votes others false at rest = rw at rest
 pub best_append : (s : ℕ) (votes others : List Vote) → best_vote s (votes ++ others) ≡ better (best_vote s votes) (best_vote s others)
 best_append s [] others = refl
 best_append s (v ∷ votes) others = best_append_by s v votes others _ refl (best_append s votes others)
-
--- the best vote so far, with those of one more answer
-pub better_more : (best : Option Vote) (s : ℕ) (votes others : List Vote) → better (better best (best_vote s votes)) (best_vote s others) ≡ better best (best_vote s (votes ++ others))
-better_more best s votes others = rw (best_append s votes others) (better-assoc best (best_vote s votes) (best_vote s others))

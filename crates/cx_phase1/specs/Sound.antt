@@ -4,8 +4,10 @@ use Rattle.cx_base.specs.Grid.{is_in}
 use Rattle.cx_field.specs.Fields as field
 use Rattle.cx_field.specs.declared.parts.Entry.{Entry}
 use Rattle.cx_field.specs.declared.parts.Vote.{Vote}
+use Rattle.cx_ring.specs.Ring.{RingState, value_at}
 use Rattle.cx_model.specs.declared.states.Promised.{Promised}
-use Rattle.cx_model.specs.Plan.{has_promised}
+use Rattle.cx_model.specs.Plan.{has_promised, greatest_cw, end_told, votes_told, best_vote}
+use Rattle.cx_phase1.specs.Best.{slot_of}
 use Rattle.cx_phase1.specs.Counting.{are_ids}
 
 -- a vote below the end of the window from cw on and of all slots, with a value that has a spelling
@@ -19,8 +21,16 @@ pub record IsPromise (p : Promised) : Type 0 where
   pub cw : p.cw ≤ 2 ^ 40
   pub votes : All (IsVote p.cw) p.votes
 
--- members are ids that can be marked, and those are marked that were counted
-pub record IsSound (live : List Entry) (promises : List Promised) (marks : List ℕ) : Type 0 where
+-- the window begins at the greatest watermark told, each of its slots has the best vote told of it, and the end is behind
+-- the greatest slot told
+pub record IsBest (promises : List Promised) (best : RingState Vote) (behind : ℕ) : Type 0 where
+  pub first : best.first ≡ greatest_cw 0 promises
+  pub votes : (s : ℕ) → best.first ≤ s → value_at slot_of s best.items ≡ best_vote s (votes_told promises)
+  pub end : behind ≡ end_told 0 (votes_told promises)
+
+-- members are ids that can be marked, those are marked that were counted, and what is held is the best of what they told
+pub record IsSound (live : List Entry) (promises : List Promised) (marks : List ℕ) (votes : RingState Vote) (end : ℕ) : Type 0 where
   pub ids : IsTrue (are_ids live)
   pub marked : (id : ℕ) → is_in id marks ≡ has_promised id promises
   pub told : All IsPromise promises
+  pub best : IsBest promises votes end

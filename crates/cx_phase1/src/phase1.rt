@@ -7,12 +7,15 @@ ghost use Rattle.cx_model.specs.Plan.{plan};
 ghost use Rattle.cx_phase1.specs.Counting.{are_ids, told_by, counted_by};
 ghost use Rattle.cx_phase1.specs.Planned.{IsPlan};
 
-use crate::planning::plan;
+use crate::best::{Best, take_in};
+use crate::planning::{end_of, plan};
+use crate::promises::{Promises, kept, none, with_promise};
 use crate::told::Told;
 use cx_base::{Duplicate, NoMemory, copy_all};
 use cx_field::{Entry, Votes};
 use cx_grid::{Marks, is_member, row_whole};
-use cx_model::{Plan, Promised};
+use cx_model::Plan;
+use cx_ring::Ring;
 use std::alloc::Global;
 use std::marker::Model;
 
@@ -21,8 +24,13 @@ use std::marker::Model;
 pub struct Phase1 {
     alloc: Global,
     live: Vec<Entry>,
-    promises: Vec<Promised>,
     marks: Marks,
+    // The best vote told of each slot from the greatest watermark told on.
+    best: Best,
+    // One more than the greatest slot told, or 0.
+    end: u64,
+    // What contracts see of the promises.
+    told: Promises,
 }
 
 impl Model for Phase1 {
@@ -31,9 +39,9 @@ impl Model for Phase1 {
 
     ghost Value = { Counting };
 
-    ghost view = { λ p. record { live = p.live.items; promises = p.promises.items } };
+    ghost view = { λ p. record { live = p.live.items; promises = p.told.items } };
 
-    ghost invariant = { λ p. IsSound p.live.items p.promises.items p.marks };
+    ghost invariant = { λ p. IsSound p.live.items p.told.items p.marks p.best p.end };
 }
 
 // Whether an acceptor is a member of one of the grids.
@@ -64,8 +72,10 @@ impl Phase1 {
         Ok(Phase1 {
             alloc,
             live: copy_all(alloc, entries)?,
-            promises: Vec::new(alloc),
             marks: Marks::new(),
+            best: Ring::new(alloc, 0),
+            end: 0,
+            told: none(),
         })
     }
 
@@ -93,12 +103,12 @@ impl Phase1 {
         if self.marks.contains(acceptor) {
             return Ok(Told::Same);
         }
-        let votes = votes.copy(self.alloc)?;
-        self.promises.push(Promised {
-            acceptor,
-            cw,
-            votes,
-        })?;
+        let copied = votes.copy(self.alloc)?;
+        self.best.make_room(self.alloc)?;
+        // From here on nothing takes memory.
+        self.told = with_promise(&self.told, acceptor, cw, votes);
+        self.end = end_of(self.end, cw, votes.as_slice());
+        take_in(&mut self.best, cw, copied.into_vec());
         self.marks.add(acceptor);
         if rows_whole(&self.live, &self.marks) {
             Ok(Told::Whole)
@@ -114,28 +124,8 @@ impl Phase1 {
         ensures plan { IfOk result (λ found. found ≡ plan low self.now.promises) }
         ensures ranges { IfOk result (λ found. IsPlan found) }
     {
-        plan(self.alloc, low, &self.promises)
+        plan(self.alloc, low, &self.best, self.end)
     }
-}
-
-fn copy_promise(alloc: Global, promised: &Promised) -> Result<Promised, NoMemory>
-    ensures { IfOk result (λ copied. copied ≡ promised.now) }
-{
-    Ok(Promised {
-        acceptor: promised.acceptor,
-        cw: promised.cw,
-        votes: promised.votes.copy(alloc)?,
-    })
-}
-
-fn copy_promises(alloc: Global, promises: &[Promised]) -> Result<Vec<Promised>, NoMemory>
-    ensures { IfOk result (λ copied. copied.items ≡ promises.now) }
-{
-    let mut list = Vec::with_capacity(alloc, promises.len())?;
-    for promised in promises {
-        list.push(copy_promise(alloc, promised)?)?;
-    }
-    Ok(list)
 }
 
 impl Duplicate for Phase1 {
@@ -143,8 +133,10 @@ impl Duplicate for Phase1 {
         Ok(Phase1 {
             alloc,
             live: copy_all(alloc, &self.live)?,
-            promises: copy_promises(alloc, &self.promises)?,
             marks: self.marks.copy(alloc)?,
+            best: self.best.copy(alloc)?,
+            end: self.end,
+            told: kept(&self.told),
         })
     }
 }

@@ -8,11 +8,12 @@ use cx_msg::{Msg, decode};
 use std::alloc::Global;
 use std::test::Fail;
 
-// An acceptor promises leader 1's round 1.1.0. It voted in round r.0.0 at a slot for a put of client 0, of this number.
-fn promise(acceptor: u8, r: u8, slot: u8, number: u8) -> [u8; 66] {
+// An acceptor promises leader 1's round 1.1.0. It tells what it voted from the slot cw on: in round r.0.0 at a slot for a put of
+// client 0, of this number.
+fn promise(acceptor: u8, cw: u8, r: u8, slot: u8, number: u8) -> [u8; 66] {
     [
         67, 88, 1, 8, 5, 0, acceptor, 3, 0, 1, 0, 54, 0, 0, 0, 1, 0, 1, 0, 0, 0, 0, 0, 0, 0, 0, 0,
-        0, 0, 0, 1, 0, 0, 0, r, 0, 0, 0, 0, 0, 0, 0, 0, 0, 0, 0, 0, 0, slot, 1, 1, 0, 0, 0, 0, 0,
+        0, 0, cw, 1, 0, 0, 0, r, 0, 0, 0, 0, 0, 0, 0, 0, 0, 0, 0, 0, 0, slot, 1, 1, 0, 0, 0, 0, 0,
         0, 0, 0, 0, number, 1, 1, 97, 1, 49,
     ]
 }
@@ -52,7 +53,7 @@ fn plans(rt: HostRuntime) -> Result<(), Fail> {
     };
     let mut phase1 = Phase1::new(alloc, &[entry])?;
     for (acceptor, r, slot, number, told) in &ANSWERS {
-        let bytes = promise(*acceptor, *r, *slot, *number);
+        let bytes = promise(*acceptor, 0, *r, *slot, *number);
         assert_eq!(rt; answer(alloc, &mut phase1, &bytes), Some(*told));
     }
     let plan = phase1.copy(alloc)?.plan(0)?;
@@ -64,6 +65,66 @@ fn plans(rt: HostRuntime) -> Result<(), Fail> {
         assert_eq!(rt; number_at(&plan, place), Some(*number));
     }
     assert_eq!(rt; number_at(&plan, 3), None);
+    Ok(())
+}
+
+// Watermark, round, slot and number of the votes of acceptors 0, 1 and 2, and the plan of them: its watermark, and its numbers.
+struct Case {
+    votes: [(u8, u8, u8, u8); 3],
+    cw: u64,
+    numbers: &'static [u64],
+}
+
+const PLANS: [Case; 4] = [
+    // Of one round the first vote stays, and one of a lesser round is passed over.
+    Case {
+        votes: [(0, 2, 1, 2), (0, 2, 1, 3), (0, 1, 1, 4)],
+        cw: 0,
+        numbers: &[0, 2],
+    },
+    // One of a greater round counts.
+    Case {
+        votes: [(0, 1, 1, 2), (0, 2, 1, 3), (0, 3, 1, 4)],
+        cw: 0,
+        numbers: &[0, 4],
+    },
+    // A vote below the greatest watermark counts no more, whichever comes first, also where its slot is another one's modulo 32.
+    Case {
+        votes: [(0, 3, 9, 2), (40, 1, 41, 3), (9, 3, 9, 4)],
+        cw: 40,
+        numbers: &[0, 3],
+    },
+    Case {
+        votes: [(40, 1, 40, 2), (40, 1, 71, 3), (9, 3, 39, 4)],
+        cw: 40,
+        numbers: &[
+            2, 0, 0, 0, 0, 0, 0, 0, 0, 0, 0, 0, 0, 0, 0, 0, 0, 0, 0, 0, 0, 0, 0, 0, 0, 0, 0, 0, 0,
+            0, 0, 3,
+        ],
+    },
+];
+
+// One row of three, of which each is needed.
+#[test]
+fn keeps_the_best(rt: HostRuntime) -> Result<(), Fail> {
+    let alloc = rt.alloc();
+    let entry = Entry {
+        round: Round { r: 1, id: 0, s: 0 },
+        grid: Grid::new(1, 3, &[0, 1, 2])?,
+    };
+    for case in &PLANS {
+        let mut phase1 = Phase1::new(alloc, &[entry])?;
+        for (acceptor, (cw, r, slot, number)) in case.votes.iter().enumerate() {
+            let bytes = promise(acceptor as u8, *cw, *r, *slot, *number);
+            assert!(rt; answer(alloc, &mut phase1, &bytes).is_some());
+        }
+        let plan = phase1.plan(0)?;
+        assert_eq!(rt; plan.cw, case.cw);
+        assert_eq!(rt; plan.end, case.cw + case.numbers.len() as u64);
+        for (place, number) in case.numbers.iter().enumerate() {
+            assert_eq!(rt; number_at(&plan, place), Some(*number));
+        }
+    }
     Ok(())
 }
 
