@@ -1,5 +1,5 @@
-pub mod Finding
 pub mod Holding
 pub mod Receivers
 pub mod Rows
 pub mod Replying
+pub mod Same

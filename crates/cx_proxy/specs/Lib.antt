@@ -1,3 +1,3 @@
 pub mod Declined
 pub mod Holds
-pub mod Places
+pub mod Slots

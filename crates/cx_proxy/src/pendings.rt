@@ -1,61 +1,80 @@
-//! The list of pending values, at most one a slot.
+//! The ring of pending values, at most one a slot.
 
-ghost use Rattle.std.specs.Prelude.{◌≡◌, ◌<◌, ◌==◌, nat_le, filter, position, slice_get, slice_set, Some, vec_len, vec_capacity, IfNone, IfSome};
+ghost use Rattle.std.specs.Prelude.{◌≡◌, ◌+◌, ◌<◌, ◌≤◌, true, None, Some};
+ghost use Rattle.std.specs.Option.{option_copied};
 ghost use Rattle.cx_model.specs.declared.states.Pending.{Pending};
-ghost use Rattle.cx_model.specs.Proxy.{with_pending};
+ghost use Rattle.cx_model.specs.Proxy.{pending_at, with_pending};
 ghost use Rattle.cx_proxy.specs.Declined.{declined, uncounted};
-ghost use Rattle.cx_proxy.specs.Places.{IsPlace, NoPlace};
+ghost use Rattle.cx_proxy.specs.Slots.{slot_of};
 
-use cx_base::{Round, Why};
+use cx_base::{Round, Value, Why};
 use cx_grid::{Marks, is_member};
 use cx_model::Pending;
+use cx_ring::{Ring, Slotted};
 
-/// The place of the value that is pending at a slot. It takes no memory.
-#[tactic(auto, using(crate::proofs::Finding::place_found, crate::proofs::Finding::place_none))]
-pub fn place_of(list: &[Pending], slot: u64) -> Option<usize>
-    ensures none { IfNone result (NoPlace slot list.now) }
-    ensures some { IfSome result (λ i. IsPlace slot list.now i) }
-{
-    first_at(list, slot)
-}
+/// How a pending value tells its slot.
+pub struct BySlot;
 
-/// Puts a value into the place of the earlier one of its slot, or at the end, where there is room. It takes no memory.
-pub fn put(list: &mut Vec<Pending>, one: Pending)
-    requires { vec_len list.old < vec_capacity list.old }
-    ensures { list.new.items ≡ with_pending one list.old.items }
-{
-    match place_of(list, one.slot) {
-        Some(place) => list[place] = one,
-        None => list.push_reserved(one),
+impl Slotted<Pending> for BySlot {
+    ghost at = { slot_of };
+
+    fn slot(one: &Pending) -> u64 {
+        one.slot
     }
 }
 
-/// Notes who voted for the value at a place, and whether all is done. It takes no memory.
-pub fn note(list: &mut Vec<Pending>, place: usize, marks: Marks, done: bool)
-    requires { place < vec_len list.old }
-    ensures { (p : Pending) → slice_get list.old.items place ≡ Some p → list.new.items ≡ slice_set list.old.items place (record p { marks = marks; done = done }) }
+/// The pending values, from the known watermark on.
+pub type Pendings = Ring<Pending, BySlot>;
+
+/// The value that is pending at a slot. It takes no memory.
+#[tactic(auto, using(crate::proofs::Same::pending_at_value))]
+pub fn find(pendings: &Pendings, slot: u64) -> Option<&Pending>
+    ensures { option_copied result ≡ pending_at slot pendings.now.items }
 {
-    let pending = &mut list[place];
-    pending.marks = marks;
-    pending.done = done;
+    pendings.get(slot)
 }
 
-/// Drops the values whose slots lie below a watermark. It takes no memory.
-pub fn drop_below(list: &mut Vec<Pending>, known: u64)
-    ensures { list.new.items ≡ filter (λ (p : Pending). nat_le known p.slot) list.old.items }
+/// Puts a value into the place of the earlier one of its slot, which it answers, or at the end. It takes no memory.
+#[tactic(auto, using(crate::proofs::Same::pending_at_value, crate::proofs::Same::with_pending_value))]
+pub fn put(pendings: &mut Pendings, one: Pending) -> Option<Pending>
+    requires room { pendings.old.room ≡ true }
+    requires low { pendings.old.first ≤ one.slot }
+    requires high { one.slot < pendings.old.first + 32 }
+    ensures items { pendings.new ≡ record pendings.old { items = with_pending one pendings.old.items } }
+    ensures earlier { result ≡ pending_at one.slot pendings.old.items }
 {
-    list.retain(|pending| pending.slot >= known);
+    pendings.put(one)
+}
+
+/// Notes who voted for the value that is pending at a slot, and whether all is done. It takes no memory.
+#[tactic(auto, using(crate::proofs::Holding::found_slot))]
+pub fn note(pendings: &mut Pendings, slot: u64, marks: Marks, done: bool)
+    requires room { pendings.old.room ≡ true }
+    requires low { pendings.old.first ≤ slot }
+    requires high { slot < pendings.old.first + 32 }
+    ensures none { pending_at slot pendings.old.items ≡ None → pendings.new ≡ pendings.old }
+    ensures some { (p : Pending) → pending_at slot pendings.old.items ≡ Some p → pendings.new ≡ record pendings.old { items = with_pending (record p { marks = marks; done = done }) pendings.old.items } }
+{
+    let Some(pending) = find(pendings, slot) else {
+        return;
+    };
+    let hollow = hollow(pending);
+    // A value is not changed in its place: it is taken out and put there anew.
+    if let Some(mut noted) = put(pendings, hollow) {
+        noted.marks = marks;
+        noted.done = done;
+        put(pendings, noted);
+    }
 }
 
 /// Why a value is not asked for, where it is not. It takes no memory.
-pub fn declined(list: &[Pending], known: u64, one: &Pending) -> Option<Why>
-    ensures { result ≡ declined known one.now list.now }
+pub fn declined(pendings: &Pendings, known: u64, one: &Pending) -> Option<Why>
+    ensures { result ≡ declined known one.now pendings.now.items }
 {
     if one.slot < known {
         return Some(Why::Past);
     }
-    let place = place_of(list, one.slot)?;
-    let old = list[place].round;
+    let old = find(pendings, one.slot)?.round;
     if one.round.is_before(&old) {
         Some(Why::Old)
     } else if old == one.round {
@@ -81,8 +100,17 @@ pub fn uncounted(pending: &Pending, acceptor: u16, round: Round) -> Option<Why>
     None
 }
 
-fn first_at(list: &[Pending], slot: u64) -> Option<usize>
-    ensures { result ≡ position (λ (p : Pending). p.slot == slot) list.now }
+// What stands in the place of a value while that is out.
+fn hollow(pending: &Pending) -> Pending
+    ensures { result.slot ≡ pending.now.slot }
 {
-    list.iter().position(|pending| pending.slot == slot)
+    Pending {
+        slot: pending.slot,
+        round: pending.round,
+        grid: pending.grid,
+        cw: pending.cw,
+        value: Value::Noop,
+        marks: Marks::new(),
+        done: false,
+    }
 }

@@ -11,7 +11,7 @@ ghost use Rattle.cx_model.specs.Proxy.{ProxyVolatile, proxy_rules, propose_row, 
 ghost use Rattle.cx_role.specs.Role.{Replies, takes_no_memory};
 ghost use Rattle.cx_proxy.specs.Holds.{IsPending};
 
-use crate::pendings::{declined, drop_below, note, place_of, put, uncounted};
+use crate::pendings::{Pendings, declined, find, note, put, uncounted};
 use crate::sends::{again_all, announce, ask_column};
 use cx_base::{Cluster, Duplicate, NoMemory, Order, RoleId, Round, Value, Why};
 use cx_grid::{Marks, column_whole};
@@ -32,8 +32,8 @@ pub struct Proxy {
     cluster: Cluster,
     me: RoleId,
     live: bool,
-    known: u64,
-    pending: Vec<Pending>,
+    // The values from the known watermark on.
+    pending: Pendings,
 }
 
 impl Model for Proxy {
@@ -43,9 +43,9 @@ impl Model for Proxy {
 
     ghost Value = { Running (Unit {0}) ProxyVolatile };
 
-    ghost view = { λ p. record { cluster = p.cluster; me = p.me; live = p.live; durable = tt; volatile = record { known = p.known; pending = p.pending.items } } };
+    ghost view = { λ p. record { cluster = p.cluster; me = p.me; live = p.live; durable = tt; volatile = record { known = p.pending.first; pending = p.pending.items } } };
 
-    ghost invariant = { λ p. Holds p.me p.known p.pending.items };
+    ghost invariant = { λ p. Holds p.me p.pending };
 }
 
 impl Proxy {
@@ -97,19 +97,17 @@ impl Proxy {
         ensures spared { OnErr result (takes_no_memory (propose_row self.old.cluster self.old.me (raised_to pending.cw self.old.volatile) (record pending { value = value.now })).why ≡ false) }
         ensures state { OnErr result (self.new ≡ self.old) }
     {
-        let known = self.known.max(pending.cw);
+        let known = self.pending.first().max(pending.cw);
         if let Some(why) = declined(&self.pending, known, &pending) {
-            self.known = known;
-            drop_below(&mut self.pending, known);
+            self.pending.raise(known);
             return Ok(why);
         }
         let mut asked = pending;
         asked.value = value.copy(self.alloc)?;
-        self.pending.reserve(1)?;
+        self.pending.make_room(self.alloc)?;
         ask_column(self.alloc, &self.cluster, self.me, &asked, out)?;
+        self.pending.raise(known);
         put(&mut self.pending, asked);
-        self.known = known;
-        drop_below(&mut self.pending, known);
         Ok(Why::Asking)
     }
 
@@ -127,21 +125,20 @@ impl Proxy {
         ensures spared { OnErr result (takes_no_memory (vote_for self.old.cluster self.old.me self.old.volatile acceptor round (pending_at slot self.old.volatile.pending)).why ≡ false) }
         ensures state { OnErr result (self.new ≡ self.old) }
     {
-        let Some(place) = place_of(&self.pending, slot) else {
+        let Some(pending) = find(&self.pending, slot) else {
             return Ok(Why::Unasked);
         };
-        let pending = &self.pending[place];
         if let Some(why) = uncounted(pending, acceptor, round) {
             return Ok(why);
         }
         let mut marks = pending.marks.copy(self.alloc)?;
         marks.add(acceptor);
         if !column_whole(&pending.grid, &marks) {
-            note(&mut self.pending, place, marks, false);
+            note(&mut self.pending, slot, marks, false);
             return Ok(Why::Counted);
         }
         announce(self.alloc, &self.cluster, self.me, pending, out)?;
-        note(&mut self.pending, place, marks, true);
+        note(&mut self.pending, slot, marks, true);
         Ok(Why::Chosen)
     }
 }
@@ -170,8 +167,7 @@ impl Role for Proxy {
             cluster: *cluster,
             me,
             live: true,
-            known: 0,
-            pending: Vec::new(alloc),
+            pending: Pendings::new(alloc, 0),
         })
     }
 
@@ -208,7 +204,6 @@ impl Role for Proxy {
             &self.cluster,
             self.me,
             &self.pending,
-            self.known,
             WINDOW,
             out,
         ) {

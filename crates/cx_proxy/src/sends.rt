@@ -1,13 +1,13 @@
 //! What a proxy leader sends for a pending value: a value goes to several receivers, each of which gets its own copy.
 
-ghost use Rattle.std.specs.Prelude.{◌≡◌, ◌<◌, ◌≤◌, ◌+◌, ◌*◌, ◌^◌, ◌%◌, ◌++◌, ◌∷◌, [], length, map, OnOk, All};
+ghost use Rattle.std.specs.Prelude.{◌≡◌, ◌<◌, ◌≤◌, ◌+◌, ◌*◌, ◌%◌, ◌++◌, ◌∷◌, [], length, map, OnOk, All};
 ghost use Rattle.cx_base.specs.declared.role.Kind.TheVariants as kind;
 ghost use Rattle.cx_base.specs.Lists.{numbers, below};
 ghost use Rattle.cx_model.specs.declared.states.Pending.{Pending};
 ghost use Rattle.cx_model.specs.Proxy.{phase2a_to, column_for, members_for, chosen_to, announcement, again_for, again_at, pending_at};
 ghost use Rattle.cx_proxy.specs.Holds.{IsPending};
 
-use crate::pendings::place_of;
+use crate::pendings::{Pendings, find};
 use cx_base::{Cluster, Duplicate, NoMemory, RoleId};
 use cx_grid::{in_column, is_member};
 use cx_model::Pending;
@@ -84,25 +84,24 @@ pub fn announce(
     Ok(())
 }
 
-/// Asks or announces again for each value that is pending at so many slots from the first on.
+/// Asks or announces again for each value that is pending at so many slots from the ring's first on.
 pub fn again_all(
     alloc: Global,
     cluster: &Cluster,
     me: RoleId,
-    list: &[Pending],
-    first: u64,
+    pendings: &Pendings,
     count: u64,
     out: &mut Outbox,
 ) -> Result<(), NoMemory>
     requires kind { me.kind ≡ kind.Proxy }
-    requires parts { All IsPending list.now }
-    requires slots { first ≤ 2 ^ 40 }
+    requires parts { All IsPending pendings.now.items }
     requires room { 16 * count ≤ 512 }
     requires empty { out.old.list ≡ [] }
-    ensures { OnOk result (out.new.list ≡ again_at cluster.now me list.now (numbers first count)) }
+    ensures { OnOk result (out.new.list ≡ again_at cluster.now me pendings.now.items (numbers pendings.now.first count)) }
 {
+    let first = pendings.first();
     for slot in first..first + count {
-        again(alloc, cluster, me, list, slot, out)?;
+        again(alloc, cluster, me, pendings, slot, out)?;
     }
     Ok(())
 }
@@ -112,20 +111,19 @@ fn again(
     alloc: Global,
     cluster: &Cluster,
     me: RoleId,
-    list: &[Pending],
+    pendings: &Pendings,
     slot: u64,
     out: &mut Outbox,
 ) -> Result<(), NoMemory>
     requires kind { me.kind ≡ kind.Proxy }
-    requires parts { All IsPending list.now }
+    requires parts { All IsPending pendings.now.items }
     requires room { length out.old.list + 16 ≤ 512 }
-    ensures list { OnOk result (out.new.list ≡ out.old.list ++ again_for cluster.now me (pending_at slot list.now)) }
+    ensures list { OnOk result (out.new.list ≡ out.old.list ++ again_for cluster.now me (pending_at slot pendings.now.items)) }
     ensures room { OnOk result (length out.new.list ≤ length out.old.list + 16) }
 {
-    let Some(place) = place_of(list, slot) else {
+    let Some(pending) = find(pendings, slot) else {
         return Ok(());
     };
-    let pending = &list[place];
     if pending.done {
         announce(alloc, cluster, me, pending, out)
     } else {
