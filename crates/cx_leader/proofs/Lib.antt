@@ -1,3 +1,4 @@
+pub mod BySlot
 pub mod Fits
 pub mod MatchLaws
 pub mod Opened
