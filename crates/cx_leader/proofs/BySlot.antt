@@ -1,5 +1,5 @@
 -- Values at rising slots, found by their slots.
-use Rattle.std.specs.Prelude.{◌≡◌, ◌≤◌, ◌<◌, ◌+◌, ◌==◌, ℕ, zero, suc, Bool, true, false, not, nat_le, map, find, filter, List, [], ◌∷◌, ◌++◌, Option, None, Some, All, refl, if◌then◌else◌}
+use Rattle.std.specs.Prelude.{◌≡◌, ◌≤◌, ◌<◌, ◌+◌, ◌==◌, ℕ, zero, suc, Bool, true, false, not, nat_le, map, filter, List, [], ◌∷◌, ◌++◌, Option, None, Some, All, refl, if◌then◌else◌}
 use Rattle.std.proofs.Common.{ap, arith, sym, ◌∙◌, subst, inl, inr, append_assoc}
 use Rattle.std.proofs.lemmas.Bool.{cases_Bool}
 use Rattle.std.proofs.lemmas.Bool.Decides.{nat_tests}
@@ -10,7 +10,7 @@ use Rattle.cx_base.specs.Grid.{is_in}
 use Rattle.cx_base.specs.Lists.{numbers}
 use Rattle.cx_msg.specs.Letter.{Letter}
 use Rattle.cx_ring.specs.Ring.{value_at, with_value, values_from}
-use Rattle.cx_leader.specs.Proposing.{Proposing, only, open_value, open_values}
+use Rattle.cx_leader.specs.Proposing.{Proposing, open_value, open_values}
 
 abbrev pub slot_of : Placed → ℕ
 slot_of p = p.slot

@@ -100,10 +100,14 @@ proposed_raised cw next k ps is le =
       values = all_raised cw (max cw k) ps (omega arith) is.values;
     }
 
-pub holding_raised : (cw next k : ℕ) (list : RingState Placed) → IsHolding cw next list → k ≤ 2 ^ 40 → IsHolding (max cw k) (max next (max cw k)) (raised slot_of (max cw k) list)
-holding_raised cw next k list is le =
+pub holding_raised : (cw next k : ℕ) (list : RingState Placed) (known : ℕ) → IsHolding cw next list known → k ≤ 2 ^ 40 → IsHolding (max cw k) (max next (max cw k)) (raised slot_of (max cw k) list) (max known (max cw k))
+holding_raised cw next k list known is le =
     let first : max list.first (max cw k) ≡ max cw k = omega (arith, is.first) in
-    record { proposing = rw first (proposed_raised cw next k list.items is.proposing le); first = first }
+    record {
+      proposing = rw first (proposed_raised cw next k list.items is.proposing le);
+      first = first;
+      known_first = omega (arith, is.known_first);
+    }
 
 -- ---- a plan
 

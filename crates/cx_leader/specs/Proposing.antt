@@ -83,10 +83,11 @@ only (Some x) = x ∷ []
 abbrev pub open_value : ℕ → Proposing → List Placed
 open_value s p = if is_in s p.chosen then [] else only (value_at (λ (x : Placed). x.slot) s p.proposed)
 
--- the window whose values are held begins at the watermark
-pub record IsHolding (cw next : ℕ) (list : RingState Placed) : Type 0 where
+-- the windows whose values are held, and of which it is known what is chosen, begin at the watermark
+pub record IsHolding (cw next : ℕ) (list : RingState Placed) (known : ℕ) : Type 0 where
   pub proposing : IsProposing cw next list.items
   pub first : list.first ≡ cw
+  pub known_first : known ≡ cw
 
 -- a value gets the next slot, if one is free
 abbrev pub Adds : Value → Proposing → Option ℕ → Proposing → Type 0

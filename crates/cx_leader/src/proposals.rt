@@ -14,6 +14,7 @@ ghost use Rattle.cx_phase1.specs.Planned.{IsPlan};
 ghost use Rattle.cx_phase1.specs.Window.{IsWindow, is_used_up};
 ghost use Rattle.cx_leader.specs.Proposing.{Proposing, Adds, IsSlot, nothing_from, planned, with_value, with_chosen, raised, is_settled, open_value, open_values};
 
+use crate::known::Known;
 use crate::sending::proposal;
 use cx_base::{Cluster, Duplicate, Kind, NoMemory, Placed, Value};
 use cx_field::Entry;
@@ -32,7 +33,7 @@ pub struct Proposals {
     // The slot before which it proposed when its first phase was done.
     end: u64,
     list: Ring<Placed, BySlot>,
-    chosen: Vec<u64>,
+    chosen: Known,
 }
 
 impl Model for Proposals {
@@ -40,12 +41,12 @@ impl Model for Proposals {
 
     ghost Value = { Proposing };
 
-    ghost view = { λ p. record { cw = p.slots.cw; next = p.slots.next; end = p.end; proposed = p.list.items; chosen = p.chosen.items } };
+    ghost view = { λ p. record { cw = p.slots.cw; next = p.slots.next; end = p.end; proposed = p.list.items; chosen = p.chosen.list } };
 
-    ghost invariant = { λ p. IsHolding p.slots.cw p.slots.next p.list };
+    ghost invariant = { λ p. IsHolding p.slots.cw p.slots.next p.list p.chosen.first };
 }
 
-// A proposed value is held by its slot.
+// A proposed value is held at its slot.
 struct BySlot;
 
 impl Slotted<Placed> for BySlot {
@@ -54,32 +55,6 @@ impl Slotted<Placed> for BySlot {
     fn slot(one: &Placed) -> u64 {
         one.slot
     }
-}
-
-fn contains(slots: &[u64], slot: u64) -> bool
-    ensures { result ≡ is_in slot slots.now }
-{
-    slots.iter().any(|other| *other == slot)
-}
-
-fn drop_chosen(list: &mut Vec<u64>, cw: u64)
-    ensures { list.new.items ≡ filter (λ s. nat_le cw s) list.old.items }
-{
-    list.retain(|slot| *slot >= cw);
-}
-
-// Whether each of these slots is known to be chosen.
-#[tactic(auto, using(cx_grid::proofs::Crossing::numbers_more))]
-fn are_chosen(slots: &[u64], first: u64, count: u64) -> bool
-    requires { first + count < 2 ^ 64 }
-    ensures { result ≡ list_all (λ s. is_in s slots.now) (numbers first count) }
-{
-    for slot in first..first + count {
-        if !contains(slots, slot) {
-            return false;
-        }
-    }
-    true
 }
 
 // Values at the slots from the first on, at most one for each of the window.
@@ -108,7 +83,7 @@ impl Proposals {
             slots: Slots::new(0, 0),
             end: 0,
             list: Ring::new(alloc, 0),
-            chosen: Vec::new(alloc),
+            chosen: Known::new(alloc, 0),
         }
     }
 
@@ -121,7 +96,7 @@ impl Proposals {
             slots: Slots::new(plan.cw, plan.end),
             end: plan.end,
             list: placed(alloc, plan.cw, plan.values.as_slice())?,
-            chosen: Vec::new(alloc),
+            chosen: Known::new(alloc, plan.cw),
         })
     }
 
@@ -153,12 +128,12 @@ impl Proposals {
         Ok(Some(slot))
     }
 
-    /// Notes that a slot is chosen.
-    pub fn note(&mut self, slot: u64) -> Result<(), NoMemory>
+    /// Notes that a slot of the window is chosen; there is no room for others.
+    pub fn note(&mut self, alloc: Global, slot: u64) -> Result<(), NoMemory>
         ensures ok { OnOk result (self.new ≡ with_chosen slot self.old) }
         ensures no_memory { OnErr result (self.new ≡ self.old) }
     {
-        self.chosen.push(slot)?;
+        self.chosen.note(alloc, slot)?;
         Ok(())
     }
 
@@ -171,7 +146,7 @@ impl Proposals {
         self.slots.raise(cw);
         let cw = self.slots.cw();
         self.list.raise(cw);
-        drop_chosen(&mut self.chosen, cw);
+        self.chosen.raise(cw);
     }
 
     // Proposes the value of a slot, if it has one that is not known to be chosen.
@@ -240,7 +215,7 @@ impl Proposals {
     pub fn is_chosen(&self, slot: u64) -> bool
         ensures { result ≡ is_in slot self.now.chosen }
     {
-        contains(&self.chosen, slot)
+        self.chosen.contains(slot)
     }
 
     /// Whether all that it proposed when its first phase was done is known to be chosen, or held by enough replicas.
@@ -248,6 +223,6 @@ impl Proposals {
         ensures { result ≡ is_settled self.now }
     {
         let cw = self.slots.cw();
-        are_chosen(&self.chosen, cw, self.end.saturating_sub(cw))
+        self.chosen.contains_all(cw, self.end.saturating_sub(cw))
     }
 }

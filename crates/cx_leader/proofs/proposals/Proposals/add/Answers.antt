@@ -13,6 +13,7 @@ invariant_of-self-2 c =
     rw (c.put.ensures.items, c.in_ok-make_room.ensures.ok, c.next_slot.ensures.rest, free.0, free.1, last) (record {
       proposing = proposed_next w items c.in_ok-value.value c.self.invariant.proposing free.0 fits;
       first = c.self.invariant.first;
+      known_first = c.self.invariant.known_first;
     })
 
 pub returns-clause-ok : goal.returns-clause-ok

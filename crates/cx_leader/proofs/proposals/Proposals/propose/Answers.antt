@@ -1,5 +1,4 @@
 use Rattle.std.proofs.Common.{sym}
-use Rattle.cx_base.specs.declared.command.Placed.{Placed}
 use Rattle.cx_leader.specs.Proposing.{IsProposal}
 use Rattle.cx_leader.proofs.BySlot.{found_is}
 use Rattle.cx_leader.proofs.proposals.Proposals.propose.Goals as goal

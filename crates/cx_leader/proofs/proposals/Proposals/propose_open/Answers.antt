@@ -1,4 +1,4 @@
-use Rattle.std.proofs.Common.{◌≡◌, ◌-◌, ◌≤◌, map, ap, arith, subst, ◌++◌}
+use Rattle.std.proofs.Common.{◌≡◌, ◌-◌, map, ap, arith, subst, ◌++◌}
 use Rattle.cx_base.specs.declared.role.Kind.TheVariants.{Leader}
 use Rattle.cx_base.specs.Lists.{numbers}
 use Rattle.cx_base.specs.Role.{role}
