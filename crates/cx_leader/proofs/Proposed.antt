@@ -12,7 +12,9 @@ use Rattle.cx_model.specs.declared.states.Plan.{Plan}
 use Rattle.cx_model.specs.Plan.{placed_from}
 use Rattle.cx_phase1.specs.Planned.{IsPlan}
 use Rattle.cx_phase1.specs.Window.{Window, IsWindow, is_used_up, free_slot}
-use Rattle.cx_leader.specs.Proposing.{IsSlot, IsProposal, IsProposing, planned, open_values}
+use Rattle.cx_ring.specs.Ring.{RingState, with_value, raised}
+use Rattle.cx_leader.specs.Proposing.{IsSlot, IsProposal, IsProposing, IsHolding, planned, open_values}
+use Rattle.cx_leader.proofs.BySlot.{slot_of, put_next, slots_next}
 
 -- ---- a value at the next slot
 
@@ -30,17 +32,6 @@ slot_free w is h =
     let b : w.next ≢ 2 ^ 40 = eqb-false w.next 1099511627776 p.1 in
     record { low = is.low; high = omega (arith, is.high); end = omega (arith, is.end) }
 
-numbers_push : (first n : ℕ) → numbers first n ++ (first + n) ∷ [] ≡ numbers first (n + 1)
-numbers_push first zero = let e : first + 0 ≡ first = omega arith in rw e refl
-numbers_push first (suc n) =
-    let e : first + suc n ≡ first + 1 + n = omega arith in
-    let k : suc n + 1 ≡ suc (n + 1) = omega arith in
-    rw (e, k) (ap (λ xs. first ∷ xs) (numbers_push (first + 1) n))
-
-map-push : {A B : Type 0} (f : A → B) (xs : List A) (x : A) → map f (xs ++ x ∷ []) ≡ map f xs ++ f x ∷ []
-map-push f [] x = refl
-map-push f (y ∷ xs) x = ap (λ ys. f y ∷ ys) (map-push f xs x)
-
 pub proposed_next : (w : Window) (ps : List Placed) (v : Value) → IsProposing w.cw w.next ps → is_used_up w ≡ false → IsTrue (field.value.fits v) → IsProposing w.cw (w.next + 1) (ps ++ record { slot = w.next; value = v } ∷ [])
 proposed_next w ps v is h fits =
     let slot : IsSlot w.cw w.next = slot_free w is.window h in
@@ -49,11 +40,13 @@ proposed_next w ps v is h fits =
     let more : n + 1 ≡ w.next + 1 - w.cw = omega (arith, slot.low) in
     record {
       window = record { low = omega (arith, slot.low); high = omega (arith, slot.high); end = omega (arith, slot.end) };
-      slots =
-          map-push (λ (p : Placed). p.slot) ps (record { slot = w.next; value = v }) ∙ ap (λ ss. ss ++ w.next ∷ []) is.slots
-          ∙ ap (λ s. numbers w.cw n ++ s ∷ []) at ∙ numbers_push w.cw n ∙ ap (numbers w.cw) more;
+      slots = slots_next w.cw n ps (record { slot = w.next; value = v }) is.slots at ∙ ap (numbers w.cw) more;
       values = All-push (IsProposal w.cw) ps (record { slot = w.next; value = v }) is.values (record { slot = slot; value = fits });
     }
+
+-- a value at the next slot comes last
+pub put_last : (w : Window) (ps : List Placed) (v : Value) → IsProposing w.cw w.next ps → with_value slot_of (record { slot = w.next; value = v }) ps ≡ ps ++ record { slot = w.next; value = v } ∷ []
+put_last w ps v is = put_next w.cw (w.next - w.cw) ps (record { slot = w.next; value = v }) is.slots (omega (arith, is.window.low))
 
 -- ---- a greater watermark
 
@@ -95,7 +88,7 @@ all_raised : (cw k : ℕ) (ps : List Placed) → cw ≤ k → All (IsProposal cw
 all_raised cw k [] le all = All-nil (IsProposal k)
 all_raised cw k (p ∷ ps) le all = all_raised_by cw k p ps _ refl le (All-head (IsProposal cw) p ps all) (all_raised cw k ps le (All-tail (IsProposal cw) p ps all))
 
-pub proposed_raised : (cw next k : ℕ) (ps : List Placed) → IsProposing cw next ps → k ≤ 2 ^ 40 → IsProposing (max cw k) (max next (max cw k)) (filter (λ (p : Placed). nat_le (max cw k) p.slot) ps)
+proposed_raised : (cw next k : ℕ) (ps : List Placed) → IsProposing cw next ps → k ≤ 2 ^ 40 → IsProposing (max cw k) (max next (max cw k)) (filter (λ (p : Placed). nat_le (max cw k) p.slot) ps)
 proposed_raised cw next k ps is le =
     let low = is.window.low in
     let high = is.window.high in
@@ -105,6 +98,15 @@ proposed_raised cw next k ps is le =
       window = record { low = omega arith; high = omega arith; end = omega (arith, is.window.end) };
       slots = map-filter (max cw k) ps ∙ ap (λ ss. filter (λ s. nat_le (max cw k) s) ss) is.slots ∙ filter_numbers (max cw k) cw (next - cw) ∙ rw (first, count) refl;
       values = all_raised cw (max cw k) ps (omega arith) is.values;
+    }
+
+pub holding_raised : (cw next k : ℕ) (list : RingState Placed) (known : ℕ) → IsHolding cw next list known → k ≤ 2 ^ 40 → IsHolding (max cw k) (max next (max cw k)) (raised slot_of (max cw k) list) (max known (max cw k))
+holding_raised cw next k list known is le =
+    let first : max list.first (max cw k) ≡ max cw k = omega (arith, is.first) in
+    record {
+      proposing = rw first (proposed_raised cw next k list.items is.proposing le);
+      first = first;
+      known_first = omega (arith, is.known_first);
     }
 
 -- ---- a plan
@@ -128,19 +130,6 @@ proposed_plan p is =
       slots = slots-placed_from p.cw p.values ∙ ap (numbers p.cw) count;
       values = all_placed p.cw p.cw p.values (omega arith) (omega (arith, is.count, is.high)) (omega (arith, is.count, is.end)) is.values;
     }
-
-length-numbers : (first n : ℕ) → length (numbers first n) ≡ n
-length-numbers first zero = refl
-length-numbers first (suc n) = omega (arith, length-numbers (first + 1) n)
-
-length-slots : (ps : List Placed) → length (map (λ (p : Placed). p.slot) ps) ≡ length ps
-length-slots [] = refl
-length-slots (p ∷ ps) = omega (arith, length-slots ps)
-
--- the window has 32 slots
-pub at_most_32 : (cw next : ℕ) (ps : List Placed) → IsProposing cw next ps → length ps ≤ 32
-at_most_32 cw next ps is =
-    omega (arith, length-slots ps, ap (λ ss. length ss) is.slots, length-numbers cw (next - cw), is.window.high)
 
 none_chosen : (ps : List Placed) → filter (λ (x : Placed). not (is_in x.slot [])) ps ≡ ps
 none_chosen [] = refl

@@ -1,3 +1,4 @@
+pub mod Knowing
 pub mod Promising
 pub mod Proposing
 pub mod State

@@ -1,5 +1,5 @@
 -- What a leader proposed, as contracts see it.
-use Rattle.std.specs.Prelude.{◌≡◌, ◌≤◌, ◌<◌, ◌+◌, ◌-◌, ◌^◌, ℕ, Bool, true, false, not, nat_le, max, map, filter, List, [], ◌∷◌, ◌++◌, All, Option, None, Some, IsTrue}
+use Rattle.std.specs.Prelude.{◌≡◌, ◌≤◌, ◌<◌, ◌+◌, ◌-◌, ◌^◌, ℕ, Bool, true, false, not, nat_le, max, map, filter, List, [], ◌∷◌, ◌++◌, All, Option, None, Some, IsTrue, if◌then◌else◌}
 use Rattle.std.specs.List.{list_all}
 use Rattle.cx_base.specs.declared.command.Placed.{Placed}
 use Rattle.cx_base.specs.declared.command.Value.{Value}
@@ -9,6 +9,7 @@ use Rattle.cx_model.specs.declared.states.Plan.{Plan}
 use Rattle.cx_model.specs.Plan.{placed_from}
 use Rattle.cx_field.specs.Fields as field
 use Rattle.cx_phase1.specs.Window.{IsWindow, is_used_up}
+use Rattle.cx_ring.specs.Ring.{RingState, value_at}
 
 -- the chosen watermark and the next free slot; the slot before which it proposed when its first phase was done; what it proposed
 -- from the watermark on, and which of these slots it knows to be chosen
@@ -73,6 +74,20 @@ pub record IsProposing (cw next : ℕ) (proposed : List Placed) : Type 0 where
   pub window : IsWindow cw next
   pub slots : map (λ (p : Placed). p.slot) proposed ≡ numbers cw (next - cw)
   pub values : All (IsProposal cw) proposed
+
+-- the value of a slot, unless the slot is known to be chosen
+abbrev pub only : Option Placed → List Placed
+only None = []
+only (Some x) = x ∷ []
+
+abbrev pub open_value : ℕ → Proposing → List Placed
+open_value s p = if is_in s p.chosen then [] else only (value_at (λ (x : Placed). x.slot) s p.proposed)
+
+-- the windows whose values are held, and of which it is known what is chosen, begin at the watermark
+pub record IsHolding (cw next : ℕ) (list : RingState Placed) (known : ℕ) : Type 0 where
+  pub proposing : IsProposing cw next list.items
+  pub first : list.first ≡ cw
+  pub known_first : known ≡ cw
 
 -- a value gets the next slot, if one is free
 abbrev pub Adds : Value → Proposing → Option ℕ → Proposing → Type 0

@@ -95,7 +95,7 @@ impl Leader {
         if self.proposals.is_chosen(slot) {
             return Ok(Why::Same);
         }
-        self.proposals.note(slot)?;
+        self.proposals.note(self.alloc, slot)?;
         Ok(Why::Chosen)
     }
 }

@@ -1,6 +1,6 @@
 //! What a leader proposed, and what it knows to be chosen.
 
-ghost use Rattle.std.specs.Prelude.{◌≡◌, ◌≤◌, ◌<◌, ◌+◌, ◌-◌, ◌^◌, ◌++◌, ◌∷◌, [], not, max, map, filter, nat_le, length, None, Some, All, IsTrue, IfOk, IfSome, OnOk, OnErr};
+ghost use Rattle.std.specs.Prelude.{◌≡◌, ◌≤◌, ◌<◌, ◌+◌, ◌-◌, ◌^◌, ◌++◌, ◌∷◌, [], true, not, max, map, filter, nat_le, length, None, Some, All, IsTrue, IfOk, IfSome, OnOk, OnErr};
 ghost use Rattle.std.specs.List.{list_all};
 ghost use Rattle.cx_base.specs.declared.command.Placed.{Placed as PlacedOf};
 ghost use Rattle.cx_base.specs.declared.role.Kind.{Kind as KindOf};
@@ -12,13 +12,15 @@ ghost use Rattle.cx_model.specs.Leader.{propose_to};
 ghost use Rattle.cx_model.specs.Plan.{placed_from};
 ghost use Rattle.cx_phase1.specs.Planned.{IsPlan};
 ghost use Rattle.cx_phase1.specs.Window.{IsWindow, is_used_up};
-ghost use Rattle.cx_leader.specs.Proposing.{Proposing, Adds, IsSlot, IsProposal, nothing_from, planned, with_value, with_chosen, raised, is_settled, open_values};
+ghost use Rattle.cx_leader.specs.Proposing.{Proposing, Adds, IsSlot, nothing_from, planned, with_value, with_chosen, raised, is_settled, open_value, open_values};
 
+use crate::known::Known;
 use crate::sending::proposal;
 use cx_base::{Cluster, Duplicate, Kind, NoMemory, Placed, Value};
 use cx_field::Entry;
 use cx_model::Plan;
 use cx_phase1::Slots;
+use cx_ring::{Ring, Slotted};
 use cx_role::Outbox;
 use std::alloc::Global;
 use std::marker::Model;
@@ -30,64 +32,43 @@ pub struct Proposals {
     slots: Slots,
     // The slot before which it proposed when its first phase was done.
     end: u64,
-    list: Vec<Placed>,
-    chosen: Vec<u64>,
+    list: Ring<Placed, BySlot>,
+    chosen: Known,
 }
 
 impl Model for Proposals {
-    ghost use Rattle.cx_leader.specs.Proposing.{Proposing, IsProposing};
+    ghost use Rattle.cx_leader.specs.Proposing.{Proposing, IsHolding};
 
     ghost Value = { Proposing };
 
-    ghost view = { λ p. record { cw = p.slots.cw; next = p.slots.next; end = p.end; proposed = p.list.items; chosen = p.chosen.items } };
+    ghost view = { λ p. record { cw = p.slots.cw; next = p.slots.next; end = p.end; proposed = p.list.items; chosen = p.chosen.list } };
 
-    ghost invariant = { λ p. IsProposing p.slots.cw p.slots.next p.list.items };
+    ghost invariant = { λ p. IsHolding p.slots.cw p.slots.next p.list p.chosen.first };
 }
 
-fn contains(slots: &[u64], slot: u64) -> bool
-    ensures { result ≡ is_in slot slots.now }
-{
-    slots.iter().any(|other| *other == slot)
-}
+// A proposed value is held at its slot.
+struct BySlot;
 
-fn drop_proposed(list: &mut Vec<Placed>, cw: u64)
-    ensures { list.new.items ≡ filter (λ (p : PlacedOf). nat_le cw p.slot) list.old.items }
-{
-    list.retain(|placed| placed.slot >= cw);
-}
+impl Slotted<Placed> for BySlot {
+    ghost at = { λ p. p.slot };
 
-fn drop_chosen(list: &mut Vec<u64>, cw: u64)
-    ensures { list.new.items ≡ filter (λ s. nat_le cw s) list.old.items }
-{
-    list.retain(|slot| *slot >= cw);
-}
-
-// Whether each of these slots is known to be chosen.
-#[tactic(auto, using(cx_grid::proofs::Crossing::numbers_more))]
-fn are_chosen(slots: &[u64], first: u64, count: u64) -> bool
-    requires { first + count < 2 ^ 64 }
-    ensures { result ≡ list_all (λ s. is_in s slots.now) (numbers first count) }
-{
-    for slot in first..first + count {
-        if !contains(slots, slot) {
-            return false;
-        }
+    fn slot(one: &Placed) -> u64 {
+        one.slot
     }
-    true
 }
 
-// Values at the slots from the first on.
-fn placed(alloc: Global, first: u64, values: &[Value]) -> Result<Vec<Placed>, NoMemory>
-    requires { first + length values.now < 2 ^ 64 }
-    ensures { IfOk result (λ list. list.items ≡ placed_from first values.now) }
+// Values at the slots from the first on, at most one for each of the window.
+fn placed(alloc: Global, first: u64, values: &[Value]) -> Result<Ring<Placed, BySlot>, NoMemory>
+    requires first { first ≤ 2 ^ 40 }
+    requires count { length values.now ≤ 32 }
+    ensures { IfOk result (λ list. list ≡ record { first = first; items = placed_from first values.now; room = true }) }
 {
-    let mut list = Vec::with_capacity(alloc, values.len())?;
+    let mut list = Ring::new(alloc, first);
+    list.make_room(alloc)?;
     let mut slot = first;
     for value in values {
-        list.push(Placed {
-            slot,
-            value: value.copy(alloc)?,
-        })?;
+        let value = value.copy(alloc)?;
+        list.put(Placed { slot, value });
         slot += 1;
     }
     Ok(list)
@@ -101,8 +82,8 @@ impl Proposals {
         Proposals {
             slots: Slots::new(0, 0),
             end: 0,
-            list: Vec::new(alloc),
-            chosen: Vec::new(alloc),
+            list: Ring::new(alloc, 0),
+            chosen: Known::new(alloc, 0),
         }
     }
 
@@ -115,7 +96,7 @@ impl Proposals {
             slots: Slots::new(plan.cw, plan.end),
             end: plan.end,
             list: placed(alloc, plan.cw, plan.values.as_slice())?,
-            chosen: Vec::new(alloc),
+            chosen: Known::new(alloc, plan.cw),
         })
     }
 
@@ -141,17 +122,18 @@ impl Proposals {
             return Ok(None);
         };
         let value = value.copy(alloc)?;
-        self.list.push(Placed { slot, value })?;
+        self.list.make_room(alloc)?;
+        self.list.put(Placed { slot, value });
         self.slots = slots;
         Ok(Some(slot))
     }
 
-    /// Notes that a slot is chosen.
-    pub fn note(&mut self, slot: u64) -> Result<(), NoMemory>
+    /// Notes that a slot of the window is chosen; there is no room for others.
+    pub fn note(&mut self, alloc: Global, slot: u64) -> Result<(), NoMemory>
         ensures ok { OnOk result (self.new ≡ with_chosen slot self.old) }
         ensures no_memory { OnErr result (self.new ≡ self.old) }
     {
-        self.chosen.push(slot)?;
+        self.chosen.note(alloc, slot)?;
         Ok(())
     }
 
@@ -163,12 +145,38 @@ impl Proposals {
     {
         self.slots.raise(cw);
         let cw = self.slots.cw();
-        drop_proposed(&mut self.list, cw);
-        drop_chosen(&mut self.chosen, cw);
+        self.list.raise(cw);
+        self.chosen.raise(cw);
+    }
+
+    // Proposes the value of a slot, if it has one that is not known to be chosen.
+    fn propose(
+        &self,
+        alloc: Global,
+        cluster: &Cluster,
+        leader: u16,
+        own: &Entry,
+        slot: u64,
+        out: &mut Outbox,
+    ) -> Result<(), NoMemory>
+        requires spare { 0 < out.old.spare }
+        requires round { IsTrue (field.round.fits own.now.round) }
+        ensures list { OnOk result (out.new.list ≡ out.old.list ++ map (propose_to cluster.now (role Kind.Leader leader) own.now self.now.cw) (open_value slot self.now)) }
+        ensures spare { OnOk result (out.old.spare ≤ out.new.spare + 1) }
+    {
+        if self.is_chosen(slot) {
+            return Ok(());
+        }
+        let Some(placed) = self.list.get(slot) else {
+            return Ok(());
+        };
+        let value = placed.value.copy(alloc)?;
+        let cw = self.slots.cw();
+        out.push(proposal(cluster, leader, own, cw, placed.slot, value));
+        Ok(())
     }
 
     /// Proposes each value that is not known to be chosen, at most 32 of them; want of memory may leave some sent.
-    #[tactic(auto, using(crate::proofs::Proposed::at_most_32))]
     pub fn propose_open(
         &self,
         alloc: Global,
@@ -182,12 +190,8 @@ impl Proposals {
         ensures list { OnOk result (out.new.list ≡ out.old.list ++ map (propose_to cluster.now (role Kind.Leader leader) own.now self.now.cw) (open_values self.now)) }
         ensures spare { OnOk result (out.old.spare ≤ out.new.spare + 32) }
     {
-        let cw = self.slots.cw();
-        for placed in &self.list {
-            if !contains(&self.chosen, placed.slot) {
-                let value = placed.value.copy(alloc)?;
-                out.push(proposal(cluster, leader, own, cw, placed.slot, value));
-            }
+        for slot in self.slots.cw()..self.slots.next() {
+            self.propose(alloc, cluster, leader, own, slot, out)?;
         }
         Ok(())
     }
@@ -211,7 +215,7 @@ impl Proposals {
     pub fn is_chosen(&self, slot: u64) -> bool
         ensures { result ≡ is_in slot self.now.chosen }
     {
-        contains(&self.chosen, slot)
+        self.chosen.contains(slot)
     }
 
     /// Whether all that it proposed when its first phase was done is known to be chosen, or held by enough replicas.
@@ -219,6 +223,6 @@ impl Proposals {
         ensures { result ≡ is_settled self.now }
     {
         let cw = self.slots.cw();
-        are_chosen(&self.chosen, cw, self.end.saturating_sub(cw))
+        self.chosen.contains_all(cw, self.end.saturating_sub(cw))
     }
 }

@@ -1,0 +1,8 @@
+use Rattle.std.proofs.Common.{◌≡◌, ◌+◌, ◌-◌}
+use Rattle.std.specs.List.{list_all}
+use Rattle.cx_base.specs.Grid.{is_in}
+use Rattle.cx_base.specs.Lists.{numbers}
+use Rattle.cx_leader.proofs.known.Known.contains_all.Given as goal
+
+abbrev pub invariant-loop-slot : goal.invariant-loop-slot
+invariant-loop-slot l = list_all (λ s. is_in s l.self.list) (numbers l.slot (l.first + l.count - l.slot)) ≡ list_all (λ s. is_in s l.self.list) (numbers l.first l.count)

@@ -1,8 +1,0 @@
-use Rattle.std.proofs.Common.{◌≡◌, ◌+◌, ◌-◌}
-use Rattle.std.specs.List.{list_all}
-use Rattle.cx_base.specs.Grid.{is_in}
-use Rattle.cx_base.specs.Lists.{numbers}
-use Rattle.cx_leader.proofs.proposals.are_chosen.Given as goal
-
-abbrev pub invariant-loop-slot : goal.invariant-loop-slot
-invariant-loop-slot l = list_all (λ s. is_in s l.slots) (numbers l.slot (l.first + l.count - l.slot)) ≡ list_all (λ s. is_in s l.slots) (numbers l.first l.count)

@@ -1,0 +1,19 @@
+-- The slots of a window that are known to be chosen, as contracts see them.
+use Rattle.std.specs.Prelude.{◌≡◌, ℕ, max, nat_le, filter, List, [], ◌∷◌, ◌++◌}
+use Rattle.cx_base.specs.Grid.{is_in}
+
+-- where the window begins, and the slots in the order in which they were noted
+pub record Knowing : Type 0 where
+  pub first : ℕ
+  pub list : List ℕ
+
+abbrev pub noted : ℕ → Knowing → Knowing
+noted s k = record k { list = k.list ++ s ∷ [] }
+
+-- a greater beginning drops the slots below it
+abbrev pub known_from : ℕ → Knowing → Knowing
+known_from s k = record { first = max k.first s; list = filter (λ x. nat_le (max k.first s) x) k.list }
+
+-- the same slots stand in both
+pub record AreSame (held list : List ℕ) : Type 0 where
+  pub same : (s : ℕ) → is_in s held ≡ is_in s list

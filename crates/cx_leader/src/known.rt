@@ -1,0 +1,134 @@
+//! The slots of a window that are known to be chosen.
+
+ghost use Rattle.std.specs.Prelude.{◌≡◌, ◌≤◌, ◌<◌, ◌+◌, ◌^◌, ◌++◌, ◌∷◌, [], filter, nat_le, OnOk, OnErr};
+ghost use Rattle.std.specs.List.{list_all};
+ghost use Rattle.cx_base.specs.Grid.{is_in};
+ghost use Rattle.cx_base.specs.Lists.{numbers};
+ghost use Rattle.cx_leader.specs.Knowing.{Knowing, noted, known_from};
+
+use cx_base::NoMemory;
+use cx_ring::{Ring, Slotted, Tells, Told};
+use std::alloc::Global;
+use std::marker::Model;
+
+// How many slots the window has.
+const SLOTS: u64 = 32;
+
+/// The slots of a window that are known to be chosen: looked up at once, where contracts see the list of them in the order in
+/// which they were noted.
+#[derive(Drop)]
+pub struct Known {
+    slots: Ring<u64, Itself>,
+    // A slot that is noted twice stands here twice.
+    noted: Told<u64>,
+}
+
+impl Model for Known {
+    ghost use Rattle.cx_leader.specs.Knowing.{Knowing, AreSame};
+
+    ghost Value = { Knowing };
+
+    ghost view = { λ k. record { first = k.slots.first; list = k.noted.items } };
+
+    ghost invariant = { λ k. AreSame k.slots.items k.noted.items };
+}
+
+// A slot is held by itself.
+struct Itself;
+
+impl Slotted<u64> for Itself {
+    ghost at = { λ s. s };
+
+    fn slot(one: &u64) -> u64 {
+        *one
+    }
+}
+
+struct Nothing;
+
+impl Tells<(), u64> for Nothing {
+    ghost told = { λ _. [] };
+}
+
+struct Added;
+
+impl<'a> Tells<(&'a Told<u64>, u64), u64> for Added {
+    ghost told = { λ x. x.0.now.items ++ x.1 ∷ [] };
+}
+
+struct Raised;
+
+impl<'a> Tells<(u64, &'a Told<u64>), u64> for Raised {
+    ghost told = { λ x. filter (λ s. nat_le x.0 s) x.1.now.items };
+}
+
+impl Known {
+    /// None, of the window that begins at a slot. It takes no memory.
+    pub fn new(alloc: Global, first: u64) -> Self
+        requires { first ≤ 2 ^ 40 }
+        ensures { result ≡ record { first = first; list = [] } }
+    {
+        Known {
+            slots: Ring::new(alloc, first),
+            noted: Told::of::<(), Nothing>(&()),
+        }
+    }
+
+    /// Notes a slot, for which there is room in the window alone.
+    #[tactic(auto, using(crate::proofs::Knows::same_noted))]
+    pub fn note(&mut self, alloc: Global, slot: u64) -> Result<(), NoMemory>
+        ensures ok { OnOk result (self.new ≡ noted slot self.old) }
+        ensures no_memory { OnErr result (self.new ≡ self.old) }
+    {
+        let first = self.slots.first();
+        // There is no place for a slot outside of the window, and a leader notes none: `chosen_in` answers before.
+        if slot < first || slot - first >= SLOTS {
+            return Err(NoMemory);
+        }
+        self.slots.make_room(alloc)?;
+        self.slots.put(slot);
+        self.noted = Told::of::<(&Told<u64>, u64), Added>(&(&self.noted, slot));
+        Ok(())
+    }
+
+    /// Lets the window begin at a slot, or leaves a later beginning; the slots below it are forgotten. It takes no memory.
+    #[tactic(auto, using(crate::proofs::Knows::same_from))]
+    pub fn raise(&mut self, first: u64)
+        requires { first ≤ 2 ^ 40 }
+        ensures { self.new ≡ known_from first self.old }
+    {
+        self.slots.raise(first);
+        let first = self.slots.first();
+        self.noted = Told::of::<(u64, &Told<u64>), Raised>(&(first, &self.noted));
+    }
+
+    /// Forgets all. It takes no memory.
+    pub fn clear(&mut self)
+        ensures { self.new ≡ record self.old { list = [] } }
+    {
+        self.slots.clear();
+        self.noted = Told::of::<(), Nothing>(&());
+    }
+
+    /// Whether a slot is known to be chosen. It takes no memory.
+    #[tactic(auto, using(crate::proofs::Knows::found_in))]
+    pub fn contains(&self, slot: u64) -> bool
+        ensures { result ≡ is_in slot self.now.list }
+    {
+        self.slots.get(slot).is_some()
+    }
+
+    /// Whether each of so many slots from the first on is known to be chosen. It takes no memory.
+    #[tactic(auto, using(cx_grid::proofs::Crossing::numbers_more))]
+    pub fn contains_all(&self, first: u64, count: u64) -> bool
+        requires { first + count < 2 ^ 64 }
+        ensures { result ≡ list_all (λ s. is_in s self.now.list) (numbers first count) }
+    {
+        for slot in first..first + count {
+            if !self.contains(slot) {
+                return false;
+            }
+        }
+        true
+    }
+}
