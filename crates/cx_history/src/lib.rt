@@ -7,12 +7,14 @@
 
 mod entry;
 mod events;
+mod kept;
 mod kinds;
 mod piece;
 mod sent;
 mod stale;
 
 pub use events::Events;
+pub use kept::Kept;
 pub use sent::Sent;
 
 #[cfg(test)]

@@ -1,6 +1,7 @@
 //! A keeper in memory.
 
-ghost use Rattle.std.specs.Prelude.{◌≡◌, ◌≤◌, ◌+◌, [], IfOk, length, drop, option_to_list};
+ghost use Rattle.std.specs.Prelude.{◌≡◌, ◌≤◌, ◌+◌, [], IfOk, IsTrue, length, drop, option_to_list};
+ghost use Rattle.cx_keeper.specs.Keeper.{all_fit};
 ghost use Rattle.cx_keeper.specs.MemKeeper.{tells_of, kept_of, faults_of, mem_append_gives, mem_append_is};
 
 use crate::{KeepFault, Keeper, OpenFault, Records};
@@ -52,7 +53,8 @@ impl MemKeeper {
     pub fn kept_since(&self, count: usize) -> Result<Option<Record>, NoMemory>
         requires least { count ≤ length self.now.kept }
         requires most { length self.now.kept ≤ count + 1 }
-        ensures { IfOk result (λ r. option_to_list r ≡ drop count self.now.kept) }
+        ensures last { IfOk result (λ r. option_to_list r ≡ drop count self.now.kept) }
+        ensures ranges { IfOk result (λ r. IsTrue (all_fit (option_to_list r))) }
     {
         self.kept.get(count)
     }

@@ -20,7 +20,7 @@ use Rattle.cx_msg.specs.Letter.{Letter}
 use Rattle.cx_msg.specs.declared.input.KeptRecord.{KeptRecord}
 use Rattle.cx_trace.specs.declared.effect.Effect.{Effect}
 use Rattle.cx_world.specs.Seat.{Seat, AreSeats, roles_in}
-use Rattle.cx_world.specs.declared.change.Changed.{Changed}
+use Rattle.cx_world.specs.declared.turned.Changed.{Changed}
 use Rattle.cx_world.specs.declared.change.Seats.{Seats}
 
 pub record WorldState : Type 0 where

@@ -11,7 +11,8 @@ ghost use Rattle.cx_msg.specs.declared.message.Msg.{Msg};
 ghost use Rattle.cx_msg.specs.declared.input.Act.TheVariants.{Give};
 ghost use Rattle.cx_world.specs.World.{AsksAfter, Changes, ChangesAfter};
 
-use crate::seat::{Seat, Turned, act_at};
+use crate::seat::{Seat, act_at};
+use crate::turned::{Changed, Turned};
 use cx_acceptor::Acceptor;
 use cx_base::{Command, Cut, Event, Kind, NoMemory, Op, RoleId, Why};
 use cx_batch::{Batcher, Unbatcher};
@@ -37,14 +38,6 @@ pub struct Seats {
     pub replicas: Vec<Seat<Replica>>,
     pub unbatchers: Vec<Seat<Unbatcher>>,
     pub readers: Vec<Seat<Reader>>,
-}
-
-/// What an event came to, beside the roles and the outbox: at which role, in which word, and which record was kept.
-#[derive(Drop)]
-pub struct Changed {
-    pub who: Option<RoleId>,
-    pub why: Why,
-    pub kept: Option<KeptRecord>,
 }
 
 fn of_role(who: RoleId, turned: Turned) -> Changed

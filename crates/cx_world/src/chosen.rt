@@ -13,6 +13,7 @@ ghost use Rattle.cx_msg.specs.declared.input.KeptRecord.{KeptRecord};
 use crate::sorted::{rounds, votes_by_slot};
 use cx_base::{Duplicate, Grid, Kind, NoMemory, RoleId, Round, Value, Values, same_value};
 use cx_grid::meet;
+use cx_history::Kept;
 use cx_msg::{KeptRecord, Record};
 use std::alloc::Global;
 
@@ -133,7 +134,7 @@ fn chosen_among(
 }
 
 /// The values chosen in slot 0, 1 and so on, up to the first slot without one.
-pub fn chosen_prefix(alloc: Global, kept: &[KeptRecord]) -> Result<Values, NoMemory>
+pub fn chosen_prefix(alloc: Global, kept: &Kept) -> Result<Values, NoMemory>
     ensures { IfOk result (λ values. values ≡ chosen_prefix kept.now) }
 {
     let mut rounds = rounds(alloc, kept)?;

@@ -3,8 +3,7 @@
 ghost use Rattle.std.specs.Prelude.{◌≡◌, length};
 ghost use Rattle.cx_history.specs.Answers.{answers_in, read_answers_in};
 
-use cx_history::{Events, Sent};
-use cx_msg::KeptRecord;
+use cx_history::{Events, Kept, Sent};
 
 /// How many events, datagrams, answers, answers to reads and kept records there are.
 #[derive(Clone, Copy, Debug, PartialEq, Eq)]
@@ -17,7 +16,7 @@ pub struct Counts {
 }
 
 /// The counts of these histories.
-pub fn count(events: &Events, kept: &[KeptRecord], sent: &Sent) -> Counts
+pub fn count(events: &Events, kept: &Kept, sent: &Sent) -> Counts
     ensures events { result.events ≡ length events.now }
     ensures datagrams { result.datagrams ≡ length sent.now }
     ensures answers { result.answers ≡ answers_in sent.now }

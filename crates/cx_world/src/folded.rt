@@ -6,18 +6,20 @@ ghost use Rattle.cx_model.specs.World.{log_of};
 ghost use Rattle.cx_world.specs.Folded.{folded_of};
 
 use cx_base::{Kind, NoMemory, RoleId, Value, copy_all};
+use cx_history::Kept;
 use cx_kv::fold;
-use cx_msg::{KeptRecord, Record};
+use cx_msg::Record;
 use cx_trace::Folded;
 use std::alloc::Global;
 
 /// The values that a replica kept, in order.
-pub fn log(alloc: Global, kept: &[KeptRecord], replica: u16) -> Result<Vec<Value>, NoMemory>
+pub fn log(alloc: Global, kept: &Kept, replica: u16) -> Result<Vec<Value>, NoMemory>
     ensures { IfOk result (λ values. values.items ≡ log_of replica kept.now) }
 {
     let me = RoleId::new(Kind::Replica, replica);
     let mut log = Vec::new(alloc);
-    for one in kept {
+    for number in 0..kept.len() {
+        let one = kept.at(number)?;
         if me.is(one.role) {
             keep(alloc, &one.what, &mut log)?;
         }
@@ -36,7 +38,7 @@ fn keep(alloc: Global, what: &Record, log: &mut Vec<Value>) -> Result<(), NoMemo
 }
 
 /// How many values a replica kept, and the map that they leave.
-pub fn folded(alloc: Global, kept: &[KeptRecord], replica: u16) -> Result<Folded, NoMemory>
+pub fn folded(alloc: Global, kept: &Kept, replica: u16) -> Result<Folded, NoMemory>
     ensures { IfOk result (λ folded. folded ≡ folded_of replica kept.now) }
 {
     let log = log(alloc, kept, replica)?;

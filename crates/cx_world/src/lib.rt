@@ -11,6 +11,7 @@ mod counts;
 mod folded;
 mod seat;
 mod sorted;
+mod turned;
 mod world;
 
 pub use counts::Counts;

@@ -10,19 +10,13 @@ ghost use Rattle.cx_role.specs.declared.role.StepFault.TheVariants as fault;
 ghost use Rattle.cx_role.specs.Role.{Steps, StaysAt, FailsAt};
 ghost use Rattle.cx_world.specs.Seat.{AreSeats, roles_in, Seat, IsPlace, IsTurned, TurnsAt, seat_turn, volatile_of, why_of_cut};
 
+use crate::turned::Turned;
 use cx_base::{Cluster, Cut, Kind, NoMemory, RoleId, Why};
 use cx_keeper::{Keeper, MemKeeper};
-use cx_msg::{Act, Input, Record};
+use cx_msg::{Act, Input};
 use cx_role::{Outbox, Role, StepFault, WakeFault};
 use std::alloc::Global;
 use std::marker::Model;
-
-/// What a turn came to, beside the seat and the outbox.
-#[derive(Drop)]
-pub struct Turned {
-    pub why: Why,
-    pub kept: Option<Record>,
-}
 
 /// A role's place in the world: its keeper, and the role where it runs.
 #[derive(Drop)]

@@ -3,18 +3,20 @@
 ghost use Rattle.std.specs.Prelude.{◌≡◌, ℕ, [], IfOk, OnOk, get_or, length, map};
 ghost use Rattle.cx_world.specs.Sorted.{Adds, HaveVotes, rounds_of};
 
-use cx_base::{Duplicate, NoMemory};
+use cx_base::NoMemory;
+use cx_history::Kept;
 use cx_msg::{KeptRecord, Record};
 use std::alloc::Global;
 
 /// The rounds that were kept, in order.
-pub fn rounds(alloc: Global, kept: &[KeptRecord]) -> Result<Vec<KeptRecord>, NoMemory>
+pub fn rounds(alloc: Global, kept: &Kept) -> Result<Vec<KeptRecord>, NoMemory>
     ensures { IfOk result (λ rounds. rounds.items ≡ rounds_of kept.now) }
 {
     let mut rounds = Vec::new(alloc);
-    for one in kept {
+    for number in 0..kept.len() {
+        let one = kept.at(number)?;
         if matches!(one.what, Record::Round { .. }) {
-            rounds.push(one.copy(alloc)?)?;
+            rounds.push(one)?;
         }
     }
     Ok(rounds)
@@ -33,25 +35,25 @@ fn no_votes(alloc: Global, count: usize) -> Result<Vec<Vec<KeptRecord>>, NoMemor
 }
 
 // Puts a vote behind the earlier ones in its slot.
-fn add(alloc: Global, votes: &mut [Vec<KeptRecord>], one: &KeptRecord) -> Result<(), NoMemory>
-    ensures { OnOk result (Adds (map (λ list. list.items) votes.old) (map (λ list. list.items) votes.new) one.now) }
+fn add(votes: &mut [Vec<KeptRecord>], one: KeptRecord) -> Result<(), NoMemory>
+    ensures { OnOk result (Adds (map (λ list. list.items) votes.old) (map (λ list. list.items) votes.new) one) }
 {
-    if let Record::Vote { slot, .. } = &one.what {
-        if *slot < votes.len() as u64 {
-            votes[*slot as usize].push(one.copy(alloc)?)?;
+    if let Record::Vote { slot, .. } = one.what {
+        if slot < votes.len() as u64 {
+            votes[slot as usize].push(one)?;
         }
     }
     Ok(())
 }
 
 /// The votes of each slot in order, for as many slots as records were kept.
-pub fn votes_by_slot(alloc: Global, kept: &[KeptRecord]) -> Result<Vec<Vec<KeptRecord>>, NoMemory>
+pub fn votes_by_slot(alloc: Global, kept: &Kept) -> Result<Vec<Vec<KeptRecord>>, NoMemory>
     ensures count { IfOk result (λ votes. length votes.items ≡ length kept.now) }
     ensures votes { IfOk result (λ votes. HaveVotes (map (λ list. list.items) votes.items) kept.now 0) }
 {
     let mut votes = no_votes(alloc, kept.len())?;
-    for one in kept {
-        add(alloc, &mut votes, one)?;
+    for number in 0..kept.len() {
+        add(&mut votes, kept.at(number)?)?;
     }
     Ok(votes)
 }

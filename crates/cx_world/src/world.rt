@@ -8,15 +8,18 @@ ghost use Rattle.cx_promises.specs.Lawful.{IsLawful, IsCommandList};
 ghost use Rattle.cx_world.specs.Counts.{counts_of};
 ghost use Rattle.cx_world.specs.Folded.{folded_of};
 ghost use Rattle.cx_history.specs.Begins.{IsPrefix};
+ghost use Rattle.cx_history.specs.Kept.{records_kept};
+ghost use Rattle.cx_keeper.specs.Keeper.{all_fit};
 ghost use Rattle.cx_world.specs.World.{BeginWith, effect_of};
 
-use crate::change::{Changed, Seats, change};
+use crate::change::{Seats, change};
 use crate::chosen::chosen_prefix;
 use crate::counts::{Counts, count};
 use crate::folded::folded;
 use crate::seat::open_all;
+use crate::turned::Changed;
 use cx_base::{Cluster, Event, Happened, Kind, NoMemory, Values, Why};
-use cx_history::{Events, Sent};
+use cx_history::{Events, Kept, Sent};
 use cx_msg::{Datagram, KeptRecord};
 use cx_role::Outbox;
 use cx_trace::{Effect, Folded};
@@ -31,7 +34,7 @@ pub struct World {
     cluster: Cluster,
     seats: Seats,
     events: Events,
-    kept: Vec<KeptRecord>,
+    kept: Kept,
     sent: Sent,
     out: Outbox,
     spent: bool,
@@ -45,17 +48,19 @@ impl Model for World {
 
     ghost use Rattle.cx_world.specs.World.{Holds, roles_of, lists_of};
 
-    ghost view = { λ w. record { world = record { cluster = w.cluster; roles = roles_of (lists_of w.seats); events = w.events; kept = w.kept.items; sent = w.sent }; spent = w.spent } };
+    ghost view = { λ w. record { world = record { cluster = w.cluster; roles = roles_of (lists_of w.seats); events = w.events; kept = w.kept; sent = w.sent }; spent = w.spent } };
 
-    ghost invariant = { λ w. w.spent ≡ false → Holds (record { cluster = w.cluster; roles = roles_of (lists_of w.seats); events = w.events; kept = w.kept.items; sent = w.sent }) (lists_of w.seats) w.out.list };
+    ghost invariant = { λ w. w.spent ≡ false → Holds (record { cluster = w.cluster; roles = roles_of (lists_of w.seats); events = w.events; kept = w.kept; sent = w.sent }) (lists_of w.seats) w.out.list };
 }
 
-fn push_if<T: Drop>(list: &mut Vec<T>, item: Option<T>) -> Result<(), NoMemory>
-    ensures ok { OnOk result (list.new.items ≡ list.old.items ++ option_to_list item) }
-    ensures err { OnErr result (list.new.items ≡ list.old.items) }
+// Notes the record that was kept, where one was.
+fn keep(kept: &mut Kept, what: Option<KeptRecord>) -> Result<(), NoMemory>
+    requires { all_fit (records_kept (option_to_list what)) ≡ true }
+    ensures ok { OnOk result (kept.new ≡ kept.old ++ option_to_list what) }
+    ensures err { OnErr result (kept.new ≡ kept.old) }
 {
-    if let Some(item) = item {
-        list.push(item)?;
+    if let Some(one) = what {
+        kept.push(one.role, &one.what)?;
     }
     Ok(())
 }
@@ -63,23 +68,24 @@ fn push_if<T: Drop>(list: &mut Vec<T>, item: Option<T>) -> Result<(), NoMemory>
 // Writes what happened into the histories.
 fn note(
     events: &mut Events,
-    kept: &mut Vec<KeptRecord>,
+    kept: &mut Kept,
     sent: &mut Sent,
     event: &Event,
     why: Why,
     what: Option<KeptRecord>,
     out: &mut Outbox,
 ) -> Result<(), NoMemory>
+    requires { all_fit (records_kept (option_to_list what)) ≡ true }
     ensures events { OnOk result (events.new ≡ events.old ++ record { event = event.now; why = why } ∷ []) }
-    ensures kept { OnOk result (kept.new.items ≡ kept.old.items ++ option_to_list what) }
+    ensures kept { OnOk result (kept.new ≡ kept.old ++ option_to_list what) }
     ensures sent { OnOk result (sent.new ≡ sent.old ++ out.old.list) }
     ensures out { OnOk result (out.new.list ≡ []) }
     ensures events_begin { OnErr result (IsPrefix events.old events.new) }
-    ensures kept_begin { OnErr result (IsPrefix kept.old.items kept.new.items) }
+    ensures kept_begin { OnErr result (IsPrefix kept.old kept.new) }
     ensures sent_begin { OnErr result (IsPrefix sent.old sent.new) }
 {
     events.push(&Happened { event: *event, why })?;
-    push_if(kept, what)?;
+    keep(kept, what)?;
     sent.append(out.as_slice())?;
     out.clear();
     Ok(())
@@ -106,7 +112,7 @@ impl World {
             cluster,
             seats,
             events: Events::new(alloc),
-            kept: Vec::new(alloc),
+            kept: Kept::new(alloc),
             sent: Sent::new(alloc),
             out: Outbox::new(alloc),
             spent: false,

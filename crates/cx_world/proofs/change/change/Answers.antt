@@ -7,7 +7,7 @@ use Rattle.cx_base.specs.Role.{role}
 use Rattle.cx_model.specs.World.{change}
 use Rattle.cx_msg.specs.declared.input.Act.TheVariants.{Give}
 use Rattle.cx_msg.specs.declared.input.Input.TheVariants as input
-use Rattle.cx_world.specs.declared.change.Changed.{Changed}
+use Rattle.cx_world.specs.declared.turned.Changed.{Changed}
 use Rattle.cx_world.specs.World.{ChangesAfter, IsChange, lists_of}
 use Rattle.cx_world.proofs.Answered.{ok_then}
 use Rattle.cx_world.proofs.Asking.{act_from, quiet}
