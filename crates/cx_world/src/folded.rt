@@ -13,6 +13,7 @@ use cx_trace::Folded;
 use std::alloc::Global;
 
 /// The values that a replica kept, in order.
+#[tactic(auto, using(crate::proofs::Numbered::next_kept))]
 pub fn log(alloc: Global, kept: &Kept, replica: u16) -> Result<Vec<Value>, NoMemory>
     ensures { IfOk result (λ values. values.items ≡ log_of replica kept.now) }
 {

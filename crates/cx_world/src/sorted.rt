@@ -9,6 +9,7 @@ use cx_msg::{KeptRecord, Record};
 use std::alloc::Global;
 
 /// The rounds that were kept, in order.
+#[tactic(auto, using(crate::proofs::Numbered::next_kept))]
 pub fn rounds(alloc: Global, kept: &Kept) -> Result<Vec<KeptRecord>, NoMemory>
     ensures { IfOk result (λ rounds. rounds.items ≡ rounds_of kept.now) }
 {
@@ -47,6 +48,7 @@ fn add(votes: &mut [Vec<KeptRecord>], one: KeptRecord) -> Result<(), NoMemory>
 }
 
 /// The votes of each slot in order, for as many slots as records were kept.
+#[tactic(auto, using(crate::proofs::Numbered::next_kept))]
 pub fn votes_by_slot(alloc: Global, kept: &Kept) -> Result<Vec<Vec<KeptRecord>>, NoMemory>
     ensures count { IfOk result (λ votes. length votes.items ≡ length kept.now) }
     ensures votes { IfOk result (λ votes. HaveVotes (map (λ list. list.items) votes.items) kept.now 0) }

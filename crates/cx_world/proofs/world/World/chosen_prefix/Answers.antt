@@ -11,10 +11,10 @@ use Rattle.cx_world.proofs.world.World.chosen_prefix.Goals as goal
 pub returns-clause-agreed : goal.returns-clause-agreed
 returns-clause-agreed c =
     let fields = c.self.inside in
-    let w : World = record { cluster = fields.cluster; roles = roles_of (lists_of fields.seats); events = fields.events; kept = fields.kept.items; sent = fields.sent } in
+    let w : World = record { cluster = fields.cluster; roles = roles_of (lists_of fields.seats); events = fields.events; kept = fields.kept; sent = fields.sent } in
     λ fresh.
     let holds = c.self.invariant (ap (λ (x : WorldState). x.spent) c.self.view_is ∙ fresh) in
     let seen : WorldState = c.args.self.now in
     let same : seen.world ≡ w = sym (ap (λ (x : WorldState). x.world) c.self.view_is) in
     rw same (ok_then _ (λ (values : List Value). IsCommandList w.cluster w.kept values) c.chosen_prefix.result
-    (λ values is. list_of_run w holds.ran values (is ∙ ap (λ ks. chosen_prefix ks) c.deref.ensures.value)) c.chosen_prefix.ensures)
+    (λ values is. list_of_run w holds.ran values is) c.chosen_prefix.ensures)

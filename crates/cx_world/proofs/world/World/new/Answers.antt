@@ -24,7 +24,7 @@ invariant_of-result c =
       unbatchers = c.in_ok-open_all-7.field-0.items;
       readers = c.in_ok-open_all-8.field-0.items;
     } in
-    λ _. rw (c.new.ensures, c.new-2.ensures.items, c.new-3.ensures) (record {
+    λ _. rw (c.new.ensures, c.new-2.ensures, c.new-3.ensures) (record {
       out = ap (λ (out : Outgoing). out.list) c.new-4.ensures;
       seats = record {
         roles = refl;

@@ -9,9 +9,9 @@ invariant_of-self-2 c =
     let fields = c.self.inside in
     let fresh : fields.spent ≡ false = ap (λ (x : WorldState). x.spent) c.self.view_is ∙ c.requires.fresh in
     let holds = c.self.invariant fresh in
-    let w : World = record { cluster = fields.cluster; roles = roles_of (lists_of fields.seats); events = fields.events; kept = fields.kept.items; sent = fields.sent } in
+    let w : World = record { cluster = fields.cluster; roles = roles_of (lists_of fields.seats); events = fields.events; kept = fields.kept; sent = fields.sent } in
     let changed = c.in_ok-who.field-0 in
     λ _. held_after w c.args.event.now changed.who changed.why changed.kept (lists_of c.change.new.seats) c.change.new.out.list
     (c.in_ok-who.ensures w refl refl holds.seats) holds.ran
-    c.note.new.events c.note.new.kept.items c.note.new.sent c.note.new.out.list
+    c.note.new.events c.note.new.kept c.note.new.sent c.note.new.out.list
     c.in_ok-note.ensures.events c.in_ok-note.ensures.kept c.in_ok-note.ensures.sent c.in_ok-note.ensures.out
