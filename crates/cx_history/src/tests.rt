@@ -1,9 +1,9 @@
 //! Datagrams of the one put, held and read again.
 
-use crate::{Events, Sent};
+use crate::{Events, Kept, Sent};
 use cx_base::{Cut, Event, Happened, Key, Kind, RoleId, Why};
 use cx_field::Token;
-use cx_msg::{decode, encode_into};
+use cx_msg::{decode, encode_into, record_from, record_into};
 use std::alloc::Global;
 use std::test::Fail;
 
@@ -11,6 +11,9 @@ const PROPOSE: &[u8] =
     b"CX\x01\x0a\x03\0\0\x04\0\0\0/\0\0\0\x01\0\0\0\0\0\0\x01\x01\0\0\0\0\0\0\0\0\0\0\0\0\0\0\0\0\0\0\x01\x01\0\0\0\0\0\0\0\0\0\x01\x01\x01a\x011";
 
 const ANSWER: &[u8] = b"CX\x01\x10\x08\0\0\x01\0\0\0\x11\0\0\0\0\0\0\0\x01\0\0\0\0\0\0\0\x01\0";
+
+// A promise of the round (1, 0, 0).
+const PROMISE: &[u8] = b"\x01\0\0\0\x01\0\0\0\0\0\0";
 
 fn spelled(alloc: Global, sent: &Sent, number: u64) -> Result<Vec<u8>, Fail> {
     let mut bytes = Vec::new(alloc);
@@ -77,5 +80,25 @@ fn an_equal_number_with_another_key_is_stale(rt: HostRuntime) -> Result<(), Fail
     assert!(rt; !events.is_stale(token, &read_of(first)));
     assert!(rt; events.is_stale(token, &read_of(other)));
     assert!(rt; events.is_stale(Token { client: 0, seq: 1 }, &read_of(first)));
+    Ok(())
+}
+
+#[test]
+fn records_are_read_as_they_were_kept(rt: HostRuntime) -> Result<(), Fail> {
+    let alloc = rt.alloc();
+    let mut kept = Kept::new(alloc);
+    let acceptor = RoleId {
+        kind: Kind::Acceptor,
+        index: 3,
+    };
+    kept.push(acceptor, &record_from(alloc, PROMISE)?)?;
+    kept.push(acceptor, &record_from(alloc, PROMISE)?)?;
+
+    assert_eq!(rt; kept.len(), 2);
+    let last = kept.at(1)?;
+    assert_eq!(rt; last.role, acceptor);
+    let mut bytes = Vec::new(alloc);
+    record_into(alloc, &last.what, &mut bytes)?;
+    assert_eq!(rt; bytes.as_slice(), PROMISE);
     Ok(())
 }
