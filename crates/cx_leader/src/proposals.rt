@@ -1,11 +1,8 @@
 //! What a leader proposed, and what it knows to be chosen.
 
-ghost use Rattle.std.specs.Prelude.{◌≡◌, ◌≤◌, ◌<◌, ◌+◌, ◌-◌, ◌^◌, ◌++◌, ◌∷◌, [], true, not, max, map, filter, nat_le, length, None, Some, All, IsTrue, IfOk, IfSome, OnOk, OnErr};
-ghost use Rattle.std.specs.List.{list_all};
-ghost use Rattle.cx_base.specs.declared.command.Placed.{Placed as PlacedOf};
+ghost use Rattle.std.specs.Prelude.{◌≡◌, ◌≤◌, ◌<◌, ◌+◌, ◌-◌, ◌^◌, ◌++◌, ◌∷◌, [], true, not, max, map, length, None, Some, All, IsTrue, IfOk, IfSome, OnOk, OnErr};
 ghost use Rattle.cx_base.specs.declared.role.Kind.{Kind as KindOf};
 ghost use Rattle.cx_base.specs.Grid.{is_in};
-ghost use Rattle.cx_base.specs.Lists.{numbers};
 ghost use Rattle.cx_base.specs.Role.{role};
 ghost use Rattle.cx_field.specs.Fields as field;
 ghost use Rattle.cx_model.specs.Leader.{propose_to};
