@@ -11,9 +11,6 @@ use cx_ring::{Ring, Slotted, Tells, Told};
 use std::alloc::Global;
 use std::marker::Model;
 
-// How many slots the window has.
-const SLOTS: u64 = 32;
-
 /// The slots of a window that are known to be chosen: looked up at once, where contracts see the list of them in the order in
 /// which they were noted.
 #[derive(Drop)]
@@ -74,17 +71,14 @@ impl Known {
         }
     }
 
-    /// Notes a slot, for which there is room in the window alone.
+    /// Notes a slot of the window. Want of memory changes nothing.
     #[tactic(auto, using(crate::proofs::Knows::same_noted))]
     pub fn note(&mut self, alloc: Global, slot: u64) -> Result<(), NoMemory>
+        requires low { self.old.first ≤ slot }
+        requires high { slot < self.old.first + 32 }
         ensures ok { OnOk result (self.new ≡ noted slot self.old) }
         ensures no_memory { OnErr result (self.new ≡ self.old) }
     {
-        let first = self.slots.first();
-        // There is no place for a slot outside of the window, and a leader notes none: `chosen_in` answers before.
-        if slot < first || slot - first >= SLOTS {
-            return Err(NoMemory);
-        }
         self.slots.make_room(alloc)?;
         self.slots.put(slot);
         self.noted = Told::of::<(&Told<u64>, u64), Added>(&(&self.noted, slot));

@@ -125,8 +125,10 @@ impl Proposals {
         Ok(Some(slot))
     }
 
-    /// Notes that a slot of the window is chosen; there is no room for others.
+    /// Notes that a slot below the next free one is chosen. Want of memory changes nothing.
     pub fn note(&mut self, alloc: Global, slot: u64) -> Result<(), NoMemory>
+        requires low { self.old.cw ≤ slot }
+        requires high { slot < self.old.next }
         ensures ok { OnOk result (self.new ≡ with_chosen slot self.old) }
         ensures no_memory { OnErr result (self.new ≡ self.old) }
     {
