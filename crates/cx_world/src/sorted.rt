@@ -1,6 +1,6 @@
 //! The records on which a choice rests, apart: the rounds, and the votes of each slot.
 
-ghost use Rattle.std.specs.Prelude.{◌≡◌, ℕ, [], IfOk, OnOk, get_or, length, map};
+ghost use Rattle.std.specs.Prelude.{◌≡◌, ◌++◌, ◌∷◌, ℕ, [], IfOk, OnOk, get_or, length, map};
 ghost use Rattle.cx_world.specs.Sorted.{Adds, HaveVotes, rounds_of};
 
 use cx_base::NoMemory;
@@ -8,17 +8,23 @@ use cx_history::Kept;
 use cx_msg::{KeptRecord, Record};
 use std::alloc::Global;
 
+// Puts a record behind the rounds, if it is one.
+fn add_round(rounds: &mut Vec<KeptRecord>, one: KeptRecord) -> Result<(), NoMemory>
+    ensures { OnOk result (rounds.new.items ≡ rounds.old.items ++ rounds_of (one ∷ [])) }
+{
+    if matches!(one.what, Record::Round { .. }) {
+        rounds.push(one)?;
+    }
+    Ok(())
+}
+
 /// The rounds that were kept, in order.
-#[tactic(auto, using(crate::proofs::Numbered::next_kept))]
 pub fn rounds(alloc: Global, kept: &Kept) -> Result<Vec<KeptRecord>, NoMemory>
     ensures { IfOk result (λ rounds. rounds.items ≡ rounds_of kept.now) }
 {
     let mut rounds = Vec::new(alloc);
     for number in 0..kept.len() {
-        let one = kept.at(number)?;
-        if matches!(one.what, Record::Round { .. }) {
-            rounds.push(one)?;
-        }
+        add_round(&mut rounds, kept.at(number)?)?;
     }
     Ok(rounds)
 }
@@ -36,8 +42,9 @@ fn no_votes(alloc: Global, count: usize) -> Result<Vec<Vec<KeptRecord>>, NoMemor
 }
 
 // Puts a vote behind the earlier ones in its slot.
-fn add(votes: &mut [Vec<KeptRecord>], one: KeptRecord) -> Result<(), NoMemory>
-    ensures { OnOk result (Adds (map (λ list. list.items) votes.old) (map (λ list. list.items) votes.new) one) }
+fn add(votes: &mut Vec<Vec<KeptRecord>>, one: KeptRecord) -> Result<(), NoMemory>
+    ensures adds { OnOk result (Adds (map (λ list. list.items) votes.old.items) (map (λ list. list.items) votes.new.items) one) }
+    ensures count { length votes.new.items ≡ length votes.old.items }
 {
     if let Record::Vote { slot, .. } = one.what {
         if slot < votes.len() as u64 {
@@ -48,7 +55,6 @@ fn add(votes: &mut [Vec<KeptRecord>], one: KeptRecord) -> Result<(), NoMemory>
 }
 
 /// The votes of each slot in order, for as many slots as records were kept.
-#[tactic(auto, using(crate::proofs::Numbered::next_kept))]
 pub fn votes_by_slot(alloc: Global, kept: &Kept) -> Result<Vec<Vec<KeptRecord>>, NoMemory>
     ensures count { IfOk result (λ votes. length votes.items ≡ length kept.now) }
     ensures votes { IfOk result (λ votes. HaveVotes (map (λ list. list.items) votes.items) kept.now 0) }

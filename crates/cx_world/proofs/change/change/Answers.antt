@@ -1,8 +1,4 @@
-use Rattle.std.proofs.Common.{◌≡◌, [], None, Some, arith, refl}
-use Rattle.std.specs.Prelude.{slice_get}
-use Rattle.std.proofs.lemmas.Option.{slice_get_past, slice_get_read}
 use Rattle.cx_base.specs.declared.role.Kind.TheVariants as kind
-use Rattle.cx_base.specs.declared.why.Why.TheVariants as why
 use Rattle.cx_base.specs.Role.{role}
 use Rattle.cx_model.specs.World.{change}
 use Rattle.cx_msg.specs.declared.input.Act.TheVariants.{Give}
@@ -10,7 +6,7 @@ use Rattle.cx_msg.specs.declared.input.Input.TheVariants as input
 use Rattle.cx_world.specs.declared.turned.Changed.{Changed}
 use Rattle.cx_world.specs.World.{ChangesAfter, IsChange, lists_of}
 use Rattle.cx_world.proofs.Answered.{ok_then}
-use Rattle.cx_world.proofs.Asking.{act_from, quiet}
+use Rattle.cx_world.proofs.Asking.{act_from}
 use Rattle.cx_world.proofs.change.change.Goals as goal
 
 pub returns-in-Write : goal.returns-in-Write

@@ -14,7 +14,7 @@ returns-in-None c =
     sym (chosen_among (λ list. list.items) kept loop.rounds.items loop.votes.items loop.slot c.index_mut.result.now
     loop.invariant.rounds loop.invariant.votes slot_has c.index_mut.ensures.value)
     ∙ sym c.in_ok-value.ensures.chosen ∙ c.in-None.is in
-    let no_more = prefix_end kept loop.slot (length kept) c.loop-slot-test.true chosen in
+    let no_more = prefix_end kept loop.slot (length kept) (rw c.len-slot-end.ensures at c.loop-slot-test.true) chosen in
     c.from_vec.ensures ∙ sym (append-nil loop.values.items) ∙ (rw no_more at loop.invariant.prefix)
 
 pub loop-slot-preserved : goal.loop-slot-preserved
@@ -26,7 +26,7 @@ loop-slot-preserved c =
     sym (chosen_among (λ list. list.items) kept loop.rounds.items loop.votes.items loop.slot c.index_mut.result.now
     loop.invariant.rounds loop.invariant.votes slot_has c.index_mut.ensures.value)
     ∙ sym c.in_ok-value.ensures.chosen ∙ c.in-Some.is in
-    let step = prefix_step kept loop.slot (length kept) c.in-Some.value c.loop-slot-test.true chosen in
+    let step = prefix_step kept loop.slot (length kept) c.in-Some.value (rw c.len-slot-end.ensures at c.loop-slot-test.true) chosen in
     record {
       prefix = rw (c.in_ok-push-in-Some.ensures.items, append_assoc, ← step) loop.invariant.prefix;
       rounds = c.in_ok-value.ensures.rounds ∙ loop.invariant.rounds;

@@ -1,6 +1,5 @@
 use Rattle.std.proofs.Common.{◌≡◌, List, ap, sym, ◌∙◌}
 use Rattle.cx_base.specs.declared.command.Value.{Value}
-use Rattle.cx_model.specs.Chosen.{chosen_prefix}
 use Rattle.cx_model.specs.World.{World}
 use Rattle.cx_promises.specs.Lawful.{IsCommandList}
 use Rattle.cx_world.specs.World.{WorldState, roles_of, lists_of}

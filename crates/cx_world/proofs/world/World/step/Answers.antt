@@ -1,4 +1,4 @@
-use Rattle.std.proofs.Common.{◌≡◌, false, ap, refl, sym, ◌∙◌}
+use Rattle.std.proofs.Common.{◌≡◌, false, ap, refl, ◌∙◌}
 use Rattle.cx_model.specs.World.{World}
 use Rattle.cx_world.specs.World.{WorldState, roles_of, lists_of}
 use Rattle.cx_world.proofs.Steps.{held_after}
