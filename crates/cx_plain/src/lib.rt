@@ -8,5 +8,7 @@
 #[cfg(test)]
 mod tests;
 mod whole;
+#[cfg(test)]
+mod window_tests;
 
 pub use whole::replay_whole;

@@ -1,11 +1,11 @@
 //! Inputs that are replayed as they are read and whole, and lists beside what holds them otherwise.
 
 use crate::replay_whole;
-use cx_base::{Command, CommandList, Key, Op, Text, acts};
+use cx_base::{Command, CommandList, Key, Kind, Op, RoleId, Text, acts};
 use cx_edge::{InPieces, MemSink, MemSource};
 use cx_grid::Marks;
-use cx_history::Sent;
-use cx_msg::{Datagram, decode, encode_into};
+use cx_history::{Kept, Sent};
+use cx_msg::{Datagram, decode, encode_into, record_from, record_into};
 use cx_replay::replay;
 use std::alloc::Global;
 use std::test::Fail;
@@ -88,6 +88,37 @@ fn bytes_hold_a_list_of_datagrams(rt: HostRuntime) -> Result<(), Fail> {
         );
     }
     assert_eq!(rt; sent.len(), list.len() as u64);
+    Ok(())
+}
+
+// Promises of the rounds (1, 0, 0) and (2, 0, 0).
+const PROMISES: [&[u8]; 2] = [b"\x01\0\0\0\x01\0\0\0\0\0\0", b"\x01\0\0\0\x02\0\0\0\0\0\0"];
+
+#[test]
+fn bytes_hold_a_list_of_records(rt: HostRuntime) -> Result<(), Fail> {
+    let alloc = rt.alloc();
+    let mut list = Vec::new(alloc);
+    let mut kept = Kept::new(alloc);
+    for (index, bytes) in PROMISES.iter().enumerate() {
+        let acceptor = RoleId {
+            kind: Kind::Acceptor,
+            index: index as u16,
+        };
+        let what = record_from(alloc, bytes)?;
+        kept.push(acceptor, &what)?;
+        list.push((acceptor, what))?;
+    }
+    assert_eq!(rt; kept.len(), list.len());
+    for number in 0..kept.len() {
+        let held = kept.at(number)?;
+        let (role, what) = list.get(number).ok_or("a record")?;
+        assert_eq!(rt; held.role, *role);
+        let mut one = Vec::new(alloc);
+        let mut other = Vec::new(alloc);
+        record_into(alloc, &held.what, &mut one)?;
+        record_into(alloc, what, &mut other)?;
+        assert_eq!(rt; one.as_slice(), other.as_slice());
+    }
     Ok(())
 }
 
