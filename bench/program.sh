@@ -2,14 +2,15 @@
 # How long the program takes, and the most memory that it holds: on 65,535 generated events, on a schedule of 60,000 lines in
 # which one put after another is carried to its answer, and on 6,000 events of each, for how the cost of an event grows.
 #
-# Use: bench/program.sh [PEER]
+# Use: [PROGRAM=FILE] bench/program.sh [PEER]
 # PEER is another program with the commands `gen SEED COUNT` and `replay`; it is measured beside this one, and must print the
-# same. The program is proved and built first. A time is processor time in milliseconds, the least of nine runs; memory is in
-# megabytes.
+# same. PROGRAM is this program where it is built already, else it is proved and built first. A time is processor time in
+# milliseconds, the least of nine runs; memory is what was resident at most, in megabytes of 1,000,000 bytes, also as a multiple
+# of the history as it is spelled, which is the lines of the events, the datagrams and the records together.
 set -euo pipefail
 
 crate=$(cd "$(dirname "$0")/../crates/compax" && pwd)
-program=$crate/out/compax
+program=${PROGRAM:-$crate/out/compax}
 peer=${1:-}
 work=$(mktemp -d)
 trap 'rm -rf "$work"' EXIT
@@ -48,24 +49,36 @@ measure() {
     echo "$best $(cat "$work/memory")"
 }
 
+# How many bytes the history of a replay of `schedule` has as it is spelled: `history INPUT PRINTED`. A datagram has a header of
+# 12 bytes before the body that is printed; the record of a vote is its tag and what the datagram says, that of a replica's log a
+# tag, a count and the value, without the slot. The two records of the round that is led are left out.
+history() {
+    awk -v lines="$(wc -c < "$1")" '
+        /^\+/ { body[substr($1, 2)] = length($5) / 2; datagrams += 12 + length($5) / 2 }
+        $5 == "voted" { records += 1 + body[$3] }
+        $5 == "applied" { records += 2 + body[$3] - 8 }
+        END { print lines + datagrams + records }' "$2"
+}
+
 # Measures both programs: `tell NAME EVENTS INPUT WORDS..`.
 tell() {
     local name=$1 events=$2 input=$3 ours theirs
     shift 3
     ours=$(measure "$input" "$program" "$@")
     mv "$work/printed" "$work/ours"
-    if [[ -z $peer ]]; then
-        echo "$events $ours" | awk -v name="$name" '{ printf "%s: %d ms, %.1f us an event, %.1f MB\n", name, $2, $2 * 1e3 / $1, $3 / 1024 }'
-        return
+    echo "$events $ours" | awk -v name="$name" '{ printf "%s: %d ms, %.1f us an event, %.1f MB", name, $2, $2 * 1e3 / $1, $3 * 1024 / 1e6 }'
+    if [[ $1 == replay ]]; then
+        echo "$(history "$input" "$work/ours") $ours" | awk '{ printf ", %.2f times its history of %.2f MB", $3 * 1024 / $1, $1 / 1e6 }'
     fi
-    theirs=$(measure "$input" "$peer" "$@")
-    cmp "$work/ours" "$work/printed"
-    echo "$events $ours $theirs" | awk -v name="$name" '{
-        printf "%s: %d ms, %.1f us an event, %.1f MB; the peer %d ms, %.1f MB; %.1f times its time, %.1f times its memory\n",
-            name, $2, $2 * 1e3 / $1, $3 / 1024, $4, $5 / 1024, $2 / $4, $3 / $5 }'
+    if [[ -n $peer ]]; then
+        theirs=$(measure "$input" "$peer" "$@")
+        cmp "$work/ours" "$work/printed"
+        echo "$ours $theirs" | awk '{ printf "; the peer %d ms, %.1f MB; %.2f times its time, %.2f times its memory", $3, $4 * 1024 / 1e6, $1 / $3, $2 / $4 }'
+    fi
+    echo
 }
 
-(cd "$crate" && rt run -- replay < data/one-put.schedule > /dev/null 2> "$work/log") || { tail -40 "$work/log" >&2; exit 1; }
+[[ -n ${PROGRAM:-} ]] || (cd "$crate" && rt run -- replay < data/one-put.schedule > /dev/null 2> "$work/log") || { tail -40 "$work/log" >&2; exit 1; }
 schedule 6000 > "$work/short"
 schedule 60000 > "$work/long"
 tell 'gen 7 6553' 6553 /dev/null gen 7 6553
