@@ -11,8 +11,8 @@ abbrev pub AreEnds : ℕ → List ℕ → ℕ → Type 0
 AreEnds from [] all = from ≡ all
 AreEnds from (end ∷ ends) all = (from ≤ end) × AreEnds end ends all
 
--- where the piece of a number begins
+-- where the piece of a number begins: where the one before it ends
 abbrev pub begin_of : ℕ → List ℕ → ℕ → ℕ
 begin_of from ends zero = from
-begin_of from [] (suc number) = from
+begin_of from [] (suc number) = 0
 begin_of from (end ∷ ends) (suc number) = begin_of end ends number

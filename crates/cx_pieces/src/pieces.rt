@@ -1,6 +1,6 @@
 //! Pieces of bytes in one buffer.
 
-ghost use Rattle.std.specs.Prelude.{◌≡◌, ◌<◌, ◌≤◌, ◌+◌, ◌++◌, ◌∷◌, [], IfOk, OnOk, OnErr, length, slice_get};
+ghost use Rattle.std.specs.Prelude.{◌≡◌, ◌≤◌, ◌+◌, ◌-◌, ◌++◌, ◌∷◌, [], IfOk, OnOk, OnErr, length, take, drop, slice_get};
 ghost use Rattle.std.specs.Option.{option_copied};
 ghost use Rattle.cx_pieces.specs.Ends.{begin_of};
 
@@ -26,16 +26,34 @@ impl Model for Pieces {
     ghost invariant = { λ p. AreEnds 0 p.ends.items (length p.bytes.items) };
 }
 
+// Where the piece of a number ends.
+fn end_of(ends: &[u32], number: usize) -> Option<u32>
+    ensures { result ≡ slice_get ends.now number }
+{
+    ends.get(number).copied()
+}
+
 // Where the piece of a number begins: where the one before it ends.
 fn begin_of(ends: &[u32], number: usize) -> usize
-    requires { number < length ends.now }
     ensures { result ≡ begin_of 0 ends.now number }
 {
     if number == 0 {
-        0
-    } else {
-        ends[number - 1] as usize
+        return 0;
     }
+    match end_of(ends, number - 1) {
+        None => 0,
+        Some(end) => end as usize,
+    }
+}
+
+// The bytes from one place to another.
+fn between(bytes: &[u8], begin: usize, end: usize) -> &[u8]
+    requires order { begin ≤ end }
+    requires within { end ≤ length bytes.now }
+    ensures { result.now ≡ take (end - begin) (drop begin bytes.now) }
+{
+    let rest = &bytes[begin..];
+    &rest[..end - begin]
 }
 
 // The end of one more piece of this length.
@@ -73,13 +91,10 @@ impl Pieces {
     pub fn get(&self, number: usize) -> Option<&[u8]>
         ensures { option_copied result ≡ slice_get self.now number }
     {
-        if number >= self.ends.len() {
-            return None;
+        match end_of(&self.ends, number) {
+            None => None,
+            Some(end) => Some(between(&self.bytes, begin_of(&self.ends, number), end as usize)),
         }
-        let begin = begin_of(&self.ends, number);
-        let end = self.ends[number] as usize;
-        let rest = &self.bytes[begin..];
-        Some(&rest[..end - begin])
     }
 
     /// One piece more, behind the others. Want of memory changes nothing; more than 4,294,967,295 bytes in all are said to be
