@@ -1,3 +1,5 @@
+pub mod Counting
 pub mod Keeping
-pub mod Pieces
 pub mod Reached
+pub mod Shorts
+pub mod Steps

@@ -1,12 +1,14 @@
 //! The records that were kept.
 
-ghost use Rattle.std.specs.Prelude.{◌≡◌, ◌<◌, ◌++◌, ◌∷◌, [], true, IfOk, OnOk, OnErr, IsTrue, Some, length, slice_get};
+ghost use Rattle.std.specs.Prelude.{◌≡◌, ◌<◌, ◌++◌, ◌∷◌, [], All, IfOk, OnOk, OnErr, IsTrue, Some, length, slice_get};
 ghost use Rattle.cx_msg.specs.Records.{fits};
-ghost use Rattle.cx_history.specs.Kept.{kept_by};
+ghost use Rattle.cx_keeper.specs.Keeper.{all_fit};
+ghost use Rattle.cx_model.specs.World.{records_of};
+ghost use Rattle.cx_history.specs.Kept.{IsKept, IsRecord, kept_by, record_in, records_in};
 
 use cx_base::{NoMemory, RoleId};
-use cx_keeper::Records;
-use cx_msg::{KeptRecord, Record};
+use cx_msg::{KeptRecord, Record, WireFault, record_from, record_into};
+use cx_pieces::Pieces;
 use std::alloc::Global;
 use std::marker::Model;
 
@@ -14,20 +16,88 @@ use std::marker::Model;
 /// bytes that spell it: it is read when it is asked for.
 #[derive(Drop)]
 pub struct Kept {
+    alloc: Global,
     roles: Vec<RoleId>,
-    records: Records,
+    records: Pieces,
+    // The bytes of one record on their way to the others.
+    bytes: Vec<u8>,
 }
 
 impl Model for Kept {
-    ghost use Rattle.std.specs.Prelude.{◌≡◌, List, length};
+    ghost use Rattle.std.specs.Prelude.{List};
     ghost use Rattle.cx_msg.specs.declared.input.KeptRecord.{KeptRecord};
-    ghost use Rattle.cx_history.specs.Kept.{kept_by};
+    ghost use Rattle.cx_history.specs.Kept.{IsKept, kept_by, records_in};
 
     ghost Value = { List KeptRecord };
 
-    ghost view = { λ k. kept_by k.roles.items k.records };
+    ghost view = { λ k. kept_by k.roles.items (records_in k.records) };
 
-    ghost invariant = { λ k. length k.roles.items ≡ length k.records };
+    ghost invariant = { λ k. IsKept k.roles.items k.records };
+}
+
+// Puts a record behind the other pieces, by way of its bytes. Want of memory puts none.
+fn put_record(
+    alloc: Global,
+    what: &Record,
+    bytes: &mut Vec<u8>,
+    pieces: &mut Pieces,
+) -> Result<(), NoMemory>
+    requires { IsTrue (fits what.now) }
+    ensures records { OnOk result (records_in pieces.new ≡ records_in pieces.old ++ what.now ∷ []) }
+    ensures pieces { All IsRecord pieces.old → All IsRecord pieces.new }
+    ensures err { OnErr result (pieces.new ≡ pieces.old) }
+{
+    bytes.clear();
+    record_into(alloc, what, bytes)?;
+    pieces.push(bytes)?;
+    Ok(())
+}
+
+// The record of a piece.
+fn read_piece(alloc: Global, piece: &[u8]) -> Result<Record, NoMemory>
+    requires { IsRecord piece.now }
+    ensures what { IfOk result (λ what. what ≡ record_in piece.now) }
+    ensures ranges { IfOk result (λ what. IsTrue (fits what)) }
+{
+    match record_from(alloc, piece) {
+        Ok(what) => Ok(what),
+        Err(WireFault::NoMemory) => Err(NoMemory),
+        // What was spelled is read.
+        Err(_) => unreachable!(),
+    }
+}
+
+// The record of a number.
+fn read_record(alloc: Global, pieces: &Pieces, number: usize) -> Result<Record, NoMemory>
+    requires pieces { All IsRecord pieces.now }
+    requires number { number < length pieces.now }
+    ensures what { IfOk result (λ what. slice_get (records_in pieces.now) number ≡ Some what) }
+    ensures ranges { IfOk result (λ what. IsTrue (fits what)) }
+{
+    match pieces.get(number) {
+        Some(piece) => read_piece(alloc, piece),
+        None => unreachable!(),
+    }
+}
+
+// The records of a role.
+fn read_records(
+    alloc: Global,
+    roles: &[RoleId],
+    pieces: &Pieces,
+    role: RoleId,
+) -> Result<Vec<Record>, NoMemory>
+    requires { IsKept roles.now pieces.now }
+    ensures list { IfOk result (λ list. list.items ≡ records_of role (kept_by roles.now (records_in pieces.now))) }
+    ensures ranges { IfOk result (λ list. IsTrue (all_fit list.items)) }
+{
+    let mut list = Vec::new(alloc);
+    for number in 0..roles.len() {
+        if role.is(roles[number]) {
+            list.push(read_record(alloc, pieces, number)?)?;
+        }
+    }
+    Ok(list)
 }
 
 impl Kept {
@@ -36,8 +106,10 @@ impl Kept {
         ensures { result ≡ [] }
     {
         Kept {
+            alloc,
             roles: Vec::new(alloc),
-            records: Records::new(alloc),
+            records: Pieces::new(alloc),
+            bytes: Vec::new(alloc),
         }
     }
 
@@ -54,10 +126,16 @@ impl Kept {
         ensures { IfOk result (λ one. slice_get self.now number ≡ Some one) }
     {
         let role = self.roles[number];
-        match self.records.get(number)? {
-            Some(what) => Ok(KeptRecord { role, what }),
-            None => unreachable!(),
-        }
+        let what = read_record(self.alloc, &self.records, number)?;
+        Ok(KeptRecord { role, what })
+    }
+
+    /// The records that a role kept, in order.
+    pub fn records_of(&self, role: RoleId) -> Result<Vec<Record>, NoMemory>
+        ensures list { IfOk result (λ list. list.items ≡ records_of role self.now) }
+        ensures ranges { IfOk result (λ list. IsTrue (all_fit list.items)) }
+    {
+        read_records(self.alloc, &self.roles, &self.records, role)
     }
 
     /// Notes a record that was kept last. Want of memory changes nothing.
@@ -67,7 +145,7 @@ impl Kept {
         ensures err { OnErr result (self.new ≡ self.old) }
     {
         self.roles.reserve(1)?;
-        self.records.push(what)?;
+        put_record(self.alloc, what, &mut self.bytes, &mut self.records)?;
         self.roles.push_reserved(role);
         Ok(())
     }

@@ -9,8 +9,8 @@ mod entry;
 mod events;
 mod kept;
 mod kinds;
-mod piece;
 mod sent;
+mod short;
 mod stale;
 
 pub use events::Events;

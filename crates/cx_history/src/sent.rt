@@ -5,19 +5,22 @@ ghost use Rattle.cx_history.specs.Begins.{IsPrefix};
 ghost use Rattle.cx_history.specs.Answers.{answers_in, read_answers_in};
 
 use crate::kinds::{is_answer, is_read_answer};
-use crate::piece::{Piece, put_piece, read_piece, read_pieces};
+use crate::short::{put_datagram, read_datagram, read_datagrams};
 use cx_base::NoMemory;
 use cx_msg::Datagram;
+use cx_pieces::Pieces;
 use std::alloc::Global;
 use std::marker::Model;
 
-/// The datagrams that were sent, numbered from 0 in the order of sending. What is held is the bytes that spell them, all in one
-/// buffer: a datagram is read when it is asked for.
+/// The datagrams that were sent, numbered from 0 in the order of sending. What is held of one is its bytes, but for those that the
+/// others tell: a datagram is read when it is asked for.
 #[derive(Drop)]
 pub struct Sent {
     alloc: Global,
-    bytes: Vec<u8>,
-    pieces: Vec<Piece>,
+    pieces: Pieces,
+    // The bytes of one datagram on their way to the others: all of them, and those that are held.
+    whole: Vec<u8>,
+    short: Vec<u8>,
     answers: u64,
     reads: u64,
 }
@@ -25,20 +28,13 @@ pub struct Sent {
 impl Model for Sent {
     ghost use Rattle.std.specs.Prelude.{List};
     ghost use Rattle.cx_msg.specs.Letter.{Letter};
-    ghost use Rattle.cx_history.specs.Pieces.{IsSent, letters_at};
+    ghost use Rattle.cx_history.specs.Short.{IsSent, letters_of};
 
     ghost Value = { List Letter };
 
-    ghost view = { λ s. letters_at s.bytes.items s.pieces.items };
+    ghost view = { λ s. letters_of s.pieces };
 
-    ghost invariant = { λ s. IsSent s.bytes.items s.pieces.items s.answers s.reads };
-}
-
-// The piece of a number.
-fn piece_of(pieces: &[Piece], number: u64) -> Option<Piece>
-    ensures { result ≡ slice_get pieces.now number }
-{
-    pieces.get(number as usize).copied()
+    ghost invariant = { λ s. IsSent s.pieces s.answers s.reads };
 }
 
 // One more where there is one.
@@ -56,8 +52,9 @@ impl Sent {
     {
         Sent {
             alloc,
-            bytes: Vec::new(alloc),
-            pieces: Vec::new(alloc),
+            pieces: Pieces::new(alloc),
+            whole: Vec::new(alloc),
+            short: Vec::new(alloc),
             answers: 0,
             reads: 0,
         }
@@ -88,10 +85,11 @@ impl Sent {
     pub fn get(&self, number: u64) -> Result<Option<Datagram>, NoMemory>
         ensures { IfOk result (λ datagram. datagram ≡ slice_get self.now number) }
     {
-        match piece_of(&self.pieces, number) {
-            None => Ok(None),
-            Some(piece) => Ok(Some(read_piece(self.alloc, &self.bytes, piece)?)),
+        let number = number as usize;
+        if number >= self.pieces.len() {
+            return Ok(None);
         }
+        Ok(Some(read_datagram(self.alloc, &self.pieces, number)?))
     }
 
     /// The datagrams that were sent since there were so many.
@@ -99,7 +97,7 @@ impl Sent {
         requires { first ≤ length self.now }
         ensures { IfOk result (λ list. list.items ≡ drop first self.now) }
     {
-        read_pieces(self.alloc, &self.bytes, &self.pieces[first as usize..])
+        read_datagrams(self.alloc, &self.pieces, first as usize)
     }
 
     /// Notes a datagram that was sent last. Want of memory changes nothing.
@@ -107,9 +105,13 @@ impl Sent {
         ensures ok { OnOk result (self.new ≡ self.old ++ datagram.now ∷ []) }
         ensures err { OnErr result (self.new ≡ self.old) }
     {
-        self.pieces.reserve(1)?;
-        let piece = put_piece(self.alloc, datagram, &mut self.bytes)?;
-        self.pieces.push_reserved(piece);
+        put_datagram(
+            self.alloc,
+            datagram,
+            &mut self.whole,
+            &mut self.short,
+            &mut self.pieces,
+        )?;
         // How many were sent fits, and so does how many of them answer.
         let _ = self.pieces.len();
         self.answers = counted(self.answers, is_answer(datagram));
