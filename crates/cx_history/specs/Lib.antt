@@ -1,6 +1,6 @@
 pub mod Answers
 pub mod Begins
-pub mod Entries
 pub mod Kept
 pub mod Reached
+pub mod Requests
 pub mod Short

@@ -2,13 +2,14 @@
 //!
 //! Stands on datagrams and on the model's definition of stale requests; the world stands on it. Its theorem: `Sent`, which holds
 //! bytes, is the list of the datagrams that were noted, each of which is read again as it was (`Sent::get`, `Sent::since`), and
-//! `Events` is the list of what happened (`Events::push`, `Events::is_stale`).
+//! `Events`, which holds the requests that were sent alone, is the list of what happened (`Events::push`, `Events::is_stale`).
 #![tactic(auto)]
 
-mod entry;
 mod events;
 mod kept;
 mod kinds;
+mod requests;
+mod scratch;
 mod sent;
 mod short;
 mod stale;

@@ -1,7 +1,7 @@
 //! Datagrams of the one put, held and read again.
 
 use crate::{Events, Kept, Sent};
-use cx_base::{Cut, Event, Happened, Key, Kind, RoleId, Why};
+use cx_base::{Command, Cut, Event, Happened, Key, Kind, Op, RoleId, Text, Why};
 use cx_field::Token;
 use cx_msg::{decode, encode_into, record_from, record_into};
 use std::alloc::Global;
@@ -80,6 +80,40 @@ fn an_equal_number_with_another_key_is_stale(rt: HostRuntime) -> Result<(), Fail
     assert!(rt; !events.is_stale(token, &read_of(first)));
     assert!(rt; events.is_stale(token, &read_of(other)));
     assert!(rt; events.is_stale(Token { client: 0, seq: 1 }, &read_of(first)));
+    Ok(())
+}
+
+fn write_of(seq: u64, op: Op) -> Event {
+    Event::Write {
+        command: Command { client: 3, seq, op },
+        batcher: 0,
+    }
+}
+
+#[test]
+fn requests_are_told_apart_by_what_they_ask(rt: HostRuntime) -> Result<(), Fail> {
+    let key = Key::from_bytes(b"a").ok_or("a key")?;
+    let longer = Key::from_bytes(b"ab").ok_or("a key")?;
+    let text = Text::from_bytes(b"bc").ok_or("a text")?;
+    let shorter = Text::from_bytes(b"c").ok_or("a text")?;
+    let token = Token { client: 3, seq: 2 };
+    let mut events = Events::new(rt.alloc());
+    events.push(&Happened {
+        event: write_of(2, Op::Put(key, text)),
+        why: Why::Sent,
+    })?;
+    events.push(&Happened {
+        event: write_of(4, Op::Del(key)),
+        why: Why::Stale,
+    })?;
+
+    assert_eq!(rt; events.len(), 2);
+    assert!(rt; !events.is_stale(token, &write_of(2, Op::Put(key, text))));
+    assert!(rt; events.is_stale(token, &write_of(2, Op::Put(longer, shorter))));
+    assert!(rt; events.is_stale(token, &write_of(2, Op::App(key, text))));
+    assert!(rt; events.is_stale(token, &write_of(2, Op::Del(key))));
+    assert!(rt; !events.is_stale(Token { client: 3, seq: 3 }, &write_of(3, Op::Del(key))));
+    assert!(rt; !events.is_stale(Token { client: 2, seq: 1 }, &write_of(1, Op::Del(key))));
     Ok(())
 }
 
