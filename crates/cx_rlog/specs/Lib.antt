@@ -1,2 +1,4 @@
+pub mod Packed
+pub mod Short
 pub mod State
 pub mod Taken

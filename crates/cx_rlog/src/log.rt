@@ -1,13 +1,13 @@
 //! The log of a replica.
 
 ghost use Rattle.std.specs.Prelude.{◌≡◌, ◌+◌, ◌-◌, ◌++◌, ◌<◌, ◌≤◌, ◌^◌, [], length, slice_get, IfOk, OnErr, OnOk};
-ghost use Rattle.std.specs.Option.{option_copied};
 ghost use Rattle.cx_base.specs.Log.{ready_values, still_early};
 ghost use Rattle.cx_rlog.specs.State.{IsReady, LogState};
 ghost use Rattle.cx_rlog.specs.Taken.{early_after, taken_at};
 ghost use Rattle.cx_rlog.specs.declared.taken.Taken.TheVariants.{Early};
 
 use crate::early::{self, Early};
+use crate::packed::{Packed, hold_all, hold_copies};
 use crate::taken::Taken;
 use cx_base::{Duplicate, Few, NoMemory, Value, copy_all};
 use cx_ring::Ring;
@@ -21,7 +21,7 @@ const AHEAD: u64 = 32;
 /// Slots are below 2^40, and a value waits at most 31 slots ahead (this project's own limits).
 #[derive(Drop)]
 pub struct Log {
-    list: Vec<Value>,
+    list: Vec<Packed>,
     // Its window begins at the slots held.
     early: Early,
     spare: usize,
@@ -58,18 +58,14 @@ impl Log {
         self.list.len() as u64
     }
 
-    /// The value of a slot, where it is held. It takes no memory.
-    pub fn value(&self, slot: u64) -> Option<&Value>
-        ensures { option_copied result ≡ slice_get self.now.list slot }
+    /// The value of a slot, where it is held.
+    pub fn value(&self, alloc: Global, slot: u64) -> Result<Option<Value>, NoMemory>
+        ensures { IfOk result (λ value. value ≡ slice_get self.now.list slot) }
     {
-        self.list.get(slot as usize)
-    }
-
-    /// The values held, in slot order. It takes no memory.
-    pub fn values(&self) -> &[Value]
-        ensures { result.now ≡ self.now.list }
-    {
-        self.list.as_slice()
+        match self.list.get(slot as usize) {
+            Some(packed) => Ok(Some(packed.value(alloc)?)),
+            None => Ok(None),
+        }
     }
 
     /// Takes note of a chosen value for a slot: one that is held already is past, one 32 or more above the slots held finds
@@ -124,9 +120,9 @@ impl Log {
         ensures early { self.new.early ≡ still_early (length self.new.list) self.old.early }
         ensures spare { self.new.spare ≡ self.old.spare - length values }
     {
-        let mut values = values.into_vec();
+        let values = values.into_vec();
         self.spare -= values.len();
-        self.list.append(&mut values).unwrap();
+        hold_all(&mut self.list, values);
         let held = self.list.len() as u64;
         self.early.raise(held);
     }
@@ -138,7 +134,7 @@ impl Log {
         ensures ok { OnOk result (self.new ≡ record { list = self.old.list ++ values.now; early = []; spare = 0 }) }
         ensures err { OnErr result (self.new ≡ self.old) }
     {
-        let mut more = copy_all(alloc, values)?;
+        let mut more = hold_copies(alloc, values)?;
         self.list.append(&mut more)?;
         self.early.raise(self.list.len() as u64);
         self.spare = 0;
