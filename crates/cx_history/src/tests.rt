@@ -102,18 +102,28 @@ fn requests_are_told_apart_by_what_they_ask(rt: HostRuntime) -> Result<(), Fail>
         event: write_of(2, Op::Put(key, text)),
         why: Why::Sent,
     })?;
+
+    assert!(rt; !events.is_stale(token, &write_of(2, Op::Put(key, text))));
+    let others = [Op::Put(longer, shorter), Op::App(key, text), Op::Del(key)];
+    for other in &others {
+        assert!(rt; events.is_stale(token, &write_of(2, *other)));
+    }
+    Ok(())
+}
+
+#[test]
+fn a_request_that_was_not_sent_is_no_request(rt: HostRuntime) -> Result<(), Fail> {
+    let key = Key::from_bytes(b"a").ok_or("a key")?;
+    let event = write_of(4, Op::Del(key));
+    let token = Token { client: 3, seq: 3 };
+    let mut events = Events::new(rt.alloc());
     events.push(&Happened {
-        event: write_of(4, Op::Del(key)),
+        event,
         why: Why::Stale,
     })?;
 
-    assert_eq!(rt; events.len(), 2);
-    assert!(rt; !events.is_stale(token, &write_of(2, Op::Put(key, text))));
-    assert!(rt; events.is_stale(token, &write_of(2, Op::Put(longer, shorter))));
-    assert!(rt; events.is_stale(token, &write_of(2, Op::App(key, text))));
-    assert!(rt; events.is_stale(token, &write_of(2, Op::Del(key))));
-    assert!(rt; !events.is_stale(Token { client: 3, seq: 3 }, &write_of(3, Op::Del(key))));
-    assert!(rt; !events.is_stale(Token { client: 2, seq: 1 }, &write_of(1, Op::Del(key))));
+    assert_eq!(rt; events.len(), 1);
+    assert!(rt; !events.is_stale(token, &event));
     Ok(())
 }
 
