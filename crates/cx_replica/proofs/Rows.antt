@@ -1,11 +1,12 @@
 -- What is so of the values that are ready, and of a replica behind them.
 use Rattle.std.proofs.Common.{◌≡◌, ℕ, zero, suc, ◌+◌, ◌-◌, ◌<◌, ◌≤◌, ◌^◌, ◌==◌, Bool, true, false, List, [], ◌∷◌, ◌++◌, length, Option, None, Some, refl, ap, sym, ◌∙◌, subst, inl, inr, arith}
 use Rattle.std.specs.Prelude.{if◌then◌else◌, nat_lt, nat_le, min}
-use Rattle.std.specs.List.{list_all}
+use Rattle.std.specs.List.{list_all, slice_get}
 use Rattle.std.proofs.lemmas.Bool.{and_from, and_parts, cases_Bool, eqb-true}
 use Rattle.std.proofs.lemmas.Bool.Decides.{nat_tests}
 use Rattle.std.proofs.lemmas.List.Folds.{list_all-append}
 use Rattle.std.proofs.lemmas.List.Sums.{count_by-le-length, length-filter}
+use Rattle.std.proofs.lemmas.Option.{same_Some}
 use Rattle.cx_base.specs.declared.cluster.Cluster.{Cluster}
 use Rattle.cx_base.specs.declared.command.Placed.{Placed}
 use Rattle.cx_base.specs.declared.command.Value.{Value}
@@ -75,6 +76,14 @@ own_fits c [] own = refl
 own_fits c (v ∷ vs) own =
     let parts = and_parts (is_own c v) (are_own c vs) own in
     and_from (value.fits v) (list_all (λ (w : Value). value.fits w) vs) ((and_parts (value.fits v) (names_value c v) parts.0).0) (own_fits c vs parts.1)
+
+-- a value that is held is in its ranges
+pub fits_at : (c : Cluster) (vs : List Value) (slot : ℕ) (v : Value) → are_own c vs ≡ true → slice_get vs slot ≡ Some v → value.fits v ≡ true
+fits_at c [] slot v own e = cc
+fits_at c (w ∷ vs) zero v own e =
+    let parts = and_parts (is_own c w) (are_own c vs) own in
+    subst (λ (x : Value). value.fits x ≡ true) (same_Some w v e) ((and_parts (value.fits w) (names_value c w) parts.0).0)
+fits_at c (w ∷ vs) (suc slot) v own e = fits_at c vs slot v (and_parts (is_own c w) (are_own c vs) own).1 e
 
 own_named : (c : Cluster) (vs : List Value) → are_own c vs ≡ true → list_all (λ (v : Value). names_value c v) vs ≡ true
 own_named c [] own = refl

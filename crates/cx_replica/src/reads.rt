@@ -12,7 +12,7 @@ ghost use Rattle.cx_role.specs.Role.{Replies, takes_no_memory};
 
 use crate::replica::Replica;
 use crate::sending::answer;
-use cx_base::{Duplicate, NoMemory, RoleId, Why};
+use cx_base::{NoMemory, RoleId, Why};
 use cx_field::Token;
 use cx_model::Deferred;
 use cx_msg::fetched;
@@ -62,7 +62,7 @@ impl Replica {
     }
 
     /// Another replica asks for the value of a slot (this project's own).
-    #[tactic(auto, using(crate::proofs::Values::slot_fits))]
+    #[tactic(auto, using(crate::proofs::Values::slot_fits, crate::proofs::Rows::fits_at))]
     pub(crate) fn fetch(&self, from: RoleId, slot: u64, out: &mut Outbox) -> Result<Why, NoMemory>
         requires from { from ≡ role Kind.Replica from.index }
         requires empty { out.old.list ≡ [] }
@@ -73,7 +73,9 @@ impl Replica {
         if slot >= self.log.held() {
             return Ok(Why::Idle);
         }
-        let value = self.log.values()[slot as usize].copy(self.alloc)?;
+        let Some(value) = self.log.value(self.alloc, slot)? else {
+            return Ok(Why::Idle);
+        };
         out.room(1)?;
         out.push(fetched(self.me.index, from.index, slot, value));
         Ok(Why::Fetched)
