@@ -1,5 +1,5 @@
 -- Records beside the roles that kept them.
-use Rattle.std.proofs.Common.{◌≡◌, ◌<◌, ◌+◌, ℕ, zero, suc, List, [], ◌∷◌, ◌++◌, Some, None, length, slice_get, get_or, refl, ap, sym, arith}
+use Rattle.std.proofs.Common.{◌≡◌, ◌<◌, ℕ, zero, suc, List, [], ◌∷◌, ◌++◌, Some, None, length, slice_get, get_or, refl, ap, sym, arith}
 use Rattle.cx_base.specs.declared.role.RoleId.{RoleId}
 use Rattle.cx_msg.specs.declared.kept.Record.{Record}
 use Rattle.cx_msg.specs.declared.input.KeptRecord.{KeptRecord}

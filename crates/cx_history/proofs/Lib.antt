@@ -1,3 +1,4 @@
+pub mod Own
 pub mod Keeping
 pub mod Pieces
 pub mod Reached

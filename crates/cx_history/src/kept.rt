@@ -1,6 +1,8 @@
 //! The records that were kept.
 
 ghost use Rattle.std.specs.Prelude.{◌≡◌, ◌<◌, ◌++◌, ◌∷◌, [], true, IfOk, OnOk, OnErr, IsTrue, Some, length, slice_get};
+ghost use Rattle.cx_keeper.specs.Keeper.{all_fit};
+ghost use Rattle.cx_model.specs.World.{records_of};
 ghost use Rattle.cx_msg.specs.Records.{fits};
 ghost use Rattle.cx_history.specs.Kept.{kept_by};
 
@@ -14,12 +16,14 @@ use std::marker::Model;
 /// bytes that spell it: it is read when it is asked for.
 #[derive(Drop)]
 pub struct Kept {
+    alloc: Global,
     roles: Vec<RoleId>,
     records: Records,
 }
 
 impl Model for Kept {
-    ghost use Rattle.std.specs.Prelude.{◌≡◌, List, length};
+    ghost use Rattle.std.specs.Prelude.{◌≡◌, IsTrue, List, length};
+    ghost use Rattle.cx_keeper.specs.Keeper.{all_fit};
     ghost use Rattle.cx_msg.specs.declared.input.KeptRecord.{KeptRecord};
     ghost use Rattle.cx_history.specs.Kept.{kept_by};
 
@@ -27,7 +31,17 @@ impl Model for Kept {
 
     ghost view = { λ k. kept_by k.roles.items k.records };
 
-    ghost invariant = { λ k. length k.roles.items ≡ length k.records };
+    ghost invariant = { λ k. (length k.roles.items ≡ length k.records) × IsTrue (all_fit k.records) };
+}
+
+// Puts a record behind the others, if the role kept it.
+fn push_own(role: RoleId, one: KeptRecord, list: &mut Vec<Record>) -> Result<(), NoMemory>
+    ensures { OnOk result (list.new.items ≡ list.old.items ++ records_of role (one ∷ [])) }
+{
+    if role.is(one.role) {
+        list.push(one.what)?;
+    }
+    Ok(())
 }
 
 impl Kept {
@@ -36,6 +50,7 @@ impl Kept {
         ensures { result ≡ [] }
     {
         Kept {
+            alloc,
             roles: Vec::new(alloc),
             records: Records::new(alloc),
         }
@@ -58,6 +73,18 @@ impl Kept {
             Some(what) => Ok(KeptRecord { role, what }),
             None => unreachable!(),
         }
+    }
+
+    /// The records that a role kept, in order.
+    pub fn records_of(&self, role: RoleId) -> Result<Vec<Record>, NoMemory>
+        ensures list { IfOk result (λ list. list.items ≡ records_of role self.now) }
+        ensures ranges { IfOk result (λ list. IsTrue (all_fit list.items)) }
+    {
+        let mut list = Vec::new(self.alloc);
+        for number in 0..self.len() {
+            push_own(role, self.at(number)?, &mut list)?;
+        }
+        Ok(list)
     }
 
     /// Notes a record that was kept last. Want of memory changes nothing.
