@@ -81,3 +81,7 @@ pub record IsSeat {S : Type 0} (c : Cluster) (who : RoleId) (kept : List KeptRec
 
 abbrev pub AreSeats : {S : Type 0} → Cluster → Kind → List KeptRecord → List (Seat S) → Type 0
 AreSeats {S} c k kept seats = (i : ℕ) (seat : Seat S) → slice_get seats i ≡ Some seat → IsSeat c (record { kind = k; index = i }) kept seat
+
+-- each seat has its role's records of the history
+abbrev pub HaveRecords : {S : Type 0} → List KeptRecord → List (Seat S) → Type 0
+HaveRecords {S} kept seats = (i : ℕ) (seat : Seat S) → slice_get seats i ≡ Some seat → seat.records ≡ records_of seat.me kept

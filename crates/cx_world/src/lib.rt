@@ -9,6 +9,7 @@ mod change;
 mod chosen;
 mod counts;
 mod folded;
+mod last_keeper;
 mod seat;
 mod sorted;
 mod turned;

@@ -4,15 +4,16 @@ ghost use Rattle.std.specs.Prelude.{◌≡◌, [], IfOk, IsErrOf, None, Some, tr
 ghost use Rattle.cx_keeper.specs.MemKeeper.{mem_append_gives};
 ghost use Rattle.cx_model.specs.Names.{count_of};
 ghost use Rattle.cx_model.specs.Rules.{Rules, Running, outcome_of, IsFit};
-ghost use Rattle.cx_model.specs.World.{fresh_roles};
+ghost use Rattle.cx_model.specs.World.{fresh_roles, records_of};
 ghost use Rattle.cx_msg.specs.declared.input.Act.TheVariants.{Give, Stop, Wake};
 ghost use Rattle.cx_role.specs.declared.role.StepFault.TheVariants as fault;
 ghost use Rattle.cx_role.specs.Role.{Steps, StaysAt, FailsAt};
-ghost use Rattle.cx_world.specs.Seat.{AreSeats, roles_in, Seat, IsPlace, IsTurned, TurnsAt, seat_turn, volatile_of, why_of_cut};
+ghost use Rattle.cx_world.specs.Seat.{AreSeats, HaveRecords, roles_in, Seat, IsPlace, IsTurned, TurnsAt, seat_turn, volatile_of, why_of_cut};
 
+use crate::last_keeper::LastKeeper;
 use crate::turned::Turned;
 use cx_base::{Cluster, Cut, Kind, NoMemory, RoleId, Why};
-use cx_keeper::{Keeper, MemKeeper};
+use cx_history::Kept;
 use cx_msg::{Act, Input};
 use cx_role::{Outbox, Role, StepFault, WakeFault};
 use std::alloc::Global;
@@ -24,7 +25,7 @@ pub struct Seat<R: Role> {
     cluster: Cluster,
     me: RoleId,
     role: Option<R>,
-    keeper: MemKeeper,
+    keeper: LastKeeper,
 }
 
 impl<R: Role> Model for Seat<R> {
@@ -60,7 +61,7 @@ fn still(why: Why) -> Turned
 // One step of a role, whatever it is given.
 fn step<R: Role>(
     role: &mut R,
-    keeper: &mut MemKeeper,
+    keeper: &mut LastKeeper,
     input: &Input,
     out: &mut Outbox,
 ) -> Result<Why, StepFault>
@@ -93,7 +94,7 @@ impl<R: Role + Drop> Seat<R> {
                 cluster: *cluster,
                 me,
                 role: Some(role),
-                keeper: MemKeeper::new(alloc),
+                keeper: LastKeeper::new(alloc),
             }),
             Err(WakeFault::NoMemory) => Err(NoMemory),
             Err(WakeFault::Record { .. }) => unreachable!(),
@@ -136,17 +137,14 @@ impl<R: Role + Drop> Seat<R> {
         Why::Crashed
     }
 
-    fn wake(&mut self, alloc: Global) -> Result<Why, NoMemory>
+    fn wake(&mut self, alloc: Global, kept: &Kept) -> Result<Why, NoMemory>
+        requires { self.old.records ≡ records_of self.old.me kept.now }
         ensures { IfOk result (λ why. IsTurned R.state (seat_turn R.rules R.state Wake self.old) self.old self.new why None []) }
     {
         if self.role.is_some() {
             return Ok(Why::Up);
         }
-        // A keeper in memory recovers whatever it keeps, but for want of memory.
-        let records = match self.keeper.recover() {
-            Ok(records) => records,
-            Err(_) => return Err(NoMemory),
-        };
+        let records = kept.records_of(self.me)?;
         match R::open(alloc, &self.cluster, self.me, &records) {
             Ok(role) => {
                 self.role = Some(role);
@@ -157,28 +155,37 @@ impl<R: Role + Drop> Seat<R> {
         }
     }
 
-    /// What is done to the role.
-    pub fn act(&mut self, alloc: Global, act: &Act, out: &mut Outbox) -> Result<Turned, NoMemory>
-        requires { out.old.list ≡ [] }
+    /// What is done to the role, whose records stand in this history.
+    pub fn act(
+        &mut self,
+        alloc: Global,
+        kept: &Kept,
+        act: &Act,
+        out: &mut Outbox,
+    ) -> Result<Turned, NoMemory>
+        requires records { self.old.records ≡ records_of self.old.me kept.now }
+        requires empty { out.old.list ≡ [] }
         ensures { IfOk result (λ turned. IsTurned R.state (seat_turn R.rules R.state act.now self.old) self.old self.new turned.why turned.kept out.new.list) }
     {
         match act {
             Act::Give { input, cut } => self.give(input, *cut, out),
             Act::Stop => Ok(still(self.stop())),
-            Act::Wake => Ok(still(self.wake(alloc)?)),
+            Act::Wake => Ok(still(self.wake(alloc, kept)?)),
         }
     }
 }
 
-/// What is done to the role at this place.
+/// What is done to the role at this place; the records of each role stand in this history.
 pub fn act_at<R: Role + Drop>(
     alloc: Global,
     seats: &mut Vec<Seat<R>>,
+    kept: &Kept,
     index: u16,
     act: &Act,
     out: &mut Outbox,
 ) -> Result<Turned, NoMemory>
-    requires { out.old.list ≡ [] }
+    requires records { HaveRecords kept.now seats.old.items }
+    requires empty { out.old.list ≡ [] }
     ensures { IfOk result (λ turned. TurnsAt R.rules R.state act.now index seats.old.items seats.new.items turned.why turned.kept out.new.list) }
 {
     let index = index as usize;
@@ -186,7 +193,7 @@ pub fn act_at<R: Role + Drop>(
         return Ok(still(Why::Down));
     }
     let seat = &mut seats[index];
-    seat.act(alloc, act, out)
+    seat.act(alloc, kept, act, out)
 }
 
 /// A running role at each place below this count.

@@ -136,6 +136,7 @@ impl World {
         let Changed { who, why, kept } = change(
             self.alloc,
             &mut self.seats,
+            &self.kept,
             &self.sent,
             &self.events,
             event,
