@@ -1,5 +1,5 @@
 -- What is held of a datagram's bytes is read again as the datagram.
-use Rattle.std.proofs.Common.{◌≡◌, ◌≤◌, ◌+◌, ◌-◌, ◌∙◌, ℕ, true, List, [], ◌∷◌, ◌++◌, Ok, All, length, ap, sym, refl, arith}
+use Rattle.std.proofs.Common.{◌≡◌, ◌≤◌, ◌+◌, ◌-◌, ◌∙◌, ℕ, true, List, [], ◌∷◌, ◌++◌, Ok, All, length, ap, refl, arith}
 use Rattle.std.proofs.lemmas.List.{map-append}
 use Rattle.cx_wire.specs.Format.{u8, u16}
 use Rattle.cx_msg.specs.Decoding.{decoded}

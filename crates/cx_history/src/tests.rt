@@ -131,18 +131,22 @@ fn a_request_that_was_not_sent_is_no_request(rt: HostRuntime) -> Result<(), Fail
 fn records_are_read_as_they_were_kept(rt: HostRuntime) -> Result<(), Fail> {
     let alloc = rt.alloc();
     let mut kept = Kept::new(alloc);
-    let acceptor = RoleId {
-        kind: Kind::Acceptor,
-        index: 3,
-    };
+    let acceptor = RoleId::new(Kind::Acceptor, 3);
+    let other = RoleId::new(Kind::Acceptor, 4);
     kept.push(acceptor, &record_from(alloc, PROMISE)?)?;
-    kept.push(acceptor, &record_from(alloc, PROMISE)?)?;
+    kept.push(other, &record_from(alloc, PROMISE)?)?;
 
     assert_eq!(rt; kept.len(), 2);
     let last = kept.at(1)?;
-    assert_eq!(rt; last.role, acceptor);
+    assert_eq!(rt; last.role, other);
     let mut bytes = Vec::new(alloc);
     record_into(alloc, &last.what, &mut bytes)?;
     assert_eq!(rt; bytes.as_slice(), PROMISE);
+
+    let of_one = kept.records_of(acceptor)?;
+    assert_eq!(rt; of_one.len(), 1);
+    let mut again = Vec::new(alloc);
+    record_into(alloc, &of_one[0], &mut again)?;
+    assert_eq!(rt; again.as_slice(), PROMISE);
     Ok(())
 }

@@ -1,4 +1,4 @@
-use Rattle.std.proofs.Common.{◌++◌, ◌∷◌, ◌∙◌, [], ap, sym, arith, append-nil, append_assoc}
+use Rattle.std.proofs.Common.{◌++◌, ◌∙◌, ap, sym, arith, append-nil, append_assoc}
 use Rattle.cx_history.specs.Kept.{kept_by, records_in}
 use Rattle.cx_history.proofs.Keeping.{counts, fit_more, next_passed, next_taken, none_behind}
 use Rattle.cx_history.proofs.kept.read_records.Goals as goal

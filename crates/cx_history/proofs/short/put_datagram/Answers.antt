@@ -1,4 +1,4 @@
-use Rattle.std.proofs.Common.{◌≡◌, ap, ◌∙◌, length, arith}
+use Rattle.std.proofs.Common.{◌≡◌, ap, ◌∙◌, arith}
 use Rattle.cx_msg.specs.Letter.{spelling}
 use Rattle.cx_history.specs.Short.{shortened}
 use Rattle.cx_history.proofs.Shorts.{length-whole, letters_more, shorts_more}
