@@ -2,3 +2,4 @@ pub mod Behind
 pub mod Keys
 pub mod Maps
 pub mod Names
+pub mod Used

@@ -1,3 +1,4 @@
+pub mod Acting
 pub mod Place
 pub mod Printed
 pub mod Rising

@@ -1,15 +1,15 @@
 //! The map that values leave.
 
-ghost use Rattle.std.specs.Prelude.{◌≡◌, ◌++◌, IfOk, OnOk};
-ghost use Rattle.cx_base.specs.Fold.{commands_of, fold, map_behind};
+ghost use Rattle.std.specs.Prelude.{◌≡◌, ◌++◌, OnOk};
+ghost use Rattle.cx_base.specs.Fold.{commands_of, map_behind};
 
+use crate::acting::Executed;
 use crate::store::Store;
-use cx_base::{Command, CommandList, NoMemory, Value};
-use std::alloc::Global;
+use cx_base::{Command, NoMemory, Value};
 
 // Commands behind others: those that act are done to the map.
-fn execute(
-    before: &mut CommandList,
+fn execute_all(
+    before: &mut Executed,
     store: &mut Store,
     commands: &[Command],
 ) -> Result<(), NoMemory>
@@ -25,25 +25,14 @@ fn execute(
     Ok(())
 }
 
-// The commands of a value.
-fn execute_value(before: &mut CommandList, store: &mut Store, value: &Value) -> Result<(), NoMemory>
+/// Does the commands of a value to the map, in order, of which those are done that act behind all before them. Where memory is
+/// wanting, a part of them may be done.
+pub fn execute(before: &mut Executed, store: &mut Store, value: &Value) -> Result<(), NoMemory>
     ensures store { OnOk result (store.new ≡ map_behind before.old store.old (commands_of value.now)) }
     ensures before { OnOk result (before.new ≡ before.old ++ commands_of value.now) }
 {
     match value {
         Value::Noop => Ok(()),
-        Value::Batch(commands) => execute(before, store, commands.as_slice()),
+        Value::Batch(commands) => execute_all(before, store, commands.as_slice()),
     }
-}
-
-/// The map that values leave: of their commands, in order, those are done that act behind all before them.
-pub fn fold(alloc: Global, values: &[Value]) -> Result<Store, NoMemory>
-    ensures { IfOk result (λ store. store ≡ fold values.now) }
-{
-    let mut before = CommandList::new(alloc);
-    let mut store = Store::new(alloc)?;
-    for value in values {
-        execute_value(&mut before, &mut store, value)?;
-    }
-    Ok(store)
 }

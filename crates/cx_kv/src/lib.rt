@@ -1,16 +1,19 @@
 //! The key-value map of a replica, and the fold of commands.
 //!
 //! Replicas stand on its step, which leaves the map and gives the reply that the definitions of the fold name: `Store::apply`.
-//! Summaries of runs stand on the whole fold: `fold`.
+//! Summaries of runs stand on the commands of values, one value behind another: `execute`, and `Executed`, which tells the commands
+//! that act without holding those before them.
 #![tactic(auto)]
 
+mod acting;
 mod append;
 mod folding;
 mod order;
 mod pairs;
 mod store;
 
-pub use folding::fold;
+pub use acting::Executed;
+pub use folding::execute;
 pub use store::Store;
 
 #[cfg(test)]
@@ -66,7 +69,11 @@ mod tests {
             Value::Batch(Few::from_vec(vec![in alloc; command(0, 1), command(0, 2)]?)),
             Value::Batch(Few::from_vec(vec![in alloc; command(1, 1), command(0, 3)]?)),
         ];
-        let store = fold(alloc, &values)?;
+        let mut before = Executed::new(alloc);
+        let mut store = Store::new(alloc)?;
+        for value in &values {
+            execute(&mut before, &mut store, value)?;
+        }
         assert_eq!(rt; store.get(&key).copied(), Text::from_bytes(b"111"));
         Ok(())
     }

@@ -50,7 +50,11 @@ abbrev pub replicas_text : ℕ → List Folded → List ℕ
 replicas_text p [] = []
 replicas_text p (folded ∷ rest) = replica_text p folded ++ replicas_text (p + 1) rest
 
+-- the line that says how many values are chosen
+unfoldable pub chosen_text : ℕ → List ℕ
+chosen_text count = codes "chosen " ++ decimal count ++ codes "\n"
+
 -- how many values are chosen, each of them, and each replica
 unfoldable pub summary_text : List Value → List Folded → List ℕ
 summary_text chosen replicas =
-    codes "chosen " ++ decimal (length chosen) ++ codes "\n" ++ slots_text 0 [] chosen ++ replicas_text 0 replicas
+    chosen_text (length chosen) ++ slots_text 0 [] chosen ++ replicas_text 0 replicas

@@ -1,14 +1,16 @@
 //! The lines of the values that are chosen.
 
-ghost use Rattle.std.specs.Prelude.{◌≡◌, ◌++◌, OnOk};
+ghost use Rattle.std.specs.Prelude.{◌≡◌, ◌++◌, length, take, OnErr, OnOk};
 ghost use Rattle.cx_base.specs.Fold.{commands_of};
-ghost use Rattle.cx_trace.specs.Summary.{acts_text, command_text, commands_text, op_text, slot_text, slots_text};
+ghost use Rattle.cx_trace.specs.Summary.{acts_text, command_text, commands_text, op_text, slot_text};
 
-use crate::put::{put, put_number, put_request};
-use cx_base::{Command, CommandList, NoMemory, Op, Value};
+use crate::put::{put, put_number, put_request, undo_part};
+use cx_base::{Command, NoMemory, Op, Value};
+use cx_kv::Executed;
 
 fn put_op(text: &mut Vec<u8>, op: &Op) -> Result<(), NoMemory>
-    ensures { OnOk result (text.new.items ≡ text.old.items ++ op_text op.now) }
+    ensures ok { OnOk result (text.new.items ≡ text.old.items ++ op_text op.now) }
+    ensures err { OnErr result (take (length text.old.items) text.new.items ≡ text.old.items) }
 {
     match op {
         Op::Put(key, value) => {
@@ -32,8 +34,9 @@ fn put_op(text: &mut Vec<u8>, op: &Op) -> Result<(), NoMemory>
 
 // Whether a command acts behind those before it, in a word.
 #[tactic(auto, unfolding(crate::specs::Summary::acts_text))]
-fn put_acts(text: &mut Vec<u8>, before: &CommandList, command: &Command) -> Result<(), NoMemory>
-    ensures { OnOk result (text.new.items ≡ text.old.items ++ acts_text before.now command.now) }
+fn put_acts(text: &mut Vec<u8>, before: &Executed, command: &Command) -> Result<(), NoMemory>
+    ensures ok { OnOk result (text.new.items ≡ text.old.items ++ acts_text before.now command.now) }
+    ensures err { OnErr result (take (length text.old.items) text.new.items ≡ text.old.items) }
 {
     if before.acts(command) {
         put(text, b"acts")
@@ -46,10 +49,11 @@ fn put_acts(text: &mut Vec<u8>, before: &CommandList, command: &Command) -> Resu
 fn put_command(
     text: &mut Vec<u8>,
     slot: u64,
-    before: &CommandList,
+    before: &Executed,
     command: &Command,
 ) -> Result<(), NoMemory>
-    ensures { OnOk result (text.new.items ≡ text.old.items ++ command_text slot before.now command.now) }
+    ensures ok { OnOk result (text.new.items ≡ text.old.items ++ command_text slot before.now command.now) }
+    ensures err { OnErr result (take (length text.old.items) text.new.items ≡ text.old.items) }
 {
     put_number(text, slot)?;
     put(text, b" ")?;
@@ -65,11 +69,12 @@ fn put_command(
 fn put_commands(
     text: &mut Vec<u8>,
     slot: u64,
-    before: &mut CommandList,
+    before: &mut Executed,
     commands: &[Command],
 ) -> Result<(), NoMemory>
     ensures text { OnOk result (text.new.items ≡ text.old.items ++ commands_text slot before.old commands.now) }
     ensures before { OnOk result (before.new ≡ before.old ++ commands.now) }
+    ensures err { OnErr result (take (length text.old.items) text.new.items ≡ text.old.items) }
 {
     for command in commands {
         put_command(text, slot, before, command)?;
@@ -81,11 +86,12 @@ fn put_commands(
 fn put_slot(
     text: &mut Vec<u8>,
     slot: u64,
-    before: &mut CommandList,
+    before: &mut Executed,
     value: &Value,
 ) -> Result<(), NoMemory>
     ensures text { OnOk result (text.new.items ≡ text.old.items ++ slot_text slot before.old value.now) }
     ensures before { OnOk result (before.new ≡ before.old ++ commands_of value.now) }
+    ensures err { OnErr result (take (length text.old.items) text.new.items ≡ text.old.items) }
 {
     match value {
         Value::Noop => {
@@ -96,16 +102,19 @@ fn put_slot(
     }
 }
 
-// The values of the slots from 0 on, behind no command.
-pub fn put_slots(
-    text: &mut Vec<u8>,
-    before: &mut CommandList,
-    chosen: &[Value],
+/// Appends the lines of a slot (this project's own format): its number, and `noop` or a command with `acts` or `past`, by the
+/// commands that stand before it. Those grow by the slot's. An `Err` appends nothing.
+pub fn slot_into(
+    slot: u64,
+    before: &mut Executed,
+    value: &Value,
+    out: &mut Vec<u8>,
 ) -> Result<(), NoMemory>
-    ensures { OnOk result (text.new.items ≡ text.old.items ++ slots_text 0 before.old chosen.now) }
+    ensures text { OnOk result (out.new.items ≡ out.old.items ++ slot_text slot before.old value.now) }
+    ensures before { OnOk result (before.new ≡ before.old ++ commands_of value.now) }
+    ensures err { OnErr result (out.new.items ≡ out.old.items) }
 {
-    for (slot, value) in chosen.iter().enumerate() {
-        put_slot(text, slot as u64, before, value)?;
-    }
-    Ok(())
+    let length = out.len();
+    let done = put_slot(out, slot, before, value);
+    undo_part(done, out, length)
 }

@@ -12,16 +12,17 @@ mod put;
 mod replies;
 mod summary;
 
+pub use commands::slot_into;
 pub use datagrams::{datagram_into, datagrams_into, put_told};
 pub use effect::Effect;
 pub use events::event_into;
-pub use summary::{Folded, summary_into};
+pub use summary::{Folded, chosen_into, replica_into};
 
 #[cfg(test)]
 mod tests {
     use super::*;
     use cx_base::{Command, Cut, Event, Few, Key, Kind, Op, RoleId, Text, Value, Why};
-    use cx_kv::Store;
+    use cx_kv::{Executed, Store};
     use cx_msg::decode;
     use std::test::Fail;
 
@@ -82,10 +83,15 @@ mod tests {
         let chosen = Value::Batch(Few::from_vec(vec![in alloc; command]?));
         let mut store = Store::new(alloc)?;
         store.apply(&command)?;
-        summary_into(alloc, &[chosen], &[Folded { held: 1, store }], &mut text)?;
+        let mut before = Executed::new(alloc);
+        chosen_into(3, &mut text)?;
+        slot_into(0, &mut before, &chosen, &mut text)?;
+        slot_into(1, &mut before, &Value::Noop, &mut text)?;
+        slot_into(2, &mut before, &chosen, &mut text)?;
+        replica_into(0, &Folded { held: 1, store }, &mut text)?;
         assert_eq!(rt;
             text.as_slice(),
-            b"chosen 1\n0 client:0 1 put a 1 acts\nreplica:0 held 1 a=1\n".as_slice()
+            b"chosen 3\n0 client:0 1 put a 1 acts\n1 noop\n2 client:0 1 put a 1 past\nreplica:0 held 1 a=1\n".as_slice()
         );
         Ok(())
     }

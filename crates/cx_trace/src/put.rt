@@ -1,6 +1,6 @@
 //! Pieces of text, each put at the end of a text.
 
-ghost use Rattle.std.specs.Prelude.{◌≡◌, ◌<◌, ◌++◌, OnErr, OnOk, decimal};
+ghost use Rattle.std.specs.Prelude.{◌≡◌, ◌<◌, ◌++◌, length, take, OnErr, OnOk, decimal};
 ghost use Rattle.cx_base.specs.Role.{role, role_text};
 ghost use Rattle.cx_trace.specs.Put.{hex, hex_digit};
 ghost use Rattle.cx_trace.specs.Trace.{request_text};
@@ -16,8 +16,25 @@ pub fn put(text: &mut Vec<u8>, piece: &[u8]) -> Result<(), NoMemory>
     Ok(())
 }
 
+// What was put behind so many bytes of a text goes again where memory was wanting.
+pub fn undo_part(
+    put: Result<(), NoMemory>,
+    text: &mut Vec<u8>,
+    length: usize,
+) -> Result<(), NoMemory>
+    ensures same { result ≡ put }
+    ensures ok { OnOk put (text.new.items ≡ text.old.items) }
+    ensures err { OnErr put (text.new.items ≡ take length text.old.items) }
+{
+    if put.is_err() {
+        text.truncate(length);
+    }
+    put
+}
+
 pub fn put_number(text: &mut Vec<u8>, number: u64) -> Result<(), NoMemory>
-    ensures { OnOk result (text.new.items ≡ text.old.items ++ decimal number) }
+    ensures ok { OnOk result (text.new.items ≡ text.old.items ++ decimal number) }
+    ensures err { OnErr result (take (length text.old.items) text.new.items ≡ text.old.items) }
 {
     let mut buffer = Buffer::new();
     put(text, buffer.format(number).as_bytes())
@@ -25,11 +42,13 @@ pub fn put_number(text: &mut Vec<u8>, number: u64) -> Result<(), NoMemory>
 
 // The role of a kind, whose index need not fit a role's: a place in a list.
 pub fn put_role_at(text: &mut Vec<u8>, kind: Kind, index: u64) -> Result<(), NoMemory>
-    ensures { OnOk result (text.new.items ≡ text.old.items ++ role_text (role kind index)) }
+    ensures ok { OnOk result (text.new.items ≡ text.old.items ++ role_text (role kind index)) }
+    ensures err { OnErr result (take (length text.old.items) text.new.items ≡ text.old.items) }
 {
     put(text, kind.text().as_bytes())?;
     put(text, b":")?;
-    put_number(text, index)
+    put_number(text, index)?;
+    Ok(())
 }
 
 pub fn put_role(text: &mut Vec<u8>, role: RoleId) -> Result<(), NoMemory>
@@ -41,7 +60,8 @@ pub fn put_role(text: &mut Vec<u8>, role: RoleId) -> Result<(), NoMemory>
 // A request of a client: who, and its number.
 #[tactic(auto, unfolding(crate::specs::Trace::request_text))]
 pub fn put_request(text: &mut Vec<u8>, client: u16, seq: u64) -> Result<(), NoMemory>
-    ensures { OnOk result (text.new.items ≡ text.old.items ++ request_text client seq) }
+    ensures ok { OnOk result (text.new.items ≡ text.old.items ++ request_text client seq) }
+    ensures err { OnErr result (take (length text.old.items) text.new.items ≡ text.old.items) }
 {
     put_role_at(text, Kind::Client, u64::from(client))?;
     put(text, b" ")?;

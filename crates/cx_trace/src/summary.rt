@@ -1,13 +1,11 @@
 //! The last lines of a run.
 
-ghost use Rattle.std.specs.Prelude.{◌≡◌, ◌++◌, OnErr, OnOk};
-ghost use Rattle.cx_trace.specs.Summary.{replica_text, replicas_text, summary_text};
+ghost use Rattle.std.specs.Prelude.{◌≡◌, ◌++◌, length, take, OnErr, OnOk};
+ghost use Rattle.cx_trace.specs.Summary.{chosen_text, replica_text};
 
-use crate::commands::put_slots;
-use crate::put::{put, put_number, put_role_at};
-use cx_base::{CommandList, Kind, NoMemory, Value};
+use crate::put::{put, put_number, put_role_at, undo_part};
+use cx_base::{Kind, NoMemory};
 use cx_kv::Store;
-use std::alloc::Global;
 
 /// What a replica kept: how many slots it holds, and the map that they leave.
 #[derive(Debug, Drop)]
@@ -16,9 +14,20 @@ pub struct Folded {
     pub store: Store,
 }
 
+#[tactic(auto, unfolding(crate::specs::Summary::chosen_text))]
+fn put_chosen(text: &mut Vec<u8>, count: u64) -> Result<(), NoMemory>
+    ensures ok { OnOk result (text.new.items ≡ text.old.items ++ chosen_text count) }
+    ensures err { OnErr result (take (length text.old.items) text.new.items ≡ text.old.items) }
+{
+    put(text, b"chosen ")?;
+    put_number(text, count)?;
+    put(text, b"\n")
+}
+
 #[tactic(auto, unfolding(crate::specs::Summary::replica_text))]
 fn put_replica(text: &mut Vec<u8>, place: u64, folded: &Folded) -> Result<(), NoMemory>
-    ensures { OnOk result (text.new.items ≡ text.old.items ++ replica_text place folded.now) }
+    ensures ok { OnOk result (text.new.items ≡ text.old.items ++ replica_text place folded.now) }
+    ensures err { OnErr result (take (length text.old.items) text.new.items ≡ text.old.items) }
 {
     put_role_at(text, Kind::Replica, place)?;
     put(text, b" held ")?;
@@ -27,32 +36,23 @@ fn put_replica(text: &mut Vec<u8>, place: u64, folded: &Folded) -> Result<(), No
     put(text, b"\n")
 }
 
-fn put_replicas(text: &mut Vec<u8>, replicas: &[Folded]) -> Result<(), NoMemory>
-    ensures { OnOk result (text.new.items ≡ text.old.items ++ replicas_text 0 replicas.now) }
-{
-    for (place, folded) in replicas.iter().enumerate() {
-        put_replica(text, place as u64, folded)?;
-    }
-    Ok(())
-}
-
-/// Appends the summary of a run (this project's own format): how many values are chosen, each in the order of their slots,
-/// its commands with `acts` or `past`, and for each replica how many slots it holds and its map. An `Err` appends nothing.
-#[tactic(auto, unfolding(crate::specs::Summary::summary_text))]
-pub fn summary_into(
-    alloc: Global,
-    chosen: &[Value],
-    replicas: &[Folded],
-    out: &mut Vec<u8>,
-) -> Result<(), NoMemory>
-    ensures ok { OnOk result (out.new.items ≡ out.old.items ++ summary_text chosen.now replicas.now) }
+/// Appends the first line of the summary of a run (this project's own format): how many values are chosen. An `Err` appends
+/// nothing.
+pub fn chosen_into(count: u64, out: &mut Vec<u8>) -> Result<(), NoMemory>
+    ensures ok { OnOk result (out.new.items ≡ out.old.items ++ chosen_text count) }
     ensures err { OnErr result (out.new.items ≡ out.old.items) }
 {
-    let mut text = Vec::new(alloc);
-    put(&mut text, b"chosen ")?;
-    put_number(&mut text, chosen.len() as u64)?;
-    put(&mut text, b"\n")?;
-    put_slots(&mut text, &mut CommandList::new(alloc), chosen)?;
-    put_replicas(&mut text, replicas)?;
-    put(out, &text)
+    let length = out.len();
+    let done = put_chosen(out, count);
+    undo_part(done, out, length)
+}
+
+/// Appends the line of a replica (this project's own format): how many slots it holds, and its map. An `Err` appends nothing.
+pub fn replica_into(place: u64, folded: &Folded, out: &mut Vec<u8>) -> Result<(), NoMemory>
+    ensures ok { OnOk result (out.new.items ≡ out.old.items ++ replica_text place folded.now) }
+    ensures err { OnErr result (out.new.items ≡ out.old.items) }
+{
+    let length = out.len();
+    let done = put_replica(out, place, folded);
+    undo_part(done, out, length)
 }

@@ -1,6 +1,6 @@
 use Rattle.std.proofs.Common.{◌≡◌, ◌++◌, drop}
 use Rattle.cx_base.specs.Fold.{map_behind}
-use Rattle.cx_kv.proofs.folding.execute.Given as goal
+use Rattle.cx_kv.proofs.folding.execute_all.Given as goal
 
 abbrev pub invariant-loop-command : goal.invariant-loop-command
 invariant-loop-command l = record {
