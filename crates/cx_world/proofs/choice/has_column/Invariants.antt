@@ -3,7 +3,7 @@ use Rattle.std.specs.List.{list_all}
 use Rattle.cx_base.specs.Lists.{numbers}
 use Rattle.cx_grid.specs.Quorum.{member_at, column_of}
 use Rattle.cx_model.specs.Chosen.{has_vote}
-use Rattle.cx_world.proofs.chosen.has_column.Given as goal
+use Rattle.cx_world.proofs.choice.has_column.Given as goal
 
 abbrev pub invariant-loop-row : goal.invariant-loop-row
 invariant-loop-row l =

@@ -3,7 +3,7 @@ use Rattle.std.specs.List.{list_all, list_any}
 use Rattle.cx_base.specs.Lists.{numbers, below}
 use Rattle.cx_grid.specs.Quorum.{column_of}
 use Rattle.cx_model.specs.Chosen.{has_vote}
-use Rattle.cx_world.proofs.chosen.has_some_column.Given as goal
+use Rattle.cx_world.proofs.choice.has_some_column.Given as goal
 
 abbrev pub invariant-loop-col : goal.invariant-loop-col
 invariant-loop-col l =
