@@ -5,6 +5,7 @@
 //! otherwise.
 #![tactic(auto)]
 
+mod ending;
 #[cfg(test)]
 mod tests;
 mod whole;

@@ -5,6 +5,7 @@ use cx_base::{Command, CommandList, Key, Kind, Op, RoleId, Text, acts};
 use cx_edge::{InPieces, MemSink, MemSource};
 use cx_grid::Marks;
 use cx_history::{Kept, Sent};
+use cx_kv::Executed;
 use cx_msg::{Datagram, decode, encode_into, record_from, record_into};
 use cx_replay::replay;
 use std::alloc::Global;
@@ -129,6 +130,7 @@ fn greatest_numbers_tell_which_commands_act(rt: HostRuntime) -> Result<(), Fail>
     let one = Text::from_bytes(b"1").ok_or("a text")?;
     let mut plain = Vec::new(alloc);
     let mut list = CommandList::new(alloc);
+    let mut executed = Executed::new(alloc);
     let asked = [
         (0, 2, true),
         (0, 1, false),
@@ -137,6 +139,9 @@ fn greatest_numbers_tell_which_commands_act(rt: HostRuntime) -> Result<(), Fail>
         (0, 3, true),
         (65_535, 1, true),
         (65_535, 1, false),
+        (2, 0, true),
+        (2, 0, false),
+        (0, 0, false),
     ];
     for (client, seq, wanted) in &asked {
         let command = Command {
@@ -146,8 +151,10 @@ fn greatest_numbers_tell_which_commands_act(rt: HostRuntime) -> Result<(), Fail>
         };
         assert_eq!(rt; acts(&plain, &command), *wanted);
         assert_eq!(rt; list.acts(&command), *wanted);
+        assert_eq!(rt; executed.acts(&command), *wanted);
         plain.push(command)?;
         list.push(&command)?;
+        executed.push(&command)?;
     }
     Ok(())
 }

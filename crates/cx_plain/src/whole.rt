@@ -8,9 +8,10 @@ ghost use Rattle.cx_model.specs.World.{run, start};
 ghost use Rattle.cx_replay.specs.Input.{behind, input_of};
 ghost use Rattle.cx_replay.specs.Replay.{ending, text_of, trace};
 
+use crate::ending::end_into;
 use cx_base::{Cluster, Event, NoMemory};
 use cx_cluster::{ClusterFault, read};
-use cx_replay::{end_into, step_into};
+use cx_replay::step_into;
 use cx_script::{read_schedule, spelled_events_are_taken, split_header};
 use cx_world::World;
 use std::alloc::Global;

@@ -103,6 +103,24 @@ abbrev pub RunsLine : Cluster → ℕ → List ℕ → WorldState → WorldState
 RunsLine c n line old new out out_after writes writes_after (Ok done) = RanLine c n line old new out out_after writes writes_after
 RunsLine c n line old new out out_after writes writes_after (Err s) = StopsIn c n line old.world out out_after writes writes_after s
 
+-- why a text isn't written whole
+abbrev pub StopsWriting : ℕ → ℕ → Status → Type 0
+StopsWriting writes writes_after status.WriteFault = Rises writes writes_after
+StopsWriting writes writes_after status.NoMemory = writes_after ≡ writes
+StopsWriting writes writes_after status.Done = ⊥
+StopsWriting writes writes_after (status.BadInput line) = ⊥
+StopsWriting writes writes_after status.BadWords = ⊥
+StopsWriting writes writes_after status.ReadFault = ⊥
+StopsWriting writes writes_after status.LinkFault = ⊥
+StopsWriting writes writes_after (status.StoreFault role) = ⊥
+StopsWriting writes writes_after status.Turns = ⊥
+StopsWriting writes writes_after (status.BadStore role at) = ⊥
+
+-- a text was written, or a part of it
+abbrev pub WritesText : List ℕ → Option (List ℕ) → Option (List ℕ) → ℕ → ℕ → Result (Unit {0}) Status → Type 0
+WritesText text out out_after writes writes_after (Ok done) = Appends out out_after text × (writes_after ≡ writes)
+WritesText text out out_after writes writes_after (Err s) = AppendsPart out out_after text × StopsWriting writes writes_after s
+
 -- what writing the summary of a run came to
 abbrev pub Sums : World → Option (List ℕ) → Option (List ℕ) → ℕ → ℕ → Status → Type 0
 Sums w out out_after writes writes_after status.Done = Appends out out_after (summary w) × (writes_after ≡ writes)

@@ -4,7 +4,8 @@
 //! Stands on the world, the grammar of schedules and the text of runs; the program stands on it. Its theorems are the contracts
 //! of `replay` and `run_gen`: what was written is the trace and the summary of the input's own run, or the short summary of the
 //! run of a seed's events, or it says why it stopped; and the run is lawful. `replay` names the first bad line, behind the trace of
-//! those before it. It reads no line before the text of the one before is written.
+//! those before it. It reads no line before the text of the one before is written, and of the summary no more than the lines of one
+//! slot or replica are held.
 #![tactic(auto)]
 
 mod generating;
@@ -13,7 +14,8 @@ mod replaying;
 mod running;
 mod short;
 mod step;
+mod summing;
 
 pub use generating::run_gen;
 pub use replaying::replay;
-pub use step::{end_into, step_into};
+pub use step::step_into;

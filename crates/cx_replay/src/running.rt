@@ -7,10 +7,11 @@ ghost use Rattle.cx_base.specs.Faults.{Rises};
 ghost use Rattle.cx_edge.specs.Sink.{AppendsPart};
 ghost use Rattle.cx_model.specs.World.{start, step};
 ghost use Rattle.cx_replay.specs.declared.running.RunEnd.TheVariants as end;
-ghost use Rattle.cx_replay.specs.Replay.{ComesOfReplay, Replayed, step_text, summary};
+ghost use Rattle.cx_replay.specs.Replay.{ComesOfReplay, Replayed, step_text};
 ghost use Rattle.cx_replay.specs.Streamed.{RunsLine, StandsBehind, Sums};
 
-use crate::step::{end_into, step_into};
+use crate::step::step_into;
+use crate::summing::write_summary;
 use cx_base::{Cluster, Event, NoMemory, Status};
 use cx_edge::{Lines, Next, Sink, Source, write_all};
 use cx_script::{MAX_LINE_LENGTH, MAX_LINES, line, spelled_events_are_taken};
@@ -86,15 +87,10 @@ fn run_line<W: Sink>(
 fn sum<W: Sink>(alloc: Global, world: &World, out: &mut W) -> Status
     ensures { Sums world.now.world (W.taken out.old) (W.taken out.new) (W.faults out.old) (W.faults out.new) result }
 {
-    let mut text = Vec::new(alloc);
-    match end_into(alloc, world, &mut text) {
-        Ok(()) => {}
-        Err(NoMemory) => return Status::NoMemory,
+    match write_summary(alloc, world, out) {
+        Ok(()) => Status::Done,
+        Err(status) => status,
     }
-    if !write_all(out, &text) {
-        return Status::WriteFault;
-    }
-    Status::Done
 }
 
 /// Writes the summary of a run without events.

@@ -2,11 +2,11 @@
 
 ghost use Rattle.std.specs.Prelude.{◌≡◌, ◌++◌, OnOk, decimal};
 ghost use Rattle.cx_replay.specs.Generated.{count_line, counts_text, short_summary};
-ghost use Rattle.cx_trace.specs.Summary.{replica_text, replicas_text};
+ghost use Rattle.cx_trace.specs.Summary.{replicas_text};
 
 use crate::step::folds;
 use cx_base::NoMemory;
-use cx_trace::Folded;
+use cx_trace::{Folded, replica_into};
 use cx_world::World;
 use itoa::Buffer;
 use std::alloc::Global;
@@ -47,23 +47,11 @@ fn put_counts(text: &mut Vec<u8>, world: &World) -> Result<(), NoMemory>
     put_count(text, b"kept", counts.kept)
 }
 
-#[tactic(auto, unfolding(cx_trace::specs::Summary::replica_text))]
-fn put_replica(text: &mut Vec<u8>, place: u64, folded: &Folded) -> Result<(), NoMemory>
-    ensures { OnOk result (text.new.items ≡ text.old.items ++ replica_text place folded.now) }
-{
-    put(text, b"replica:")?;
-    put_number(text, place)?;
-    put(text, b" held ")?;
-    put_number(text, folded.held)?;
-    folded.store.print_into(text)?;
-    put(text, b"\n")
-}
-
 fn put_replicas(text: &mut Vec<u8>, replicas: &[Folded]) -> Result<(), NoMemory>
     ensures { OnOk result (text.new.items ≡ text.old.items ++ replicas_text 0 replicas.now) }
 {
     for (place, folded) in replicas.iter().enumerate() {
-        put_replica(text, place as u64, folded)?;
+        replica_into(place as u64, folded, text)?;
     }
     Ok(())
 }
@@ -76,6 +64,6 @@ pub fn short_into(alloc: Global, world: &World, text: &mut Vec<u8>) -> Result<()
     let chosen = world.chosen_prefix()?;
     let folds = folds(alloc, world)?;
     put_counts(text, world)?;
-    put_count(text, b"chosen", chosen.as_slice().len() as u64)?;
+    put_count(text, b"chosen", chosen.len())?;
     put_replicas(text, &folds)
 }

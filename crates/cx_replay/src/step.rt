@@ -1,14 +1,14 @@
-//! One event with its text, and the summary at the end.
+//! One event with its text, and what replicas hold at the end.
 
 ghost use Rattle.std.specs.Prelude.{◌≡◌, ◌++◌, false, OnOk, IfOk, IsTrue, map};
 ghost use Rattle.cx_base.specs.Asked.{takes_event};
 ghost use Rattle.cx_base.specs.Lists.{below};
 ghost use Rattle.cx_model.specs.World.{step};
-ghost use Rattle.cx_replay.specs.Replay.{step_text, summary};
+ghost use Rattle.cx_replay.specs.Replay.{step_text};
 ghost use Rattle.cx_world.specs.Folded.{folded_of};
 
 use cx_base::{Event, NoMemory};
-use cx_trace::{Folded, datagrams_into, event_into, summary_into};
+use cx_trace::{Folded, datagrams_into, event_into};
 use cx_world::World;
 use std::alloc::Global;
 
@@ -41,13 +41,4 @@ pub fn folds(alloc: Global, world: &World) -> Result<Vec<Folded>, NoMemory>
         folds.push(world.folded(replica)?)?;
     }
     Ok(folds)
-}
-
-/// Puts the summary at the end of a text.
-pub fn end_into(alloc: Global, world: &World, text: &mut Vec<u8>) -> Result<(), NoMemory>
-    ensures { OnOk result (text.new.items ≡ text.old.items ++ summary world.now.world) }
-{
-    let chosen = world.chosen_prefix()?;
-    let folds = folds(alloc, world)?;
-    summary_into(alloc, chosen.as_slice(), &folds, text)
 }

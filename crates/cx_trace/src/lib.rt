@@ -26,7 +26,7 @@ mod tests {
     use cx_msg::decode;
     use std::test::Fail;
 
-    // Lines of a run with one role of each kind, in which one command is chosen.
+    // Lines of a run with one role of each kind.
     #[test]
     fn prints(rt: HostRuntime) -> Result<(), Fail> {
         let alloc = rt.alloc();
@@ -70,8 +70,14 @@ mod tests {
             text.as_slice(),
             b"+11 unbatcher:0 client:0 Answer 0000000000000001000000000000000100\nanswer client:0 1 at 1 ok\n".as_slice()
         );
+        Ok(())
+    }
 
-        text.clear();
+    // The summary of a run in which one command is chosen twice, around a no-op.
+    #[test]
+    fn sums_up(rt: HostRuntime) -> Result<(), Fail> {
+        let alloc = rt.alloc();
+        let mut text = Vec::new(alloc);
         let command = Command {
             client: 0,
             seq: 1,

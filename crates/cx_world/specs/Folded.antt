@@ -1,10 +1,29 @@
 -- What a replica's kept values leave.
-use Rattle.std.specs.Prelude.{ℕ, List, length}
+use Rattle.std.specs.Prelude.{ℕ, List, [], ◌∷◌, ◌++◌, if◌then◌else◌, length}
 use Rattle.cx_base.specs.Fold.{fold}
+use Rattle.cx_base.specs.Role.{same_role}
+use Rattle.cx_base.specs.declared.command.Value.{Value}
+use Rattle.cx_base.specs.declared.role.RoleId.{RoleId}
 use Rattle.cx_model.specs.World.{log_of}
+use Rattle.cx_msg.specs.declared.kept.Record.{Record}
+use Rattle.cx_msg.specs.declared.kept.Record.TheVariants as kept
 use Rattle.cx_msg.specs.declared.input.KeptRecord.{KeptRecord}
 use Rattle.cx_trace.specs.declared.summary.Folded.{Folded}
 
 -- how many values it kept, and the fold of their commands
 abbrev pub folded_of : ℕ → List KeptRecord → Folded
 folded_of p kept = record { held = length (log_of p kept); store = fold (log_of p kept) }
+
+-- the values of a replica's record
+abbrev pub values_in : Record → List Value
+values_in (kept.Log values) = values
+values_in other = []
+
+-- the values of a record, where this role kept it
+abbrev pub values_by : RoleId → KeptRecord → List Value
+values_by me k = if same_role me k.role then values_in k.what else []
+
+-- the values of all records that this role kept, in order
+abbrev pub values_kept : RoleId → List KeptRecord → List Value
+values_kept me [] = []
+values_kept me (k ∷ ks) = values_by me k ++ values_kept me ks

@@ -1,5 +1,5 @@
--- The records on which a choice rests, apart: the rounds, and the votes of each slot.
-use Rattle.std.specs.Prelude.{ℕ, Bool, true, false, ◌==◌, ◌≡◌, ◌≤◌, ◌<◌, ◌++◌, List, [], ◌∷◌, filter, length, get_or}
+-- The records on which a choice rests, apart: the rounds, and the votes of a slot.
+use Rattle.std.specs.Prelude.{ℕ, Bool, true, false, ◌==◌, List, filter}
 use Rattle.cx_msg.specs.declared.kept.Record.{Record}
 use Rattle.cx_msg.specs.declared.kept.Record.TheVariants as kept
 use Rattle.cx_msg.specs.declared.input.KeptRecord.{KeptRecord}
@@ -19,11 +19,3 @@ rounds_of history = filter (λ (k : KeptRecord). is_round k.what) history
 -- the votes that were kept in a slot, in order
 abbrev pub votes_of : ℕ → List KeptRecord → List KeptRecord
 votes_of s history = filter (λ (k : KeptRecord). is_vote_in s k.what) history
-
--- a list for each slot has a record at its end where that is a vote in the slot, and else stays
-abbrev pub Adds : List (List KeptRecord) → List (List KeptRecord) → KeptRecord → Type 0
-Adds old new k = (s : ℕ) → s < length old → get_or new s [] ≡ get_or old s [] ++ votes_of s (k ∷ [])
-
--- the lists have the votes of their slots, from this slot on
-abbrev pub HaveVotes : List (List KeptRecord) → List KeptRecord → ℕ → Type 0
-HaveVotes lists history from = (s : ℕ) → from ≤ s → s < length lists → get_or lists s [] ≡ votes_of s history

@@ -1,62 +1,73 @@
 //! What a replica's kept values leave in the map.
 
-ghost use Rattle.std.specs.Prelude.{◌≡◌, ◌∷◌, [], IfOk, OnOk};
-ghost use Rattle.cx_model.specs.Replica.{replica_after, replica_rules};
-ghost use Rattle.cx_model.specs.Rules.{folded_from};
-ghost use Rattle.cx_model.specs.World.{log_of, records_of};
-ghost use Rattle.cx_world.specs.Folded.{folded_of};
+ghost use Rattle.std.specs.Prelude.{◌≡◌, ◌+◌, ◌++◌, IfOk, OnOk, length};
+ghost use Rattle.cx_base.specs.Fold.{command_list, map_behind};
+ghost use Rattle.cx_world.specs.Folded.{folded_of, values_by, values_in};
 
-use cx_base::{Kind, NoMemory, RoleId, Value, copy_all};
+use cx_base::{Kind, NoMemory, RoleId, Value};
 use cx_history::Kept;
-use cx_kv::fold;
+use cx_kv::{Executed, Store, execute};
 use cx_msg::{KeptRecord, Record};
 use cx_trace::Folded;
 use std::alloc::Global;
 
-/// The values that a replica kept, in order.
-pub fn log(alloc: Global, kept: &Kept, replica: u16) -> Result<Vec<Value>, NoMemory>
-    ensures { IfOk result (λ values. values.items ≡ log_of replica kept.now) }
+fn execute_all(before: &mut Executed, store: &mut Store, values: &[Value]) -> Result<(), NoMemory>
+    ensures store { OnOk result (store.new ≡ map_behind before.old store.old (command_list values.now)) }
+    ensures before { OnOk result (before.new ≡ before.old ++ command_list values.now) }
 {
-    let me = RoleId::new(Kind::Replica, replica);
-    let mut log = Vec::new(alloc);
-    for number in 0..kept.len() {
-        keep_of(alloc, me, &kept.at(number)?, &mut log)?;
+    for value in values {
+        execute(before, store, value)?;
     }
-    Ok(log)
+    Ok(())
 }
 
-fn keep(alloc: Global, what: &Record, log: &mut Vec<Value>) -> Result<(), NoMemory>
-    ensures { OnOk result (log.new.items ≡ (replica_after (record { log = log.old.items }) what.now).log) }
+// One value more for each of a record.
+fn execute_record(before: &mut Executed, folded: &mut Folded, what: &Record) -> Result<(), NoMemory>
+    ensures held { OnOk result (folded.new.held ≡ folded.old.held + length (values_in what.now)) }
+    ensures store { OnOk result (folded.new.store ≡ map_behind before.old folded.old.store (command_list (values_in what.now))) }
+    ensures before { OnOk result (before.new ≡ before.old ++ command_list (values_in what.now)) }
 {
     if let Record::Log { values } = what {
-        let mut more = copy_all(alloc, values.as_slice())?;
-        log.append(&mut more)?;
+        let values = values.as_slice();
+        let Some(held) = folded.held.checked_add(values.len() as u64) else {
+            return Err(NoMemory);
+        };
+        folded.held = held;
+        execute_all(before, &mut folded.store, values)?;
     }
     Ok(())
 }
 
-// Puts the values of a record behind the others, if a replica kept it.
-fn keep_of(
-    alloc: Global,
+// The values of a record, if this role kept it.
+fn execute_kept(
     me: RoleId,
+    before: &mut Executed,
+    folded: &mut Folded,
     one: &KeptRecord,
-    log: &mut Vec<Value>,
 ) -> Result<(), NoMemory>
-    ensures { OnOk result (log.new.items ≡ (folded_from replica_rules (record { log = log.old.items }) (records_of me (one.now ∷ []))).log) }
+    ensures held { OnOk result (folded.new.held ≡ folded.old.held + length (values_by me one.now)) }
+    ensures store { OnOk result (folded.new.store ≡ map_behind before.old folded.old.store (command_list (values_by me one.now))) }
+    ensures before { OnOk result (before.new ≡ before.old ++ command_list (values_by me one.now)) }
 {
     if me.is(one.role) {
-        keep(alloc, &one.what, log)?;
+        execute_record(before, folded, &one.what)?;
     }
     Ok(())
 }
 
-/// How many values a replica kept, and the map that they leave.
+/// How many values a replica kept, and the map that they leave. Each record is read by itself, and its values are executed. Want
+/// of memory also where the count has more than eight bytes.
 pub fn folded(alloc: Global, kept: &Kept, replica: u16) -> Result<Folded, NoMemory>
     ensures { IfOk result (λ folded. folded ≡ folded_of replica kept.now) }
 {
-    let log = log(alloc, kept, replica)?;
-    Ok(Folded {
-        held: log.len() as u64,
-        store: fold(alloc, &log)?,
-    })
+    let me = RoleId::new(Kind::Replica, replica);
+    let mut before = Executed::new(alloc);
+    let mut folded = Folded {
+        held: 0,
+        store: Store::new(alloc)?,
+    };
+    for number in 0..kept.len() {
+        execute_kept(me, &mut before, &mut folded, &kept.at(number)?)?;
+    }
+    Ok(folded)
 }

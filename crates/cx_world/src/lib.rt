@@ -5,15 +5,18 @@
 //! the run of its events, and that run is lawful: agreement, one command list, fresh reads, safe retirement (`World::law`).
 #![tactic(auto)]
 
+mod chains;
 mod change;
-mod chosen;
+mod choice;
 mod counts;
 mod folded;
 mod last_keeper;
+mod prefix;
 mod seat;
 mod sorted;
 mod turned;
 mod world;
 
 pub use counts::Counts;
+pub use prefix::Chosen;
 pub use world::World;

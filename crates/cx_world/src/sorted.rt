@@ -1,7 +1,7 @@
-//! The records on which a choice rests, apart: the rounds, and the votes of each slot.
+//! The rounds that were kept, apart.
 
-ghost use Rattle.std.specs.Prelude.{◌≡◌, ◌++◌, ◌∷◌, ℕ, [], IfOk, OnOk, get_or, length, map};
-ghost use Rattle.cx_world.specs.Sorted.{Adds, HaveVotes, rounds_of};
+ghost use Rattle.std.specs.Prelude.{◌≡◌, ◌++◌, ◌∷◌, [], IfOk, OnOk};
+ghost use Rattle.cx_world.specs.Sorted.{rounds_of};
 
 use cx_base::NoMemory;
 use cx_history::Kept;
@@ -27,41 +27,4 @@ pub fn rounds(alloc: Global, kept: &Kept) -> Result<Vec<KeptRecord>, NoMemory>
         add_round(&mut rounds, kept.at(number)?)?;
     }
     Ok(rounds)
-}
-
-// So many lists with nothing in them.
-fn no_votes(alloc: Global, count: usize) -> Result<Vec<Vec<KeptRecord>>, NoMemory>
-    ensures count { IfOk result (λ votes. length votes.items ≡ count) }
-    ensures empty { IfOk result (λ votes. (s : ℕ) → get_or (map (λ list. list.items) votes.items) s [] ≡ []) }
-{
-    let mut votes = Vec::with_capacity(alloc, count)?;
-    for _ in 0..count {
-        votes.push(Vec::new(alloc))?;
-    }
-    Ok(votes)
-}
-
-// Puts a vote behind the earlier ones in its slot.
-fn add(votes: &mut Vec<Vec<KeptRecord>>, one: KeptRecord) -> Result<(), NoMemory>
-    ensures adds { OnOk result (Adds (map (λ list. list.items) votes.old.items) (map (λ list. list.items) votes.new.items) one) }
-    ensures count { length votes.new.items ≡ length votes.old.items }
-{
-    if let Record::Vote { slot, .. } = one.what {
-        if slot < votes.len() as u64 {
-            votes[slot as usize].push(one)?;
-        }
-    }
-    Ok(())
-}
-
-/// The votes of each slot in order, for as many slots as records were kept.
-pub fn votes_by_slot(alloc: Global, kept: &Kept) -> Result<Vec<Vec<KeptRecord>>, NoMemory>
-    ensures count { IfOk result (λ votes. length votes.items ≡ length kept.now) }
-    ensures votes { IfOk result (λ votes. HaveVotes (map (λ list. list.items) votes.items) kept.now 0) }
-{
-    let mut votes = no_votes(alloc, kept.len())?;
-    for number in 0..kept.len() {
-        add(&mut votes, kept.at(number)?)?;
-    }
-    Ok(votes)
 }

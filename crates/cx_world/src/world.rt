@@ -13,12 +13,13 @@ ghost use Rattle.cx_keeper.specs.Keeper.{all_fit};
 ghost use Rattle.cx_world.specs.World.{BeginWith, effect_of};
 
 use crate::change::{Seats, change};
-use crate::chosen::chosen_prefix;
+use crate::choice::chosen_prefix;
 use crate::counts::{Counts, count};
 use crate::folded::folded;
+use crate::prefix::Chosen;
 use crate::seat::open_all;
 use crate::turned::Changed;
-use cx_base::{Cluster, Event, Happened, Kind, NoMemory, Values, Why};
+use cx_base::{Cluster, Event, Happened, Kind, NoMemory, Why};
 use cx_history::{Events, Kept, Sent};
 use cx_msg::{Datagram, KeptRecord};
 use cx_role::Outbox;
@@ -191,7 +192,7 @@ impl World {
 
     /// The values chosen in slot 0, 1 and so on, up to the first slot without one; from the kept votes and rounds alone. In a world
     /// that isn't spent it is the one command list.
-    pub fn chosen_prefix(&self) -> Result<Values, NoMemory>
+    pub fn chosen_prefix(&self) -> Result<Chosen<'_>, NoMemory>
         ensures prefix { IfOk result (λ values. values ≡ chosen_prefix self.now.world.kept) }
         ensures agreed { self.now.spent ≡ false → IfOk result (λ values. IsCommandList self.now.world.cluster self.now.world.kept values) }
     {
