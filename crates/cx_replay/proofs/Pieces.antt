@@ -42,9 +42,10 @@ module _ (text : List ℕ) (old now next : Option (List ℕ)) (writes writes_now
   -- or a part of it
   pub writing_stops : (piece rest : List ℕ) (s : Status) → Writing text (piece ++ rest) old now writes writes_now → WritesText piece now next writes_now writes_next (Err s)
       → WritesText text old next writes writes_next (Err s)
-  writing_stops piece rest s w p =
-      (subst (AppendsPart old next) w.whole (then_part old now next w.done (piece ++ rest) w.written (part_of_more now next piece rest p.0)),
-      subst (λ k. StopsWriting k writes_next s) w.still p.1)
+  writing_stops piece rest s w p = (
+    subst (AppendsPart old next) w.whole (then_part old now next w.done (piece ++ rest) w.written (part_of_more now next piece rest p.0)),
+    subst (λ k. StopsWriting k writes_next s) w.still p.1,
+  )
 
   -- the last piece
   pub writing_last : (piece : List ℕ) (result : Result (Unit {0}) Status) → Writing text piece old now writes writes_now → WritesText piece now next writes_now writes_next result

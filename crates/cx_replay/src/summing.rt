@@ -17,11 +17,7 @@ use cx_world::{Chosen, World};
 use std::alloc::Global;
 
 // Writes the lines that were put into a text, where there was memory for them.
-fn write_put<W: Sink>(
-    put: Result<(), NoMemory>,
-    text: &[u8],
-    out: &mut W,
-) -> Result<(), Status>
+fn write_put<W: Sink>(put: Result<(), NoMemory>, text: &[u8], out: &mut W) -> Result<(), Status>
     ensures written { (lines : List ℕ) → OnOk put (text.now ≡ lines) → WritesText lines (W.taken out.old) (W.taken out.new) (W.faults out.old) (W.faults out.new) result }
     ensures put { OnOk result (IsOk put) }
 {
