@@ -7,6 +7,8 @@
 
 mod ending;
 #[cfg(test)]
+mod request_tests;
+#[cfg(test)]
 mod tests;
 mod whole;
 #[cfg(test)]
