@@ -10,7 +10,7 @@ use crate::memory::NoMemory;
 use std::alloc::Global;
 use std::marker::Model;
 
-/// Commands in their order. Beside them stand their clients' greatest numbers: a command with a greater one acts, and no other
+/// Commands in their order. Beside them stand their clients' greatest numbers and floors: a command with a greater number acts, and no other
 /// command has to be looked at.
 #[derive(Debug, Drop)]
 pub struct CommandList {
@@ -63,7 +63,8 @@ impl CommandList {
         ensures err { OnErr result (self.new ≡ self.old) }
     {
         push_copy(&mut self.commands, command)?;
-        self.greatest.raise(command.client, command.seq);
+        self.greatest
+            .raise(command.client, command.seq.max(command.floor));
         Ok(())
     }
 }

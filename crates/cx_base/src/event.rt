@@ -44,6 +44,7 @@ pub enum Event {
     Read {
         client: u16,
         seq: u64,
+        floor: u64,
         reader: u16,
         replica: u16,
         key: Key,

@@ -23,7 +23,7 @@ mod status;
 mod why;
 
 pub use cluster::Cluster;
-pub use command::{Answered, Command, Commands, Op, Pair, Placed, Reply, Value, Values};
+pub use command::{Answered, Command, Commands, Floor, Op, Pair, Placed, Reply, Value, Values};
 pub use command_list::CommandList;
 pub use event::{Cut, Event, Happened, Order};
 pub use faults::Faults;

@@ -25,7 +25,7 @@ pub fn same_op(a: &Op, b: &Op) -> bool
 pub fn same_command(a: &Command, b: &Command) -> bool
     ensures { result ≡ same_command a.now b.now }
 {
-    a.client == b.client && a.seq == b.seq && same_op(&a.op, &b.op)
+    a.client == b.client && a.seq == b.seq && a.floor == b.floor && same_op(&a.op, &b.op)
 }
 
 fn same_commands(a: &[Command], b: &[Command]) -> bool

@@ -1,21 +1,25 @@
 -- Each field is read as it is spelled.
-use Rattle.std.proofs.Common.{◌≡◌, ℕ, zero, suc, ◌<◌, true, ◌&&◌, not, cond, List, [], ◌∷◌, ◌++◌, length, Ok, Err, Bool, Option, Some, None, refl, sym, ap, subst, ◌∙◌, lit<}
+use Rattle.std.proofs.Common.{◌≡◌, ◌⊎◌, ◌+◌, ◌-◌, inl, inr, arith, false, ℕ, zero, suc, ◌<◌, true, ◌&&◌, not, cond, List, [], ◌∷◌, ◌++◌, length, Ok, Err, Bool, Option, Some, None, refl, sym, ap, subst, ◌∙◌, lit<}
 use Rattle.std.specs.Prelude.{nat_le, nat_lt, ◌^◌, ◌*◌, ◌||◌, ◌==◌}
+use Rattle.std.proofs.lemmas.Bool.{cases_Bool, eqb-true, not-true}
+use Rattle.std.proofs.lemmas.Bool.Decides.{nat_tests}
+use Rattle.cx_base.specs.Asked.{floor_fits}
 use Rattle.cx_base.specs.Name.{is_name_byte}
 use Rattle.cx_base.specs.Grid.{Shape as GridShape, make_grid, is_in, are_new}
 use Rattle.cx_base.specs.Round.{is_before}
 use Rattle.cx_base.specs.declared.round.Round.{Round}
 use Rattle.cx_base.specs.declared.command.Op.{Op}
 use Rattle.cx_base.specs.declared.command.Op.TheVariants.{Put, Del, App}
+use Rattle.cx_base.specs.declared.command.Command.{Command}
 use Rattle.cx_base.specs.declared.command.Value.{Value}
 use Rattle.cx_base.specs.declared.command.Value.TheVariants.{Noop, Batch}
 use Rattle.cx_base.specs.declared.command.Reply.{Reply}
 use Rattle.cx_base.specs.declared.command.Reply.TheVariants.{Okay, Was, Absent, Len, Full}
 use Rattle.cx_wire.specs.Format.{bad, ◌>>=◌, u8, u16, u32, u64, only, whole, then_by, ◌▷◌, nothing, each_read, times}
-use Rattle.cx_wire.proofs.Laws.{IsExact, bind_ok, guard_ok, ok_is, u8-exact, u16-exact, u32-exact, u64-exact, only-exact, whole-exact, then_by-exact, ▷-exact, nothing-exact, shaped-exact, times-exact, counted-exact, case-sound, case-again, tagged-exact, ReadsAgain}
+use Rattle.cx_wire.proofs.Laws.{IsExact, bind_ok, guard_ok, ok_is, u8-exact, u16-exact, u32-exact, u64-exact, only-exact, whole-exact, then_by-exact, ▷-exact, nothing-exact, shaped-exact, times-exact, counted-exact, case-sound, case-again, AllSound, tagged-exact, ReadsAgain, both}
 use Rattle.cx_field.specs.declared.parts.Entry.{Entry}
 use Rattle.cx_field.specs.declared.parts.Vote.{Vote}
-use Rattle.cx_field.specs.Fields.{slot, mark, at, seq, round_fields, round, round0, member, grid, name_byte, name, op_shape, op_cases, op, command, commands, value_shape, value_cases, value, reply_len, reply_shape, reply_cases, reply, values, last_passes, in_window, entry, entries, vote, votes, answered, answers, found_shape, found_cases, found, reason, token}
+use Rattle.cx_field.specs.Fields.{slot, mark, at, seq, round_fields, round, round0, member, grid, name_byte, name, allowed, floor_below, told_shape, floor_cases, told_cases, told_op, told_floor, meant_floor, make_command, command_parts, command_with, command, commands_with, commands, value_shape, value_cases, value_with, value, reply_len, reply_shape, reply_cases, reply, values, last_passes, in_window, entry, entries, vote_with, votes_with, votes, answered, answers, found_shape, found_cases, found, reason, token}
 
 pub slot-exact : IsExact slot
 unfolding slot
@@ -82,48 +86,137 @@ name-exact limit = counted-exact (only (λ n. nat_le 1 n && nat_le n limit) u8) 
 key_text-exact : IsExact (name 32 ▷ name 64)
 key_text-exact = ▷-exact (name 32) (name 64) (name-exact 32) (name-exact 64)
 
-op-small : (x : Op) → (op_shape x).tag < 256
-op-small (Put key text) = lit< tt
-op-small (Del key) = lit< tt
-op-small (App key text) = lit< tt
+floor_below-exact : (number : ℕ) → IsExact (floor_below number)
+unfolding floor_below
+floor_below-exact number = only-exact (λ n. floor_fits number n && not (n + 1 == number)) u64 u64-exact
 
-op-again : (x : Op) → ReadsAgain op_shape op_cases x
-op-again (Put key text) left rest fits = case-again {A = Op} 1 (name 32 ▷ name 64) (λ x. Put x.0 x.1) (key, text) rest key_text-exact fits
-op-again (Del key) left rest fits = case-again {A = Op} 2 (name 32) (λ x. Del x) key rest (name-exact 32) fits
-op-again (App key text) left rest fits = case-again {A = Op} 3 (name 32 ▷ name 64) (λ x. App x.0 x.1) (key, text) rest key_text-exact fits
+floor_key_text-exact : (number : ℕ) → IsExact (floor_below number ▷ (name 32 ▷ name 64))
+floor_key_text-exact number = ▷-exact (floor_below number) (name 32 ▷ name 64) (floor_below-exact number) key_text-exact
 
-pub op-exact : IsExact op
-unfolding op
-op-exact = tagged-exact op_shape op_cases (
-  case-sound op_shape 1 (name 32 ▷ name 64) (λ x. Put x.0 x.1) key_text-exact (λ _. refl),
+floor_key-exact : (number : ℕ) → IsExact (floor_below number ▷ name 32)
+floor_key-exact number = ▷-exact (floor_below number) (name 32) (floor_below-exact number) (name-exact 32)
+
+told-small : (floors : Bool) (number : ℕ) (x : Option ℕ × Op) → (told_shape floors number x).tag < 256
+told-small floors number (None, Put key text) = lit< tt
+told-small floors number (None, Del key) = lit< tt
+told-small floors number (None, App key text) = lit< tt
+told-small floors number (Some floor, Put key text) = lit< tt
+told-small floors number (Some floor, Del key) = lit< tt
+told-small floors number (Some floor, App key text) = lit< tt
+
+told-again : (floors : Bool) (number : ℕ) (x : Option ℕ × Op) → ReadsAgain (told_shape floors number) (told_cases floors number) x
+told-again floors number (None, Put key text) left rest fits = case-again {A = Option ℕ × Op} 1 (name 32 ▷ name 64) (λ x. (None, Put x.0 x.1)) (key, text) rest key_text-exact fits
+told-again floors number (None, Del key) left rest fits = case-again {A = Option ℕ × Op} 2 (name 32) (λ x. (None, Del x)) key rest (name-exact 32) fits
+told-again floors number (None, App key text) left rest fits = case-again {A = Option ℕ × Op} 3 (name 32 ▷ name 64) (λ x. (None, App x.0 x.1)) (key, text) rest key_text-exact fits
+told-again true number (Some floor, Put key text) left rest fits =
+    case-again {A = Option ℕ × Op} 4 (floor_below number ▷ (name 32 ▷ name 64)) (λ x. (Some x.0, Put x.1.0 x.1.1)) (floor, (key, text)) rest (floor_key_text-exact number) fits
+told-again true number (Some floor, Del key) left rest fits =
+    case-again {A = Option ℕ × Op} 5 (floor_below number ▷ name 32) (λ x. (Some x.0, Del x.1)) (floor, key) rest (floor_key-exact number) fits
+told-again true number (Some floor, App key text) left rest fits =
+    case-again {A = Option ℕ × Op} 6 (floor_below number ▷ (name 32 ▷ name 64)) (λ x. (Some x.0, App x.1.0 x.1.1)) (floor, (key, text)) rest (floor_key_text-exact number) fits
+told-again false number (Some floor, Put key text) left rest fits = absurd cc
+told-again false number (Some floor, Del key) left rest fits = absurd cc
+told-again false number (Some floor, App key text) left rest fits = absurd cc
+
+floors-sound : (floors : Bool) (number : ℕ) → AllSound (told_shape floors number) (floor_cases floors number)
+floors-sound false number = tt
+floors-sound true number = (
+  case-sound (told_shape true number) 4 (floor_below number ▷ (name 32 ▷ name 64)) (λ x. (Some x.0, Put x.1.0 x.1.1)) (floor_key_text-exact number) (λ _. refl),
   (
-    case-sound op_shape 2 (name 32) (λ x. Del x) (name-exact 32) (λ _. refl),
-    (case-sound op_shape 3 (name 32 ▷ name 64) (λ x. App x.0 x.1) key_text-exact (λ _. refl), tt),
+    case-sound (told_shape true number) 5 (floor_below number ▷ name 32) (λ x. (Some x.0, Del x.1)) (floor_key-exact number) (λ _. refl),
+    (case-sound (told_shape true number) 6 (floor_below number ▷ (name 32 ▷ name 64)) (λ x. (Some x.0, App x.1.0 x.1.1)) (floor_key_text-exact number) (λ _. refl), tt),
   ),
-) op-small op-again
+)
+
+pub told_op-exact : (floors : Bool) (number : ℕ) → IsExact (told_op floors number)
+unfolding told_op
+told_op-exact floors number = tagged-exact (told_shape floors number) (told_cases floors number) (
+  case-sound (told_shape floors number) 1 (name 32 ▷ name 64) (λ x. (None, Put x.0 x.1)) key_text-exact (λ _. refl),
+  (
+    case-sound (told_shape floors number) 2 (name 32) (λ x. (None, Del x)) (name-exact 32) (λ _. refl),
+    (case-sound (told_shape floors number) 3 (name 32 ▷ name 64) (λ x. (None, App x.0 x.1)) key_text-exact (λ _. refl), floors-sound floors number),
+  ),
+) (told-small floors number) (told-again floors number)
+
+-- a floor that is told is another one than the number just below
+
+back_floor : (number floor : ℕ) → meant_floor number (told_floor number floor) ≡ floor
+back_floor number floor = go (cases_Bool (floor + 1 == number))
+  where
+    go : ((floor + 1 == number) ≡ true) ⊎ ((floor + 1 == number) ≡ false) → meant_floor number (told_floor number floor) ≡ floor
+    go (inl e) = let q = eqb-true (floor + 1) number e in let r : number - 1 ≡ floor = omega arith in rw e r
+    go (inr e) = rw e refl
+
+apart : (number floor : ℕ) → (floor_below number).fits floor ≡ true → told_floor number floor ≡ Some floor
+unfolding floor_below
+apart number floor fits =
+    let test = both (u64.fits floor) (floor_fits number floor && not (floor + 1 == number)) fits in
+    let other = both (floor_fits number floor) (not (floor + 1 == number)) test.1 in
+    let e : (floor + 1 == number) ≡ false = not-true (floor + 1 == number) other.1 in
+    rw e refl
+
+told_again : (floors : Bool) (number : ℕ) (x : Option ℕ × Op) → nat_le 1 number ≡ true → (told_shape floors number x).fits ≡ true → told_floor number (meant_floor number x.0) ≡ x.0
+told_again floors number (None, op) some fits = let e : (number - 1 + 1 == number) ≡ true = grind (arith, nat_tests, some) in rw e refl
+told_again true number (Some floor, Put key text) some fits = apart number floor (both ((floor_below number).fits floor) ((name 32 ▷ name 64).fits (key, text)) fits).0
+told_again true number (Some floor, Del key) some fits = apart number floor (both ((floor_below number).fits floor) ((name 32).fits key) fits).0
+told_again true number (Some floor, App key text) some fits = apart number floor (both ((floor_below number).fits floor) ((name 32 ▷ name 64).fits (key, text)) fits).0
+told_again false number (Some floor, Put key text) some fits = absurd cc
+told_again false number (Some floor, Del key) some fits = absurd cc
+told_again false number (Some floor, App key text) some fits = absurd cc
+
+-- the parts of a command that was made of them
+
+parts_again : (floors : Bool) (x : ℕ × (ℕ × (Option ℕ × Op))) → (u16 ▷ then_by seq (told_op floors)).fits x ≡ true → command_parts (make_command x) ≡ x
+unfolding seq told_op
+parts_again floors x fits =
+    let rest = both (u16.fits x.0) ((then_by seq (told_op floors)).fits x.1) fits in
+    let told = both (seq.fits x.1.0) ((told_op floors x.1.0).fits x.1.1) rest.1 in
+    let some = both (u64.fits x.1.0) (nat_le 1 x.1.0) told.0 in
+    let pack : Option ℕ → ℕ × (ℕ × (Option ℕ × Op)) = λ o. (x.0, (x.1.0, (o, x.1.1.1))) in
+    ap pack (told_again floors x.1.0 x.1.1 some.1 told.1)
+
+made_again : (c : Command) → make_command (command_parts c) ≡ c
+made_again c =
+    let pack : ℕ → Command = λ n. record { client = c.client; seq = c.seq; floor = n; op = c.op } in
+    ap pack (back_floor c.seq c.floor)
+
+pub command_with-exact : (floors : Bool) → IsExact (command_with floors)
+unfolding command_with
+command_with-exact floors =
+    shaped-exact {A = ℕ × (ℕ × (Option ℕ × Op))} make_command command_parts (u16 ▷ then_by seq (told_op floors))
+    (▷-exact u16 (then_by seq (told_op floors)) u16-exact (then_by-exact seq (told_op floors) seq-exact (λ number _. told_op-exact floors number)))
+    (λ x fits. parts_again floors x fits) made_again
 
 pub command-exact : IsExact command
 unfolding command
-command-exact = shaped-exact {A = ℕ × (ℕ × Op)} (λ x. record { client = x.0; seq = x.1.0; op = x.1.1 }) (λ c. (c.client, (c.seq, c.op))) (u16 ▷ (seq ▷ op)) (▷-exact u16 (seq ▷ op) u16-exact (▷-exact seq op seq-exact op-exact)) (λ x _. refl) (λ c. refl)
+command-exact = command_with-exact true
+
+pub commands_with-exact : (floors : Bool) → IsExact (commands_with floors)
+unfolding commands_with
+commands_with-exact floors = counted-exact (only (λ n. nat_le 1 n && nat_le n 8) u8) (λ _. command_with floors) (only-exact (λ n. nat_le 1 n && nat_le n 8) u8 u8-exact) (λ _. command_with-exact floors)
 
 pub commands-exact : IsExact commands
 unfolding commands
-commands-exact = counted-exact (only (λ n. nat_le 1 n && nat_le n 8) u8) (λ _. command) (only-exact (λ n. nat_le 1 n && nat_le n 8) u8 u8-exact) (λ _. command-exact)
+commands-exact = commands_with-exact true
 
-value-small : (x : Value) → (value_shape x).tag < 256
-value-small Noop = lit< tt
-value-small (Batch list) = lit< tt
+value-small : (floors : Bool) (x : Value) → (value_shape floors x).tag < 256
+value-small floors Noop = lit< tt
+value-small floors (Batch list) = lit< tt
 
-value-again : (x : Value) → ReadsAgain value_shape value_cases x
-value-again Noop left rest fits = refl
-value-again (Batch list) left rest fits = case-again {A = Value} 1 commands (λ x. Batch x) list rest commands-exact fits
+value-again : (floors : Bool) (x : Value) → ReadsAgain (value_shape floors) (value_cases floors) x
+value-again floors Noop left rest fits = refl
+value-again floors (Batch list) left rest fits = case-again {A = Value} 1 (commands_with floors) (λ x. Batch x) list rest (commands_with-exact floors) fits
+
+pub value_with-exact : (floors : Bool) → IsExact (value_with floors)
+unfolding value_with
+value_with-exact floors = tagged-exact (value_shape floors) (value_cases floors) (
+  case-sound (value_shape floors) 0 nothing (λ _. Noop) nothing-exact (λ _. refl),
+  (case-sound (value_shape floors) 1 (commands_with floors) (λ x. Batch x) (commands_with-exact floors) (λ _. refl), tt),
+) (value-small floors) (value-again floors)
 
 pub value-exact : IsExact value
 unfolding value
-value-exact = tagged-exact value_shape value_cases (
-  case-sound value_shape 0 nothing (λ _. Noop) nothing-exact (λ _. refl),
-  (case-sound value_shape 1 commands (λ x. Batch x) commands-exact (λ _. refl), tt),
-) value-small value-again
+value-exact = value_with-exact true
 
 reply_len-exact : IsExact reply_len
 unfolding reply_len
@@ -174,16 +267,20 @@ pub entries-exact : IsExact entries
 unfolding entries
 entries-exact = counted-exact (only (λ n. nat_le n 17) u8) entry (only-exact (λ n. nat_le n 17) u8 u8-exact) entry-exact
 
-vote-exact : (cw : ℕ) (before : List Vote) → IsExact (vote cw before)
-unfolding vote
-vote-exact cw before =
+vote_with-exact : (floors : Bool) (cw : ℕ) (before : List Vote) → IsExact (vote_with floors cw before)
+unfolding vote_with
+vote_with-exact floors cw before =
     let rises : ℕ → Bool = λ s. in_window cw s && last_passes (λ (v : Vote). nat_lt v.slot s) before in
-    shaped-exact {A = Round × (ℕ × Value)} (λ x. record { round = x.0; slot = x.1.0; value = x.1.1 }) (λ v. (v.round, (v.slot, v.value))) (round ▷ (only rises slot ▷ value))
-    (▷-exact round (only rises slot ▷ value) round-exact (▷-exact (only rises slot) value (only-exact rises slot slot-exact) value-exact)) (λ x _. refl) (λ v. refl)
+    shaped-exact {A = Round × (ℕ × Value)} (λ x. record { round = x.0; slot = x.1.0; value = x.1.1 }) (λ v. (v.round, (v.slot, v.value))) (round ▷ (only rises slot ▷ value_with floors))
+    (▷-exact round (only rises slot ▷ value_with floors) round-exact (▷-exact (only rises slot) (value_with floors) (only-exact rises slot slot-exact) (value_with-exact floors))) (λ x _. refl) (λ v. refl)
+
+pub votes_with-exact : (floors : Bool) (cw : ℕ) → IsExact (votes_with floors cw)
+unfolding votes_with
+votes_with-exact floors cw = counted-exact (only (λ n. nat_le n 32) u8) (vote_with floors cw) (only-exact (λ n. nat_le n 32) u8 u8-exact) (vote_with-exact floors cw)
 
 pub votes-exact : (cw : ℕ) → IsExact (votes cw)
 unfolding votes
-votes-exact cw = counted-exact (only (λ n. nat_le n 32) u8) (vote cw) (only-exact (λ n. nat_le n 32) u8 u8-exact) (vote-exact cw)
+votes-exact cw = votes_with-exact true cw
 
 answered-exact : IsExact answered
 unfolding answered

@@ -1,5 +1,6 @@
 pub mod Exits
 pub mod FieldLaws
+pub mod Floors
 pub mod ListLaws
 pub mod NameBytes
 pub mod RangeLaws

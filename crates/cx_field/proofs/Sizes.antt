@@ -1,6 +1,7 @@
 -- How many bytes each field takes at most.
-use Rattle.std.proofs.Common.{◌≡◌, ℕ, ◌*◌, ◌≤◌, Bool, true, ◌&&◌, ◌||◌, not, List, length, Option, Some, None, arith, rules}
+use Rattle.std.proofs.Common.{◌≡◌, ℕ, ◌+◌, ◌*◌, ◌≤◌, Bool, true, ◌&&◌, ◌||◌, not, List, length, Option, Some, None, arith, rules}
 use Rattle.std.specs.Prelude.{nat_le, nat_lt, ◌^◌, ◌==◌}
+use Rattle.cx_base.specs.Asked.{floor_fits}
 use Rattle.cx_base.specs.Name.{is_name_byte}
 use Rattle.cx_base.specs.Round.{is_before}
 use Rattle.cx_base.specs.Grid.{Shape as GridShape, is_in, make_grid}
@@ -14,7 +15,7 @@ use Rattle.cx_base.specs.declared.command.Reply.TheVariants as replies
 use Rattle.cx_wire.specs.Format.{u8, u16, u32, u64, only, whole, then_by, ◌▷◌, times}
 use Rattle.cx_wire.proofs.Laws.{both}
 use Rattle.cx_wire.proofs.Sizes.{IsShort, u8-short, u16-short, u32-short, u64-short, weaker, only-short, whole-short, then_by-short, ▷-short, shaped-short, times-short, counted-short, tagged-short}
-use Rattle.cx_field.specs.Fields.{slot, mark, seq, at, round_fields, round, round0, member, grid, name_byte, name, op_shape, op_cases, op, command, commands, value_shape, value_cases, value, reply_len, reply_shape, reply_cases, reply, last_passes, in_window, entry, entries, vote, votes, answered, answers, found_shape, found_cases, found, reason, token}
+use Rattle.cx_field.specs.Fields.{slot, mark, seq, at, round_fields, round, round0, member, grid, name_byte, name, floor_below, told_shape, told_cases, told_op, make_command, command_parts, command_with, command, commands_with, commands, value_shape, value_cases, value_with, value, reply_len, reply_shape, reply_cases, reply, last_passes, in_window, entry, entries, vote_with, votes_with, votes, answered, answers, found_shape, found_cases, found, reason, token}
 use Rattle.cx_field.specs.declared.parts.Entry.{Entry}
 use Rattle.cx_field.specs.declared.parts.Vote.{Vote}
 
@@ -86,30 +87,45 @@ text-short = counted-short (only (λ n. nat_le 1 n && nat_le n 64) u8) (λ _. na
 key_text-short : IsShort (name 32 ▷ name 64) 98
 key_text-short = ▷-short (name 32) (name 64) 33 65 key-short text-short
 
-op-sizes : (x : Op) → (op_shape x).fits ≡ true → length (op_shape x).bytes ≤ 98
-op-sizes (Put key text) h = key_text-short.short (key, text) h
-op-sizes (Del key) h = omega (arith, key-short.short key h)
-op-sizes (App key text) h = key_text-short.short (key, text) h
+floor_below-short : (number : ℕ) → IsShort (floor_below number) 8
+unfolding floor_below
+floor_below-short number = only-short (λ n. floor_fits number n && not (n + 1 == number)) u64 8 u64-short
 
-op-short : IsShort op 99
-unfolding op
-op-short = tagged-short op_shape op_cases 98 op-sizes
+floor_key_text-short : (number : ℕ) → IsShort (floor_below number ▷ (name 32 ▷ name 64)) 106
+floor_key_text-short number = ▷-short (floor_below number) (name 32 ▷ name 64) 8 98 (floor_below-short number) key_text-short
 
-pub command-short : IsShort command 109
-unfolding command
-command-short = shaped-short {A = ℕ × (ℕ × Op)} (λ x. record { client = x.0; seq = x.1.0; op = x.1.1 }) (λ c. (c.client, (c.seq, c.op))) (u16 ▷ (seq ▷ op)) 109 (▷-short u16 (seq ▷ op) 2 107 u16-short (▷-short seq op 8 99 seq-short op-short))
+floor_key-short : (number : ℕ) → IsShort (floor_below number ▷ name 32) 41
+floor_key-short number = ▷-short (floor_below number) (name 32) 8 33 (floor_below-short number) key-short
 
-pub commands-short : IsShort commands 873
+told-sizes : (number : ℕ) (x : Option ℕ × Op) → (told_shape true number x).fits ≡ true → length (told_shape true number x).bytes ≤ 106
+told-sizes number (None, Put key text) h = omega (arith, key_text-short.short (key, text) h)
+told-sizes number (None, Del key) h = omega (arith, key-short.short key h)
+told-sizes number (None, App key text) h = omega (arith, key_text-short.short (key, text) h)
+told-sizes number (Some floor, Put key text) h = (floor_key_text-short number).short (floor, (key, text)) h
+told-sizes number (Some floor, Del key) h = omega (arith, (floor_key-short number).short (floor, key) h)
+told-sizes number (Some floor, App key text) h = (floor_key_text-short number).short (floor, (key, text)) h
+
+told_op-short : (number : ℕ) → IsShort (told_op true number) 107
+unfolding told_op
+told_op-short number = tagged-short (told_shape true number) (told_cases true number) 106 (told-sizes number)
+
+pub command-short : IsShort command 117
+unfolding command command_with
+command-short = shaped-short {A = ℕ × (ℕ × (Option ℕ × Op))} make_command command_parts (u16 ▷ then_by seq (told_op true)) 117
+    (▷-short u16 (then_by seq (told_op true)) 2 115 u16-short (then_by-short seq (told_op true) 8 107 seq-short (λ number _. told_op-short number)))
+
+pub commands-short : IsShort commands 937
+unfolding commands commands_with command
+commands-short = counted-short (only (λ n. nat_le 1 n && nat_le n 8) u8) (λ _. command_with true) 1 8 117 (only-short (λ n. nat_le 1 n && nat_le n 8) u8 1 u8-short) (λ n h. from_one n 8 h) (λ _. command-short)
+
+value-sizes : (x : Value) → (value_shape true x).fits ≡ true → length (value_shape true x).bytes ≤ 937
 unfolding commands
-commands-short = counted-short (only (λ n. nat_le 1 n && nat_le n 8) u8) (λ _. command) 1 8 109 (only-short (λ n. nat_le 1 n && nat_le n 8) u8 1 u8-short) (λ n h. from_one n 8 h) (λ _. command-short)
-
-value-sizes : (x : Value) → (value_shape x).fits ≡ true → length (value_shape x).bytes ≤ 873
 value-sizes values.Noop h = omega arith
 value-sizes (values.Batch list) h = commands-short.short list h
 
-pub value-short : IsShort value 874
-unfolding value
-value-short = tagged-short value_shape value_cases 873 value-sizes
+pub value-short : IsShort value 938
+unfolding value value_with
+value-short = tagged-short (value_shape true) (value_cases true) 937 value-sizes
 
 reply_len-short : IsShort reply_len 1
 unfolding reply_len
@@ -137,16 +153,16 @@ pub entries-short : IsShort entries 749
 unfolding entries
 entries-short = counted-short (only (λ n. nat_le n 17) u8) entry 1 17 44 (only-short (λ n. nat_le n 17) u8 1 u8-short) (λ n h. from_none n 17 h) entry-short
 
-vote-short : (cw : ℕ) (before : List Vote) → IsShort (vote cw before) 892
-unfolding vote
+vote-short : (cw : ℕ) (before : List Vote) → IsShort (vote_with true cw before) 956
+unfolding vote_with value
 vote-short cw before =
     let rises : ℕ → Bool = λ s. in_window cw s && last_passes (λ (v : Vote). nat_lt v.slot s) before in
-    shaped-short {A = Round × (ℕ × Value)} (λ x. record { round = x.0; slot = x.1.0; value = x.1.1 }) (λ v. (v.round, (v.slot, v.value))) (round ▷ (only rises slot ▷ value)) 892
-    (▷-short round (only rises slot ▷ value) 10 882 round-short (▷-short (only rises slot) value 8 874 (only-short rises slot 8 slot-short) value-short))
+    shaped-short {A = Round × (ℕ × Value)} (λ x. record { round = x.0; slot = x.1.0; value = x.1.1 }) (λ v. (v.round, (v.slot, v.value))) (round ▷ (only rises slot ▷ value_with true)) 956
+    (▷-short round (only rises slot ▷ value_with true) 10 946 round-short (▷-short (only rises slot) (value_with true) 8 938 (only-short rises slot 8 slot-short) value-short))
 
-pub votes-short : (cw : ℕ) → IsShort (votes cw) 28545
-unfolding votes
-votes-short cw = counted-short (only (λ n. nat_le n 32) u8) (vote cw) 1 32 892 (only-short (λ n. nat_le n 32) u8 1 u8-short) (λ n h. from_none n 32 h) (vote-short cw)
+pub votes-short : (cw : ℕ) → IsShort (votes cw) 30593
+unfolding votes votes_with
+votes-short cw = counted-short (only (λ n. nat_le n 32) u8) (vote_with true cw) 1 32 956 (only-short (λ n. nat_le n 32) u8 1 u8-short) (λ n h. from_none n 32 h) (vote-short cw)
 
 answered-short : IsShort answered 84
 unfolding answered

@@ -1,6 +1,7 @@
 -- The fields of messages and records: what bytes stand for each, and which values each may have.
-use Rattle.std.specs.Prelude.{ℕ, ◌+◌, ◌-◌, ◌*◌, ◌^◌, Bool, true, ◌&&◌, ◌||◌, not, ◌==◌, nat_lt, nat_le, List, [], ◌∷◌, length, Option, Some, None, slice_get}
+use Rattle.std.specs.Prelude.{ℕ, ◌+◌, ◌-◌, ◌*◌, ◌^◌, Bool, true, false, ◌&&◌, ◌||◌, not, ◌==◌, nat_lt, nat_le, List, [], ◌∷◌, length, Option, Some, None, slice_get, if◌then◌else◌}
 use Rattle.std.specs.Option.{option_map_or}
+use Rattle.cx_base.specs.Asked.{floor_fits}
 use Rattle.cx_base.specs.Name.{is_name_byte}
 use Rattle.cx_base.specs.Grid.{Shape as GridShape, make_grid, is_in}
 use Rattle.cx_base.specs.Round.{is_before}
@@ -65,43 +66,93 @@ name_byte = only is_name_byte u8
 unfoldable pub name : ℕ → Format (List ℕ)
 name limit = counted (only (λ n. nat_le 1 n && nat_le n limit) u8) (λ _. name_byte)
 
--- an operation: 1 put, 2 del, 3 app
-abbrev pub op_shape : Op → Shape
-op_shape (Put key text) = shape 1 (name 32 ▷ name 64) (key, text)
-op_shape (Del key) = shape 2 (name 32) key
-op_shape (App key text) = shape 3 (name 32 ▷ name 64) (key, text)
+-- a floor that is told: below the client's number and at most 64 below it, and not the number just below, which isn't told
+unfoldable pub floor_below : ℕ → Format ℕ
+floor_below number = only (λ n. floor_fits number n && not (n + 1 == number)) u64
+
+-- a format of which nothing fits where it is not allowed
+abbrev pub allowed : {A : Type 0} → Bool → Format A → Format A
+allowed true f = f
+allowed false f = record { fits = λ _. false; spell = f.spell; read = f.read }
+
+-- an operation, with the floor that is told before its key, if one is: 1 put, 2 del, 3 app, with a floor 4 put, 5 del, 6 app. A floor may
+-- be told only where that is allowed.
+abbrev pub told_shape : Bool → ℕ → Option ℕ × Op → Shape
+told_shape floors number (None, Put key text) = shape 1 (name 32 ▷ name 64) (key, text)
+told_shape floors number (None, Del key) = shape 2 (name 32) key
+told_shape floors number (None, App key text) = shape 3 (name 32 ▷ name 64) (key, text)
+told_shape floors number (Some floor, Put key text) = shape 4 (allowed floors (floor_below number ▷ name 32 ▷ name 64)) (floor, (key, text))
+told_shape floors number (Some floor, Del key) = shape 5 (allowed floors (floor_below number ▷ name 32)) (floor, key)
+told_shape floors number (Some floor, App key text) = shape 6 (allowed floors (floor_below number ▷ name 32 ▷ name 64)) (floor, (key, text))
+
+-- how an operation with a floor is read, where it is
+abbrev pub floor_cases : Bool → ℕ → List (Case (Option ℕ × Op))
+floor_cases false number = []
+floor_cases true number =
+    case 4 (floor_below number ▷ name 32 ▷ name 64) (λ x. (Some x.0, Put x.1.0 x.1.1)) ∷
+    case 5 (floor_below number ▷ name 32) (λ x. (Some x.0, Del x.1)) ∷
+    case 6 (floor_below number ▷ name 32 ▷ name 64) (λ x. (Some x.0, App x.1.0 x.1.1)) ∷ []
 
 -- how each operation is read
-abbrev pub op_cases : List (Case Op)
-op_cases =
-    case 1 (name 32 ▷ name 64) (λ x. Put x.0 x.1) ∷
-    case 2 (name 32) (λ x. Del x) ∷
-    case 3 (name 32 ▷ name 64) (λ x. App x.0 x.1) ∷ []
+abbrev pub told_cases : Bool → ℕ → List (Case (Option ℕ × Op))
+told_cases floors number =
+    case 1 (name 32 ▷ name 64) (λ x. (None, Put x.0 x.1)) ∷
+    case 2 (name 32) (λ x. (None, Del x)) ∷
+    case 3 (name 32 ▷ name 64) (λ x. (None, App x.0 x.1)) ∷ floor_cases floors number
 
--- an operation
-unfoldable pub op : Format Op
-op = tagged op_shape op_cases
+-- an operation of the command with this number
+unfoldable pub told_op : Bool → ℕ → Format (Option ℕ × Op)
+told_op floors number = tagged (told_shape floors number) (told_cases floors number)
 
--- a command: its client, its number and its operation
+-- the floor that is told: none where it is the number just below the client's
+abbrev pub told_floor : ℕ → ℕ → Option ℕ
+told_floor number floor = if floor + 1 == number then None else Some floor
+
+-- the floor that is meant
+abbrev pub meant_floor : ℕ → Option ℕ → ℕ
+meant_floor number None = number - 1
+meant_floor number (Some floor) = floor
+
+abbrev pub make_command : ℕ × (ℕ × (Option ℕ × Op)) → Command
+make_command x = record { client = x.0; seq = x.1.0; floor = meant_floor x.1.0 x.1.1.0; op = x.1.1.1 }
+
+abbrev pub command_parts : Command → ℕ × (ℕ × (Option ℕ × Op))
+command_parts c = (c.client, (c.seq, (told_floor c.seq c.floor, c.op)))
+
+-- a command: its client, its number, its operation, and before the key its floor, where that is told
+unfoldable pub command_with : Bool → Format Command
+command_with floors = shaped make_command command_parts (u16 ▷ then_by seq (told_op floors))
+
+-- a command of any kind
 unfoldable pub command : Format Command
-command = shaped (λ x. record { client = x.0; seq = x.1.0; op = x.1.1 }) (λ c. (c.client, (c.seq, c.op))) (u16 ▷ seq ▷ op)
+command = command_with true
+
+-- whether a command tells its floor
+abbrev pub tells_floor : Command → Bool
+tells_floor c = not (c.floor + 1 == c.seq)
 
 -- one to eight commands
+unfoldable pub commands_with : Bool → Format (List Command)
+commands_with floors = counted (only (λ n. nat_le 1 n && nat_le n 8) u8) (λ _. command_with floors)
+
 unfoldable pub commands : Format (List Command)
-commands = counted (only (λ n. nat_le 1 n && nat_le n 8) u8) (λ _. command)
+commands = commands_with true
 
 -- a value: 0 nothing to do, 1 commands
-abbrev pub value_shape : Value → Shape
-value_shape Noop = shape 0 nothing tt
-value_shape (Batch list) = shape 1 commands list
+abbrev pub value_shape : Bool → Value → Shape
+value_shape floors Noop = shape 0 nothing tt
+value_shape floors (Batch list) = shape 1 (commands_with floors) list
 
 -- how each value is read
-abbrev pub value_cases : List (Case Value)
-value_cases = case 0 nothing (λ _. Noop) ∷ case 1 commands (λ x. Batch x) ∷ []
+abbrev pub value_cases : Bool → List (Case Value)
+value_cases floors = case 0 nothing (λ _. Noop) ∷ case 1 (commands_with floors) (λ x. Batch x) ∷ []
 
 -- a value
+unfoldable pub value_with : Bool → Format Value
+value_with floors = tagged (value_shape floors) (value_cases floors)
+
 unfoldable pub value : Format Value
-value = tagged value_shape value_cases
+value = value_with true
 
 -- the length of a text in a reply
 unfoldable pub reply_len : Format ℕ
@@ -149,13 +200,16 @@ unfoldable pub entries : Format (List Entry)
 entries = counted (only (λ n. nat_le n 17) u8) entry
 
 -- a vote after others, at a greater slot of the window
-unfoldable pub vote : ℕ → List Vote → Format Vote
-vote cw before = shaped (λ x. record { round = x.0; slot = x.1.0; value = x.1.1 }) (λ v. (v.round, (v.slot, v.value)))
-    (round ▷ only (λ s. in_window cw s && last_passes (λ v. nat_lt v.slot s) before) slot ▷ value)
+unfoldable pub vote_with : Bool → ℕ → List Vote → Format Vote
+vote_with floors cw before = shaped (λ x. record { round = x.0; slot = x.1.0; value = x.1.1 }) (λ v. (v.round, (v.slot, v.value)))
+    (round ▷ only (λ s. in_window cw s && last_passes (λ v. nat_lt v.slot s) before) slot ▷ value_with floors)
 
 -- at most 32 votes
+unfoldable pub votes_with : Bool → ℕ → Format (List Vote)
+votes_with floors cw = counted (only (λ n. nat_le n 32) u8) (vote_with floors cw)
+
 unfoldable pub votes : ℕ → Format (List Vote)
-votes cw = counted (only (λ n. nat_le n 32) u8) (vote cw)
+votes = votes_with true
 
 -- a command's answer: its client, its number, one more than its slot, and the reply
 unfoldable pub answered : Format Answered

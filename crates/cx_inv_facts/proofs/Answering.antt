@@ -94,7 +94,7 @@ module _ (history : List KeptRecord) (sent : List Letter) (states : RoleId → S
 
   requested : (e : Event) (d : Letter) → Member d (request e) → AnswerSays history d.from d.msg
   requested (event.Write command batcher) d m = Member-one (λ (x : Letter). AnswerSays history x.from x.msg) _ tt d m
-  requested (event.Read client seq reader replica key) d m = Member-one (λ (x : Letter). AnswerSays history x.from x.msg) _ tt d m
+  requested (event.Read client seq floor reader replica key) d m = Member-one (λ (x : Letter). AnswerSays history x.from x.msg) _ tt d m
   requested other d m = absurd m
 
 -- an acceptor's rows

@@ -120,7 +120,7 @@ module _ (i : Round) (cw end : ℕ) where
 
     request_fits : (e : Event) (d : Letter) → Member d (request e) → MsgFits history sent i cw end d.msg
     request_fits (event.Write command batcher) d m = Member-one (λ (x : Letter). MsgFits history sent i cw end x.msg) _ tt d m
-    request_fits (event.Read client seq reader replica key) d m = Member-one (λ (x : Letter). MsgFits history sent i cw end x.msg) _ tt d m
+    request_fits (event.Read client seq floor reader replica key) d m = Member-one (λ (x : Letter). MsgFits history sent i cw end x.msg) _ tt d m
     request_fits other d m = absurd m
 
   others_keep : (me : RoleId) (o : Option Record) (history : List KeptRecord) (a : RoleId) → same_role a me ≡ false

@@ -56,7 +56,7 @@ module _ (c : Cluster) (kept : List KeptRecord) where
 
   request_low : (e : Event) → AllSayLow c kept (request e)
   request_low (event.Write command batcher) = one_low c kept _ tt
-  request_low (event.Read client seq reader replica key) = one_low c kept _ tt
+  request_low (event.Read client seq floor reader replica key) = one_low c kept _ tt
   request_low other = none_low c kept
 
 start_state : (c : Cluster) (k : Kind) (s : State) → (s ≡ Down) ⊎ (s ≡ fresh_state c k) → LowState c [] s

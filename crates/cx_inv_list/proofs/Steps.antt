@@ -34,12 +34,12 @@ use Rattle.cx_inv_list.proofs.Replicas.{reader_listed, replica_listed}
 -- what may be said of the requests that go out
 abbrev pub IsAllowed : Requests → Event → Type 0
 IsAllowed q (event.Write command batcher) = q.asked command
-IsAllowed q (event.Read client seq reader replica key) = q.wanted (token client seq) key
+IsAllowed q (event.Read client seq floor reader replica key) = q.wanted (token client seq) key
 IsAllowed q other = Unit {0}
 
 request_says : (q : Requests) (history : List KeptRecord) (e : Event) → IsAllowed q e → (d : Letter) → Member d (request e) → ListSays q history d.from d.to d.msg
 request_says q history (event.Write command batcher) h = one_send q history (role kind.Client command.client) (role kind.Batcher batcher) (msg.Submit command) h
-request_says q history (event.Read client seq reader replica key) h =
+request_says q history (event.Read client seq floor reader replica key) h =
     one_send q history (role kind.Client client) (role kind.Reader reader) (msg.ReadReq seq replica key) h
 request_says q history (event.Deliver n cut) h = λ d m. absurd m
 request_says q history (event.Tick r) h = λ d m. absurd m
@@ -140,13 +140,13 @@ run_has w (e ∷ es) h m = run_has (step w e) es h (step_has w e h m)
 abbrev pub requests_in : List Happened → Requests
 requests_in events = record {
   asked = λ command. (b : ℕ) × Member {X = Happened} (record { event = event.Write command b; why = why.Sent }) events;
-  wanted = λ t key. (reader : ℕ) × (replica : ℕ) × Member {X = Happened} (record { event = event.Read t.client t.seq reader replica key; why = why.Sent }) events;
+  wanted = λ t key. (floor : ℕ) × (reader : ℕ) × (replica : ℕ) × Member {X = Happened} (record { event = event.Read t.client t.seq floor reader replica key; why = why.Sent }) events;
 }
 
 allowed_by : (events : List Happened) (e : Event) → Member (sent_request e) events → IsAllowed (requests_in events) e
 unfolding sent_request
 allowed_by events (event.Write command batcher) m = (batcher, m)
-allowed_by events (event.Read client seq reader replica key) m = (reader, replica, m)
+allowed_by events (event.Read client seq floor reader replica key) m = (floor, reader, replica, m)
 allowed_by events (event.Deliver n cut) m = tt
 allowed_by events (event.Tick r) m = tt
 allowed_by events (event.Order l order cut) m = tt

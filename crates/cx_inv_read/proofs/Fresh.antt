@@ -55,7 +55,7 @@ fresh_reader c kind.Reader = λ r m. absurd m
 pub requested : (P : Letter → Type 0) → ((from to : RoleId) (command : Command) → P (letter from to (msg.Submit command)))
     → ((from to : RoleId) (seq replica : ℕ) (key : List ℕ) → P (letter from to (msg.ReadReq seq replica key))) → (e : Event) → Each P (request e)
 requested P submit read (event.Write command batcher) = Member-one P _ (submit _ _ command)
-requested P submit read (event.Read client seq reader replica key) = Member-one P _ (read _ _ seq replica key)
+requested P submit read (event.Read client seq floor reader replica key) = Member-one P _ (read _ _ seq replica key)
 requested P submit read (event.Deliver n cut) = λ d m. absurd m
 requested P submit read (event.Tick r) = λ d m. absurd m
 requested P submit read (event.Order l order cut) = λ d m. absurd m

@@ -122,7 +122,7 @@ module _ (t : Token) where
 
   asked_fresh : (e : Event) → IsOther e → Each Fresh (request e)
   asked_fresh (event.Write command batcher) other = Member-one Fresh _ tt
-  asked_fresh (event.Read client seq reader replica key) other = Member-one Fresh _ (λ e. other (ap (λ (u : Token). Some u) e))
+  asked_fresh (event.Read client seq floor reader replica key) other = Member-one Fresh _ (λ e. other (ap (λ (u : Token). Some u) e))
   asked_fresh (event.Deliver n cut) other = λ d m. absurd m
   asked_fresh (event.Tick r) other = λ d m. absurd m
   asked_fresh (event.Order l order cut) other = λ d m. absurd m

@@ -1,5 +1,5 @@
 -- An answer tells no more values than some replica kept.
-use Rattle.std.proofs.Common.{◌≡◌, ◌⊎◌, ℕ, ◌+◌, ◌≤◌, ◌&&◌, List, [], ◌∷◌, ◌++◌, map, filter, length, inl, inr, ap, sym, subst, refl, arith}
+use Rattle.std.proofs.Common.{◌≡◌, ◌⊎◌, ℕ, ◌+◌, ◌≤◌, ◌&&◌, not, List, [], ◌∷◌, ◌++◌, map, filter, length, inl, inr, ap, sym, subst, refl, arith}
 use Rattle.std.specs.Prelude.{◌==◌, ◌%◌, nat_lt, nat_le, slice_get, Option, None, Some}
 use Rattle.std.specs.List.{list_any}
 use Rattle.std.proofs.lemmas.List.{length-append}
@@ -14,7 +14,7 @@ use Rattle.cx_base.specs.declared.role.RoleId.{RoleId}
 use Rattle.cx_base.specs.Fold.{commands_of}
 use Rattle.cx_base.specs.Lists.{below}
 use Rattle.cx_base.specs.Log.{ready_values}
-use Rattle.cx_base.specs.Noted.{noted_for, with_answer}
+use Rattle.cx_base.specs.Noted.{comes_before, floor_of, is_answer_of, is_done, is_settled, noted_for, still_noted, with_note}
 use Rattle.cx_base.specs.Role.{role, same_role}
 use Rattle.cx_msg.specs.Letter.{Letter, letter}
 use Rattle.cx_msg.specs.declared.input.Input.{Input}
@@ -31,14 +31,14 @@ use Rattle.cx_model.specs.Matchmaker.{matchmaker_rules}
 use Rattle.cx_model.specs.Member.{Member}
 use Rattle.cx_model.specs.Names.{names}
 use Rattle.cx_model.specs.Outcome.{Outcome, either_way}
-use Rattle.cx_model.specs.Replica.{ReplicaDurable, ReplicaVolatile, Machine, Executed, new_machine, acting, execute_behind, execute, execute_all, execute_value, machine_from, machine_of, results_at, results_from, read_answer_to, read_answers, apply, fetch_found, held_to, fetch_to, replica_rules, replica_after, replica_takes, replica_tick, replica_row}
+use Rattle.cx_model.specs.Replica.{ReplicaDurable, ReplicaVolatile, Machine, Executed, new_machine, acting, execute_noted, execute, execute_all, execute_value, machine_from, machine_of, results_at, results_from, read_answer_to, read_answers, apply, fetch_found, held_to, fetch_to, replica_rules, replica_after, replica_takes, replica_tick, replica_row}
 use Rattle.cx_model.specs.Request.{same_read, request}
 use Rattle.cx_model.specs.Unbatcher.{answer_to, unbatcher_takes, unbatcher_row}
 use Rattle.cx_model.specs.World.{run}
 use Rattle.cx_inv_run.specs.Laws.{Lands, Laws, anything}
 use Rattle.cx_inv_run.specs.States.{State, Given, entry_by, with_record, durable_of, HoldsIn}
 use Rattle.cx_inv_run.proofs.Histories.{by_role, durable_own, durable_other}
-use Rattle.cx_inv_run.proofs.Members.{Member-both, Member-map, Member-one}
+use Rattle.cx_inv_run.proofs.Members.{Member-both, Member-filter, Member-map, Member-one}
 use Rattle.cx_inv_run.proofs.Senders.{batcher_kinds, leader_kinds, proxy_kinds, acceptor_kinds, matchmaker_kinds, reader_kinds}
 use Rattle.cx_inv_run.proofs.Sends.{batcher_sends, leader_sends, proxy_sends, acceptor_sends, matchmaker_sends, reader_sends, sends_only}
 use Rattle.cx_inv_run.proofs.Steps.{run_keeps, along_anything, all_allowed}
@@ -81,60 +81,73 @@ still_tells me r history other h = tt
 abbrev UpTo : ℕ → List Answered → Type 0
 UpTo n answers = (a : Answered) → Member a answers → a.at ≤ n
 
-noted_there : (client : ℕ) (notes : List Answered) (a : Answered) → noted_for client notes ≡ Some a → Member a notes
-noted_there client [] a e = cc
-noted_there client (x ∷ notes) a e =
-    either_way (λ (o : Option Answered). o ≡ Some a → Member a (x ∷ notes)) (x.client == client) (Some x) (noted_for client notes)
-    (λ q. inl (sym (same_Some x a q))) (λ q. inr (noted_there client notes a q)) e
-
-with_answer-cases : (one : Answered) (notes : List Answered) (a : Answered) → Member a (with_answer one notes) → (a ≡ one) ⊎ Member a notes
-with_answer-cases one [] a m = elim m [ inl e ↦ inl e | inr k ↦ absurd k ]
-with_answer-cases one (x ∷ notes) a m =
-    either_way (λ (l : List Answered). Member a l → (a ≡ one) ⊎ Member a (x ∷ notes)) (x.client == one.client) (one ∷ notes) (x ∷ with_answer one notes)
-    (λ k. elim k [ inl e ↦ inl e | inr q ↦ inr (inr q) ])
-    (λ k. elim k [ inl e ↦ inr (inl e) | inr q ↦ elim (with_answer-cases one notes a q) [ inl e ↦ inl e | inr y ↦ inr (inr y) ] ]) m
+noted_there : (client seq : ℕ) (notes : List Answered) (a : Answered) → noted_for client seq notes ≡ Some a → Member a notes
+noted_there client seq [] a e = cc
+noted_there client seq (x ∷ notes) a e =
+    either_way (λ (o : Option Answered). o ≡ Some a → Member a (x ∷ notes)) (is_answer_of client seq x) (Some x) (noted_for client seq notes)
+    (λ q. inl (sym (same_Some x a q))) (λ q. inr (noted_there client seq notes a q)) e
 
 up_more : (n k : ℕ) (answers : List Answered) → n ≤ k → UpTo n answers → UpTo k answers
 up_more n k answers l h a m = let p = h a m in omega arith
 
 abbrev IsUpTo : ℕ → Executed → Type 0
-IsUpTo n e = UpTo n e.machine.notes × UpTo n e.answers
+IsUpTo n e = UpTo n e.machine.table.notes × UpTo n e.answers
 
-acting_up : (at : ℕ) (m : Machine) (c : Command) → UpTo at m.notes → IsUpTo at (acting at m c)
+-- what is still noted was noted
+still_up : (n client floor : ℕ) (notes : List Answered) → UpTo n notes → UpTo n (still_noted client floor notes)
+still_up n client floor notes h a k = h a (Member-filter (λ (x : Answered). not (is_settled client floor x)) a notes k).0
+
+one_up : (at : ℕ) (one : Answered) → one.at ≡ at → UpTo at (one ∷ [])
+one_up at one p a k = elim k [ inl e ↦ (let q : a.at ≡ one.at = ap (λ (x : Answered). x.at) e in omega arith) | inr q ↦ absurd q ]
+
+-- an answer more is noted
+note_up : (n : ℕ) (a : Answered) (notes : List Answered) → UpTo n notes → a.at ≤ n → UpTo n (with_note a notes)
+note_up n a [] h l b (inl e) = subst (λ (x : Answered). x.at ≤ n) (sym e) l
+note_up n a [] h l b (inr m) = absurd m
+note_up n a (x ∷ notes) h l b m =
+    either_way (λ (list : List Answered). Member b list → b.at ≤ n) (comes_before a x) (a ∷ x ∷ notes) (x ∷ with_note a notes)
+    (λ k. elim k [ inl e ↦ subst (λ (y : Answered). y.at ≤ n) (sym e) l | inr j ↦ h b j ])
+    (λ k. elim k [ inl e ↦ h b (inl e) | inr j ↦ note_up n a notes (λ y i. h y (inr i)) l b j ]) m
+
+acting_up : (at : ℕ) (m : Machine) (c : Command) → UpTo at m.table.notes → IsUpTo at (acting at m c)
 acting_up at m c h = (
-  λ a k. elim (with_answer-cases _ m.notes a k) [ inl e ↦ (let p : a.at ≡ at = ap (λ (x : Answered). x.at) e in omega arith) | inr q ↦ h a q ],
-  λ a k. elim k [ inl e ↦ (let p : a.at ≡ at = ap (λ (x : Answered). x.at) e in omega arith) | inr q ↦ absurd q ],
+  still_up at c.client c.floor _ (note_up at _ m.table.notes h (omega arith)),
+  one_up at _ refl,
 )
 
-behind_up : (at : ℕ) (m : Machine) (c : Command) (o : Option Answered) → noted_for c.client m.notes ≡ o → UpTo at m.notes → IsUpTo at (execute_behind at m c o)
-behind_up at m c None e h = acting_up at m c h
-behind_up at m c (Some last) e h =
-    either_way (IsUpTo at) (nat_lt last.seq c.seq) _ _ (acting_up at m c h)
-    (either_way (IsUpTo at) (last.seq == c.seq) _ _
-    (h, λ a k. elim k [ inl q ↦ h a (subst (λ x. Member x m.notes) (sym q) (noted_there c.client m.notes last e)) | inr q ↦ absurd q ])
-    (h, λ a k. absurd k))
+noted_up : (at : ℕ) (m : Machine) (c : Command) (o : Option Answered) → noted_for c.client c.seq m.table.notes ≡ o → UpTo at m.table.notes → IsUpTo at (execute_noted at m c o)
+noted_up at m c None e h = acting_up at m c h
+noted_up at m c (Some last) e h = (
+  still_up at c.client c.floor m.table.notes h,
+  λ a k. elim k [ inl q ↦ h a (subst (λ x. Member x m.table.notes) (sym q) (noted_there c.client c.seq m.table.notes last e)) | inr q ↦ absurd q ],
+)
 
-all_up : (at : ℕ) (m : Machine) (cs : List Command) → UpTo at m.notes → IsUpTo at (execute_all at m cs)
+behind_up : (at : ℕ) (m : Machine) (c : Command) → UpTo at m.table.notes → IsUpTo at (execute at m c)
+behind_up at m c h =
+    either_way (IsUpTo at) (is_done c.seq (floor_of c.client m.table.floors)) _ _ (still_up at c.client c.floor m.table.notes h, λ a k. absurd k)
+    (noted_up at m c (noted_for c.client c.seq m.table.notes) refl h)
+
+all_up : (at : ℕ) (m : Machine) (cs : List Command) → UpTo at m.table.notes → IsUpTo at (execute_all at m cs)
 all_up at m [] h = (h, λ a k. absurd k)
 all_up at m (c ∷ cs) h =
-    let one = behind_up at m c (noted_for c.client m.notes) refl h in
+    let one = behind_up at m c h in
     let rest = all_up at (execute at m c).machine cs one.0 in
     (rest.0, Member-both (λ (a : Answered). a.at ≤ at) (execute at m c).answers (execute_all at (execute at m c).machine cs).answers one.1 rest.1)
 
-value_up : (slot : ℕ) (m : Machine) (v : Value) → UpTo slot m.notes → IsUpTo (slot + 1) (execute_value slot m v)
-value_up slot m v h = all_up (slot + 1) m (commands_of v) (up_more slot (slot + 1) m.notes (omega arith) h)
+value_up : (slot : ℕ) (m : Machine) (v : Value) → UpTo slot m.table.notes → IsUpTo (slot + 1) (execute_value slot m v)
+value_up slot m v h = all_up (slot + 1) m (commands_of v) (up_more slot (slot + 1) m.table.notes (omega arith) h)
 
-machine_up : (vs : List Value) (slot : ℕ) (m : Machine) → UpTo slot m.notes → UpTo (slot + length vs) (machine_from slot m vs).notes
-machine_up [] slot m h = up_more slot (slot + 0) m.notes (omega arith) h
+machine_up : (vs : List Value) (slot : ℕ) (m : Machine) → UpTo slot m.table.notes → UpTo (slot + length vs) (machine_from slot m vs).table.notes
+machine_up [] slot m h = up_more slot (slot + 0) m.table.notes (omega arith) h
 machine_up (v ∷ vs) slot m h =
     let rest = machine_up vs (slot + 1) (execute_value slot m v).machine (value_up slot m v h).0 in
     λ a k. let p = rest a k in omega arith
 
-log_up : (log : List Value) → UpTo (length log) (machine_of log).notes
+log_up : (log : List Value) → UpTo (length log) (machine_of log).table.notes
 log_up log = let h = machine_up log 0 new_machine (λ a k. absurd k) in λ a k. let p = h a k in omega arith
 
 results_up : (P : Letter → Type 0) (c : Cluster) (me : RoleId) (n : ℕ) → ((to : RoleId) (slot : ℕ) (answers : List Answered) → UpTo n answers → P (letter me to (msg.Results slot answers)))
-    → (vs : List Value) (slot : ℕ) (m : Machine) → slot + length vs ≤ n → UpTo slot m.notes → Each P (results_from c me slot m vs)
+    → (vs : List Value) (slot : ℕ) (m : Machine) → slot + length vs ≤ n → UpTo slot m.table.notes → Each P (results_from c me slot m vs)
 results_up P c me n says [] slot m l h = λ d k. absurd k
 results_up P c me n says (v ∷ vs) slot m l h =
     let one = value_up slot m v h in

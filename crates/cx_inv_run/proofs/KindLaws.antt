@@ -32,7 +32,7 @@ restated kept sent states others h = record { senders = h.senders; keepers = h.k
 -- a request is of a client's kind
 requested : (e : Event) (d : Letter) → Member d (request e) → IsSender d.from.kind d.msg
 requested (event.Write command batcher) d m = Member-one (λ d. IsSender d.from.kind d.msg) _ refl d m
-requested (event.Read client seq reader replica key) d m = Member-one (λ d. IsSender d.from.kind d.msg) _ refl d m
+requested (event.Read client seq floor reader replica key) d m = Member-one (λ d. IsSender d.from.kind d.msg) _ refl d m
 requested (event.Deliver number cut) d m = absurd m
 requested (event.Tick r) d m = absurd m
 requested (event.Order leader order cut) d m = absurd m

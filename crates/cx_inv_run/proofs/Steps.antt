@@ -316,8 +316,8 @@ module _ (c : Cluster) (Allowed : Event → Type 0) (known holds : Property) (la
     changes : (e : Event) → ((change w e).why ≡ why.Sent → Allowed e) → AfterChange (change w e)
     changes (event.Write command batcher) allowed =
         (let t : Token = record { client = command.client; seq = command.seq } in asks (event.Write command batcher) t (is_stale t (event.Write command batcher) w.events) allowed)
-    changes (event.Read client seq reader replica key) allowed =
-        (let t : Token = record { client = client; seq = seq } in asks (event.Read client seq reader replica key) t (is_stale t (event.Read client seq reader replica key) w.events) allowed)
+    changes (event.Read client seq floor reader replica key) allowed =
+        (let t : Token = record { client = client; seq = seq } in asks (event.Read client seq floor reader replica key) t (is_stale t (event.Read client seq floor reader replica key) w.events) allowed)
     changes (event.Deliver n cut) allowed = comes cut (slice_get w.sent n) (λ d e. (refl, Member-at d w.sent n e))
     changes (event.Tick r) allowed = acts (Give input.Tick Whole) r tt
     changes (event.Order l order cut) allowed = acts (Give (input.Order order) cut) (role kind.Leader l) tt

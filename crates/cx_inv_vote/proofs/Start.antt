@@ -140,7 +140,7 @@ start_facts c states fresh = record {
 request_says : (c : Cluster) (history : List KeptRecord) (longer : List Letter) (e : Event) (d : Letter) → Member d (request e) → Says c history longer d.from d.msg
 request_says c history longer (event.Write command batcher) =
     Member-one (λ (d : Letter). Says c history longer d.from d.msg) (letter (role kind.Client command.client) (role kind.Batcher batcher) (msg.Submit command)) tt
-request_says c history longer (event.Read client seq reader replica key) =
+request_says c history longer (event.Read client seq floor reader replica key) =
     Member-one (λ (d : Letter). Says c history longer d.from d.msg) (letter (role kind.Client client) (role kind.Reader reader) (msg.ReadReq seq replica key)) tt
 request_says c history longer (event.Deliver number cut) = λ d m. absurd m
 request_says c history longer (event.Tick r) = λ d m. absurd m
@@ -151,7 +151,7 @@ request_says c history longer (event.Restart r) = λ d m. absurd m
 request_quiet : (e : Event) → QuietSends (request e)
 request_quiet (event.Write command batcher) =
     Member-one (λ (d : Letter). IsPlainMsg d.msg) (letter (role kind.Client command.client) (role kind.Batcher batcher) (msg.Submit command)) (λ i g s cw v e. cc, λ i g e. cc)
-request_quiet (event.Read client seq reader replica key) =
+request_quiet (event.Read client seq floor reader replica key) =
     Member-one (λ (d : Letter). IsPlainMsg d.msg) (letter (role kind.Client client) (role kind.Reader reader) (msg.ReadReq seq replica key)) (λ i g s cw v e. cc, λ i g e. cc)
 request_quiet (event.Deliver number cut) = λ d m. absurd m
 request_quiet (event.Tick r) = λ d m. absurd m

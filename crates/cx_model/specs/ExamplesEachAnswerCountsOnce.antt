@@ -115,7 +115,7 @@ story =
     ∷ deliver 27 ⇒ why.Same
     ∷ deliver 22 ⇒ why.Leads
     ∷ deliver 5 ⇒ why.Old
-    ∷ event.Read 0 2 0 0 (codes "a") ⇒ why.Sent
+    ∷ event.Read 0 2 1 0 0 (codes "a") ⇒ why.Sent
     sending letter (client 0) (reader 0) (msg.ReadReq 2 0 (codes "a"))  -- 28
     ∷ deliver 28 ⇒ why.Started
     sending letter (reader 0) (matchmaker 0) (msg.MatchRead (token 0 2))  -- 29

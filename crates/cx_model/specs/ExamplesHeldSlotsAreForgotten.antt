@@ -127,7 +127,7 @@ story =
     ∷ deliver 38 ⇒ why.Applied
     keeping kept.Log (only put_b ∷ []) by replica 0
     ∷ deliver 34 ⇒ why.Past
-    ∷ event.Read 0 4 0 0 (codes "a") ⇒ why.Sent
+    ∷ event.Read 0 4 3 0 0 (codes "a") ⇒ why.Sent
     sending letter (client 0) (reader 0) (msg.ReadReq 4 0 (codes "a"))  -- 39
     ∷ deliver 39 ⇒ why.Started
     sending letter (reader 0) (matchmaker 0) (msg.MatchRead (token 0 4))  -- 40

@@ -97,7 +97,7 @@ story =
     sending letter (matchmaker 2) (leader 0) (msg.MatchB next next [])  -- 23
     ∷ deliver 2 ⇒ why.Collected
     sending letter (matchmaker 2) (leader 0) (msg.MatchNack first 0 next)  -- 24
-    ∷ event.Read 0 1 0 0 (codes "a") ⇒ why.Sent
+    ∷ event.Read 0 1 0 0 0 (codes "a") ⇒ why.Sent
     sending letter (client 0) (reader 0) (msg.ReadReq 1 0 (codes "a"))  -- 25
     ∷ deliver 25 ⇒ why.Started
     sending letter (reader 0) (matchmaker 0) (msg.MatchRead (token 0 1))  -- 26

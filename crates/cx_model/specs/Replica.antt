@@ -14,7 +14,7 @@ use Rattle.cx_base.specs.declared.why.Why.TheVariants.{Answered as AnsweredWord,
 use Rattle.cx_base.specs.Fold.{commands_of, map_after, reply_of, text_at}
 use Rattle.cx_base.specs.Lists.{below}
 use Rattle.cx_base.specs.Log.{value_for, ready_values, still_early}
-use Rattle.cx_base.specs.Noted.{noted_for, with_answer}
+use Rattle.cx_base.specs.Noted.{Table, new_table, floor_of, is_done, noted_for, with_told, with_answer}
 use Rattle.cx_base.specs.Role.{same_role, role}
 use Rattle.cx_msg.specs.Letter.{Letter, letter}
 use Rattle.cx_msg.specs.declared.input.Input.{Input}
@@ -38,32 +38,36 @@ pub record ReplicaVolatile : Type 0 where
   pub early : List Placed
   pub deferred : List Deferred
 
--- what executing leaves: the map, and the last answer of each client
+-- what executing leaves: the map, and the client table
 pub record Machine : Type 0 where
   pub map : List Pair
-  pub notes : List Answered
+  pub table : Table
 
 -- a machine with the answers that it gave on the way
 pub record Executed : Type 0 where
   pub machine : Machine
   pub answers : List Answered
 
--- a command acts: its number is above all that its client has had answered
+-- a command acts: its client isn't done with its number, which has no answer yet
 abbrev pub acting : ℕ → Machine → Command → Executed
 acting at m c =
     let answer : Answered = record { client = c.client; seq = c.seq; at = at; reply = reply_of m.map c.op } in
-    record { machine = record { map = map_after m.map c.op; notes = with_answer answer m.notes }; answers = answer ∷ [] }
+    record { machine = record { map = map_after m.map c.op; table = with_answer answer c.floor m.table }; answers = answer ∷ [] }
 
--- A command with the client's last answer: a greater number acts, an equal one has that answer again, a smaller one none.
-abbrev pub execute_behind : ℕ → Machine → Command → Option Answered → Executed
-execute_behind at m c None = acting at m c
-execute_behind at m c (Some last) =
-    if nat_lt last.seq c.seq then acting at m c
-    else if last.seq == c.seq then record { machine = m; answers = last ∷ [] }
-    else record { machine = m; answers = [] }
+-- a command doesn't act, and tells its floor; it has the answer that was noted for its number, if one was
+abbrev pub not_acting : Machine → Command → List Answered → Executed
+not_acting m c answers = record { machine = record m { table = with_told c.client c.floor m.table }; answers = answers }
 
+-- A command whose number has an answer has that one again; one whose number has none acts.
+abbrev pub execute_noted : ℕ → Machine → Command → Option Answered → Executed
+execute_noted at m c None = acting at m c
+execute_noted at m c (Some a) = not_acting m c (a ∷ [])
+
+-- a command with a number with which its client is done has none
 abbrev pub execute : ℕ → Machine → Command → Executed
-execute at m c = execute_behind at m c (noted_for c.client m.notes)
+execute at m c =
+    if is_done c.seq (floor_of c.client m.table.floors) then not_acting m c []
+    else execute_noted at m c (noted_for c.client c.seq m.table.notes)
 
 abbrev pub with_answers : List Answered → Executed → Executed
 with_answers before e = record e { answers = before ++ e.answers }
@@ -83,7 +87,7 @@ machine_from slot m [] = m
 machine_from slot m (v ∷ vs) = machine_from (slot + 1) (execute_value slot m v).machine vs
 
 abbrev pub new_machine : Machine
-new_machine = record { map = []; notes = [] }
+new_machine = record { map = []; table = new_table }
 
 -- what a log leaves
 abbrev pub machine_of : List Value → Machine

@@ -1,6 +1,6 @@
 -- What decodes is spelled so, and what is spelled decodes.
 use Rattle.std.proofs.Common.{◌≡◌, ◌⊎◌, inl, inr, ◌||◌, ℕ, zero, suc, ◌+◌, ◌<◌, ◌≤◌, Bool, true, false, ◌&&◌, not, cond, ltb, eqb, List, [], ◌∷◌, ◌++◌, length, Result, Ok, Err, refl, sym, ap, subst, ◌∙◌, append_assoc, arith}
-use Rattle.std.specs.Prelude.{IfOk, IsTrue}
+use Rattle.std.specs.Prelude.{IfOk, IsTrue, if◌then◌else◌}
 use Rattle.std.proofs.lemmas.Bool.{eqb-true, ltb-false, le-ltb}
 use Rattle.std.proofs.lemmas.List.{append-nil, nil_from_length, length-append}
 use Rattle.std.specs.List.{list_any, list_all}
@@ -9,7 +9,7 @@ use Rattle.cx_base.specs.declared.role.Kind.{Kind}
 use Rattle.cx_base.specs.declared.role.Kind.TheVariants.{Client, Batcher, Leader, Proxy, Acceptor, Matchmaker, Replica, Unbatcher, Reader}
 use Rattle.cx_wire.specs.Format.{Miss, u8, u16, ◌▷◌, by_tag}
 use Rattle.cx_wire.proofs.Laws.{IsBytes, IsExact, u8-exact, u16-exact, ▷-exact, shaped-exact, by_tag-takes, both, ok_is, tag_fits}
-use Rattle.cx_msg.specs.Messages.{body_shape, body_cases}
+use Rattle.cx_msg.specs.Messages.{body_shape, body_with, cases_with, tells_floors, version_of}
 use Rattle.cx_msg.specs.Letter.{Letter, is_kind, senders, receivers, is_listed, magic, header, header_of, fits, spelling}
 use Rattle.cx_msg.specs.Decoding.{finished, after_header, with_header, decoded, Decodes}
 use Rattle.cx_msg.specs.declared.message.Msg.{Msg}
@@ -22,6 +22,7 @@ use Rattle.std.proofs.Common.{lit<}
 use Rattle.std.proofs.lemmas.Bool.{leb-true, lt-ltb}
 use Rattle.cx_msg.proofs.Sizes.{body-sizes}
 use Rattle.cx_msg.proofs.BodyLaws.{bodies-sound, body-again}
+use Rattle.cx_msg.proofs.Versions.{version_tag, version_bytes, version_fits, own_version}
 use Rattle.cx_msg.proofs.PartsLaws.{Fitting, fitting}
 
 pub header-exact : IsExact header
@@ -115,25 +116,29 @@ header_case all (Ok h) d e = (h, refl, e)
 abbrev datagram_of : Header → Msg → Letter
 datagram_of h m = record { from = record { kind = kind_of h.from; index = h.from_index }; to = record { kind = kind_of h.to; index = h.to_index }; msg = m }
 
-finished_case : (all : ℕ) (h : Header) (r : Result (Msg × List ℕ) Miss) (d : Letter) → finished all h r ≡ Ok d → (m : Msg) × (r ≡ Ok (m, [])) × (datagram_of h m ≡ d)
+-- the last test, of the version
+version_test : (b : Bool) (e : WireFault) (x d : Letter) → (if b then Ok x else Err e) ≡ (let r : Result Letter WireFault = Ok d in r) → (b ≡ true) × (x ≡ d)
+version_test true e x d h = (refl, cc)
+version_test false e x d h = absurd cc
+
+finished_case : (all : ℕ) (h : Header) (r : Result (Msg × List ℕ) Miss) (d : Letter) → finished all h r ≡ Ok d → (m : Msg) × (r ≡ Ok (m, [])) × (h.version ≡ version_of m) × (datagram_of h m ≡ d)
 unfolding finished
 finished_case all h (Err miss) d e = absurd cc
-finished_case all h (Ok (m, [])) d e = (m, refl, cc)
+finished_case all h (Ok (m, [])) d e = let t = version_test (eqb h.version (version_of m)) (faults.Version h.version) (datagram_of h m) d e in (m, refl, eqb-true _ _ t.0, t.1)
 finished_case all h (Ok (m, b ∷ bytes)) d e = absurd cc
 
 record Passed (all : ℕ) (h : Header) (body : List ℕ) (d : Letter) : Type 0 where
   pub magic : h.magic ≡ magic
-  pub version : h.version ≡ 1
   pub said : h.said ≡ length body
   pub from : is_listed senders h.kind h.from ≡ true
   pub to : is_listed receivers h.kind h.to ≡ true
-  pub msg : finished all h (by_tag body_cases h.kind (length body) body) ≡ Ok d
+  pub msg : finished all h (by_tag (cases_with (eqb h.version 2)) h.kind (length body) body) ≡ Ok d
 
 all_passed : (all : ℕ) (h : Header) (body : List ℕ) (d : Letter) → after_header all h body ≡ Ok d → Passed all h body d
 unfolding after_header
 all_passed all h body d e =
     let a = passed (not (eqb h.magic magic)) faults.Magic _ d e in
-    let b = passed (not (eqb h.version 1)) (faults.Version h.version) _ d a.1 in
+    let b = passed (not (eqb h.version 1 || eqb h.version 2)) (faults.Version h.version) _ d a.1 in
     let c = passed (not (is_kind h.kind)) (faults.Kind h.kind) _ d b.1 in
     let s = passed (ltb (length body) h.said) (faults.Length h.said (length body)) _ d c.1 in
     let t = passed (ltb h.said (length body)) (faults.Trailing (12 + h.said)) _ d s.1 in
@@ -143,7 +148,6 @@ all_passed all h body d e =
     let high : length body ≤ h.said = ltb-false _ _ t.0 in
     record {
       magic = eqb-true _ _ (holds (eqb h.magic magic) a.0);
-      version = eqb-true _ _ (holds (eqb h.version 1) b.0);
       said = omega arith;
       from = holds (is_listed senders h.kind h.from) u.0;
       to = holds (is_listed receivers h.kind h.to) v.0;
@@ -151,9 +155,9 @@ all_passed all h body d e =
     }
 
 -- the header that a decoded datagram has
-same_header : (h : Header) (m : Msg) → h.magic ≡ magic → h.version ≡ 1 → (body_shape m).tag ≡ h.kind → code_of (kind_of h.from) ≡ h.from → code_of (kind_of h.to) ≡ h.to → length (body_shape m).bytes ≡ h.said → header_of (datagram_of h m) ≡ h
+same_header : (h : Header) (m : Msg) → h.magic ≡ magic → h.version ≡ version_of m → (body_shape m).tag ≡ h.kind → code_of (kind_of h.from) ≡ h.from → code_of (kind_of h.to) ≡ h.to → length (body_shape m).bytes ≡ h.said → header_of (datagram_of h m) ≡ h
 same_header h m mg ve ki fr to sa =
-    let with_magic : ℕ → Header = λ x. record { magic = x; version = 1; kind = (body_shape m).tag; from = code_of (kind_of h.from); from_index = h.from_index; to = code_of (kind_of h.to); to_index = h.to_index; said = length (body_shape m).bytes } in
+    let with_magic : ℕ → Header = λ x. record { magic = x; version = version_of m; kind = (body_shape m).tag; from = code_of (kind_of h.from); from_index = h.from_index; to = code_of (kind_of h.to); to_index = h.to_index; said = length (body_shape m).bytes } in
     let with_version : ℕ → Header = λ x. record { magic = h.magic; version = x; kind = (body_shape m).tag; from = code_of (kind_of h.from); from_index = h.from_index; to = code_of (kind_of h.to); to_index = h.to_index; said = length (body_shape m).bytes } in
     let with_kind : ℕ → Header = λ x. record { magic = h.magic; version = h.version; kind = x; from = code_of (kind_of h.from); from_index = h.from_index; to = code_of (kind_of h.to); to_index = h.to_index; said = length (body_shape m).bytes } in
     let with_from : ℕ → Header = λ x. record { magic = h.magic; version = h.version; kind = h.kind; from = x; from_index = h.from_index; to = code_of (kind_of h.to); to_index = h.to_index; said = length (body_shape m).bytes } in
@@ -186,17 +190,20 @@ decoded-takes bytes d is_bytes e =
     let body : List ℕ = a.0.1 in
     let first = header-exact.takes bytes a.0 is_bytes a.1 in
     let p = all_passed (length bytes) h body d a.2 in
-    let f = finished_case (length bytes) h (by_tag body_cases h.kind (length body) body) d p.msg in
+    let floors : Bool = eqb h.version 2 in
+    let f = finished_case (length bytes) h (by_tag (cases_with floors) h.kind (length body) body) d p.msg in
     let m : Msg = f.0 in
-    let second = by_tag-takes body_shape body_cases bodies-sound h.kind (length body) body (m, []) first.0.rest_fits f.1 in
-    let whole : body ≡ (body_shape m).bytes = second.0.parts ∙ append-nil (body_shape m).bytes in
+    let second = by_tag-takes (body_with floors) (cases_with floors) (bodies-sound floors) h.kind (length body) body (m, []) first.0.rest_fits f.1 in
+    let whole : body ≡ (body_shape m).bytes = second.0.parts ∙ append-nil (body_with floors m).bytes ∙ version_bytes floors m in
+    let kind : (body_shape m).tag ≡ h.kind = sym (version_tag floors m) ∙ second.2 in
+    let fit : (body_shape m).fits ≡ true = version_fits floors m second.1 in
     let len : length (body_shape m).bytes ≡ h.said = sym (p.said ∙ ap length whole) in
-    let same = same_header h m p.magic p.version second.2 (sender_back h.kind h.from p.from) (getter_back h.kind h.to p.to) len in
+    let same = same_header h m p.magic f.2 kind (sender_back h.kind h.from p.from) (getter_back h.kind h.to p.to) len in
     let indexes = index_fits h first.1 in
-    let from : is_listed senders (body_shape m).tag (code_of (kind_of h.from)) ≡ true = rw (second.2, sender_back h.kind h.from p.from) p.from in
-    let to : is_listed receivers (body_shape m).tag (code_of (kind_of h.to)) ≡ true = rw (second.2, getter_back h.kind h.to p.to) p.to in
-    subst (λ (x : Letter). (bytes ≡ spelling x) × (fits x ≡ true)) f.2
-    (rw (same, ← whole) first.0.parts, rw (indexes.0, indexes.1, from, to, second.1) refl)
+    let from : is_listed senders (body_shape m).tag (code_of (kind_of h.from)) ≡ true = rw (kind, sender_back h.kind h.from p.from) p.from in
+    let to : is_listed receivers (body_shape m).tag (code_of (kind_of h.to)) ≡ true = rw (kind, getter_back h.kind h.to p.to) p.to in
+    subst (λ (x : Letter). (bytes ≡ spelling x) × (fits x ≡ true)) f.3
+    (rw (same, ← whole) first.0.parts, rw (indexes.0, indexes.1, from, to, fit) refl)
 
 -- ---- what is spelled decodes
 
@@ -258,12 +265,31 @@ short_fits : (n : ℕ) → n < 65536 → u16.fits n ≡ true
 unfolding u16
 short_fits n lt = lt-ltb _ _ lt
 
+small_version : (m : Msg) → u8.fits (version_of m) ≡ true
+small_version m = go (tells_floors m)
+  where
+    go : (b : Bool) → u8.fits (if b then 2 else 1) ≡ true
+    go true = tag_fits 2 (lit< tt)
+    go false = tag_fits 1 (lit< tt)
+
 header_fits : (d : Letter) → Fitting d → header.fits (header_of d) ≡ true
 unfolding header
 header_fits d f =
     let size = body-sizes d.msg f.msg in
     let said : u16.fits (length (body_shape d.msg).bytes) ≡ true = short_fits (length (body_shape d.msg).bytes) (omega arith) in
-    rw (short_fits magic (lit< tt), tag_fits 1 (lit< tt), tag_fits (body_shape d.msg).tag (small_tag d.msg), tag_fits (code_of d.from.kind) (small_code d.from.kind), f.from_index, tag_fits (code_of d.to.kind) (small_code d.to.kind), f.to_index, said) refl
+    rw (short_fits magic (lit< tt), small_version d.msg, tag_fits (body_shape d.msg).tag (small_tag d.msg), tag_fits (code_of d.from.kind) (small_code d.from.kind), f.from_index, tag_fits (code_of d.to.kind) (small_code d.to.kind), f.to_index, said) refl
+
+version_known : (b : Bool) → (eqb (if b then 2 else 1) 1 || eqb (if b then 2 else 1) 2) ≡ true
+version_known true = refl
+version_known false = refl
+
+version_second : (b : Bool) → eqb (if b then 2 else 1) 2 ≡ b
+version_second true = refl
+version_second false = refl
+
+version_same : (b : Bool) → eqb (if b then 2 else 1) (if b then 2 else 1) ≡ true
+version_same true = refl
+version_same false = refl
 
 pub decoded-again : (d : Letter) → fits d ≡ true → decoded (spelling d) ≡ Ok d
 unfolding with_header after_header finished
@@ -272,10 +298,17 @@ decoded-again d h =
     let f = fitting d h in
     let first : header.read (header.spell (header_of d) ++ s.bytes) ≡ Ok (header_of d, s.bytes) = header-exact.again (header_of d) s.bytes (header_fits d f) in
     let even : ltb (length s.bytes) (length s.bytes) ≡ false = le-ltb _ _ (omega arith) in
-    let second : by_tag body_cases s.tag (length s.bytes) s.bytes ≡ Ok (d.msg, []) = ap (by_tag body_cases s.tag (length s.bytes)) (sym (append-nil s.bytes)) ∙ body-again d.msg (length s.bytes) [] f.msg in
+    let floors : Bool = tells_floors d.msg in
+    let own : (body_with floors d.msg).fits ≡ true = own_version floors d.msg refl f.msg in
+    let back : by_tag (cases_with floors) (body_with floors d.msg).tag (length (body_with floors d.msg).bytes) ((body_with floors d.msg).bytes ++ []) ≡ Ok (d.msg, []) = body-again floors d.msg (length (body_with floors d.msg).bytes) [] own in
+    let second : by_tag (cases_with floors) s.tag (length s.bytes) s.bytes ≡ Ok (d.msg, []) =
+        ap (by_tag (cases_with floors) s.tag (length s.bytes)) (sym (append-nil s.bytes)) ∙ (rw (← version_tag floors d.msg, ← version_bytes floors d.msg) back) in
     let kind : is_kind s.tag ≡ true = has_kind d.msg in
     let done : Letter → Result Letter WireFault = λ x. Ok x in
-    rw (first, kind, even, f.from, f.to, second) (ap done (same_datagram d))
+    let known : (eqb (version_of d.msg) 1 || eqb (version_of d.msg) 2) ≡ true = version_known floors in
+    let second_one : eqb (version_of d.msg) 2 ≡ floors = version_second floors in
+    let same : eqb (version_of d.msg) (version_of d.msg) ≡ true = version_same floors in
+    rw (first, known, kind, even, f.from, f.to, second_one, second, same) (ap done (same_datagram d))
 
 pub is_found : (bytes : List ℕ) (r : Result Letter WireFault) → IsBytes bytes → Decodes r (decoded bytes) → IfOk r (λ d. (bytes ≡ spelling d) × IsTrue (fits d))
 is_found bytes (Ok d) is_bytes given = decoded-takes bytes d is_bytes given

@@ -1,11 +1,11 @@
 -- Where faults of decoding lie.
 use Rattle.std.proofs.Common.{◌≡◌, ◌⊎◌, inl, inr, ℕ, ◌+◌, ◌-◌, ◌<◌, ◌≤◌, Bool, true, false, not, cond, ltb, eqb, List, [], ◌∷◌, length, Result, Ok, Err, refl, ap, subst, arith}
-use Rattle.std.specs.Prelude.{◌&&◌, nat_le, IfErr}
+use Rattle.std.specs.Prelude.{◌&&◌, ◌||◌, nat_le, IfErr}
 use Rattle.std.proofs.lemmas.Bool.{ltb-true}
 use Rattle.std.proofs.lemmas.List.{length-append}
 use Rattle.cx_wire.specs.Format.{Miss, u8, u16, by_tag}
 use Rattle.cx_wire.proofs.Laws.{IsBytes, u8-exact, by_tag-takes, by_tag-within, Takes-less}
-use Rattle.cx_msg.specs.Messages.{body_shape, body_cases}
+use Rattle.cx_msg.specs.Messages.{body_with, cases_with, version_of}
 use Rattle.cx_msg.specs.Letter.{Letter, is_kind, senders, receivers, is_listed, magic, header}
 use Rattle.cx_msg.specs.Decoding.{finished, after_header, with_header, decoded, Faults}
 use Rattle.cx_msg.specs.Records.{record_shape, record_cases, ended, with_tag, recorded, Decodes}
@@ -30,15 +30,19 @@ stopped false d e r h = inr h
 
 -- ---- datagrams
 
-finished_lies : (bytes : List ℕ) (h : Header) (body : List ℕ) (r : Result (Msg × List ℕ) Miss) (e : WireFault) → IsBytes body → length bytes ≡ 12 + length body → by_tag body_cases h.kind (length body) body ≡ r → finished (length bytes) h r ≡ Err e → LiesIn 4 bytes e
+version_lies : (bytes : List ℕ) (b : Bool) (n : ℕ) (d : Letter) (e : WireFault) → cond b (Ok d) (Err (faults.Version n)) ≡ Err e → LiesIn 4 bytes e
+version_lies bytes true n d e given = absurd cc
+version_lies bytes false n d e given = subst (λ (x : WireFault). LiesIn 4 bytes x) (fault_is {A = Letter} (faults.Version n) e _ refl given) tt
+
+finished_lies : (bytes : List ℕ) (h : Header) (body : List ℕ) (r : Result (Msg × List ℕ) Miss) (e : WireFault) → IsBytes body → length bytes ≡ 12 + length body → by_tag (cases_with (eqb h.version 2)) h.kind (length body) body ≡ r → finished (length bytes) h r ≡ Err e → LiesIn 4 bytes e
 unfolding finished
 finished_lies bytes h body (Err miss) e is_bytes len same given =
-    let le : miss.left ≤ length body = by_tag-within body_shape body_cases bodies-sound h.kind (length body) body miss is_bytes (omega arith) same in
+    let le : miss.left ≤ length body = by_tag-within (body_with (eqb h.version 2)) (cases_with (eqb h.version 2)) (bodies-sound (eqb h.version 2)) h.kind (length body) body miss is_bytes (omega arith) same in
     subst (λ (x : WireFault). LiesIn 4 bytes x) (fault_is {A = Letter} (faults.Field h.kind (length bytes - miss.left)) e _ refl given) (omega arith, omega arith)
-finished_lies bytes h body (Ok (m, [])) e is_bytes len same given = absurd cc
+finished_lies bytes h body (Ok (m, [])) e is_bytes len same given = version_lies bytes (eqb h.version (version_of m)) h.version _ e given
 finished_lies bytes h body (Ok (m, b ∷ rest)) e is_bytes len same given =
-    let t = by_tag-takes body_shape body_cases bodies-sound h.kind (length body) body (m, b ∷ rest) is_bytes same in
-    let le : length (b ∷ rest) ≤ length body = Takes-less body (body_shape m).bytes (b ∷ rest) t.0 in
+    let t = by_tag-takes (body_with (eqb h.version 2)) (cases_with (eqb h.version 2)) (bodies-sound (eqb h.version 2)) h.kind (length body) body (m, b ∷ rest) is_bytes same in
+    let le : length (b ∷ rest) ≤ length body = Takes-less body (body_with (eqb h.version 2) m).bytes (b ∷ rest) t.0 in
     subst (λ (x : WireFault). LiesIn 4 bytes x) (fault_is {A = Letter} (faults.Trailing (length bytes - length (b ∷ rest))) e _ refl given) (omega arith, omega arith)
 
 after_lies : (bytes : List ℕ) (h : Header) (body : List ℕ) (e : WireFault) → IsBytes body → length bytes ≡ 12 + length body → after_header (length bytes) h body ≡ Err e → LiesIn 4 bytes e
@@ -47,7 +51,7 @@ after_lies bytes h body e is_bytes len given =
     let lies : WireFault → Type 0 = λ x. LiesIn 4 bytes x in
     elim (stopped (not (eqb h.magic magic)) faults.Magic e _ given) [
       | inl here ↦ subst lies here.1 tt
-      | inr a ↦ elim (stopped (not (eqb h.version 1)) (faults.Version h.version) e _ a) [
+      | inr a ↦ elim (stopped (not (eqb h.version 1 || eqb h.version 2)) (faults.Version h.version) e _ a) [
         | inl here ↦ subst lies here.1 tt
         | inr b ↦ elim (stopped (not (is_kind h.kind)) (faults.Kind h.kind) e _ b) [
           | inl here ↦ subst lies here.1 tt
@@ -61,7 +65,7 @@ after_lies bytes h body e is_bytes len given =
                 | inl here ↦ subst lies here.1 (omega arith, omega arith)
                 | inr g ↦ elim (stopped (not (is_listed receivers h.kind h.to)) (faults.Field h.kind 7) e _ g) [
                   | inl here ↦ subst lies here.1 (omega arith, omega arith)
-                  | inr last ↦ finished_lies bytes h body (by_tag body_cases h.kind (length body) body) e is_bytes len refl last
+                  | inr last ↦ finished_lies bytes h body (by_tag (cases_with (eqb h.version 2)) h.kind (length body) body) e is_bytes len refl last
                 ]
               ]
             ]

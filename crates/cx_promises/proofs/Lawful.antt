@@ -21,8 +21,8 @@ lawful c es = record {
   commands_were_asked = one_list.commands_were_asked c es;
   order = λ then later e from to seq at reply told s before command stands unasked.
       one_list.order c then later from to seq at reply told s before command (rw (← e) stands) (λ b m. unasked (b, m));
-  read_values = λ from to seq n found told reader replica key asked.
-      (fresh_reads.in_the_list c es from to seq n found told, fresh_reads.value c es from to seq n found told reader replica key asked);
+  read_values = λ from to seq n found told floor reader replica key asked.
+      (fresh_reads.in_the_list c es from to seq n found told, fresh_reads.value c es from to seq n found told floor reader replica key asked);
   reads_after_answers = λ then later e from to seq at reply told t unasked by client n found is answer.
       fresh_reads.after_answers c then later from to seq at reply told t unasked by client n found is (rw (← e) answer);
   reads_after_reads = λ then later e from to seq m told answer t unasked by client n found is other.

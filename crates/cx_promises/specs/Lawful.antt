@@ -53,8 +53,8 @@ pub record IsLawful (c : Cluster) (es : List Event) : Type 0 where
       → (WasSent (run c then).events command → ⊥) → at ≤ s
   -- A read tells the text of its key after so many values of the list,
   pub read_values : (from to : RoleId) (seq n : ℕ) (found : Option (List ℕ)) → Member (letter from to (msg.ReadAnswer seq n found)) (run c es).sent
-      → (reader replica : ℕ) (key : List ℕ)
-      → Member {X = Happened} (record { event = event.Read to.index seq reader replica key; why = why.Sent }) (run c es).events
+      → (floor reader replica : ℕ) (key : List ℕ)
+      → Member {X = Happened} (record { event = event.Read to.index seq floor reader replica key; why = why.Sent }) (run c es).events
       → (n ≤ length (chosen_prefix (run c es).kept)) × (found ≡ text_at key (fold (take n (chosen_prefix (run c es).kept))))
   -- which hold all that was answered, to a command or to a read, before the read was first asked for.
   pub reads_after_answers : (then later : List Event) → es ≡ then ++ later
