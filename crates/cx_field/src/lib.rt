@@ -30,6 +30,3 @@ pub use put::{
 };
 pub use ranges::{found_fits, grid_fits, name_fits, op_fits, reply_fits};
 pub use reader::Reader;
-
-#[cfg(test)]
-mod tests;

@@ -39,8 +39,3 @@ pub use read_letters::{
     match_read, match_read_ack, pre_read, pre_read_ack, read, read_answer, read_req,
 };
 pub use records::{record_from, record_into};
-
-#[cfg(test)]
-mod tests;
-#[cfg(test)]
-mod vectors;

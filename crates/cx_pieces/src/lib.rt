@@ -7,6 +7,3 @@
 mod pieces;
 
 pub use pieces::Pieces;
-
-#[cfg(test)]
-mod tests;

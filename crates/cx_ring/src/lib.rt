@@ -12,6 +12,3 @@ mod told;
 pub use order::Slotted;
 pub use ring::Ring;
 pub use told::{Tells, Told};
-
-#[cfg(test)]
-mod tests;

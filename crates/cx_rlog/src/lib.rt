@@ -11,6 +11,3 @@ mod taken;
 
 pub use log::Log;
 pub use taken::Taken;
-
-#[cfg(test)]
-mod tests;

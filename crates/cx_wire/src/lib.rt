@@ -17,6 +17,3 @@ pub struct Short {
     pub need: usize,
     pub have: usize,
 }
-
-#[cfg(test)]
-mod tests;

@@ -1,11 +1,13 @@
+//! Datagrams and records, both ways, and what refuses them.
+
 ghost use Rattle.std.specs.Prelude.{◌≡◌, ◌≤◌, length, IfSome};
 
 use crate::vectors::ENTRIES;
-use crate::{
+use cx_base::{Duplicate, Kind, RoleId};
+use cx_msg::{
     Datagram, KeptRecord, Msg, Record, WireFault, body_into, decode, encode_into, phase2b,
     record_from, record_into,
 };
-use cx_base::{Duplicate, Kind, RoleId};
 use std::alloc::Global;
 use std::process::Abort;
 use std::test::Fail;

@@ -2,35 +2,48 @@
 
 ghost use Rattle.std.specs.Prelude.{◌≤◌, length};
 
-use crate::{Log, Taken};
 use cx_base::{Command, Duplicate, Few, Key, NoMemory, Op, Text, Value, copy_all, same_value};
+use cx_rlog::{Log, Taken};
 use std::alloc::Global;
+use std::process::Abort;
 use std::test::Fail;
 
-// One value is held; slots 2 and 32 wait, slot 33 is too far, and slot 1 brings slot 2 with it.
+// Where one value is held: slots 2 and 32 wait, and slot 33 is too far.
+const SLOTS: [(u64, Taken); 6] = [
+    (0, Taken::Past),
+    (2, Taken::Early),
+    (2, Taken::Early),
+    (32, Taken::Early),
+    (33, Taken::Full),
+    (1, Taken::Next),
+];
+
+fn take_slots(rt: &impl Abort, alloc: Global, log: &mut Log) -> Result<(), Fail> {
+    for (slot, taken) in &SLOTS {
+        let slot = *slot;
+        assert!(rt; slot < 64);
+        assert_eq!(rt; log.take(alloc, slot, &Value::Noop)?, *taken);
+    }
+    Ok(())
+}
+
+// How many values the next one brings, itself among them.
+fn hold_next(rt: &impl Abort, alloc: Global, log: &mut Log) -> Result<usize, Fail> {
+    assert_eq!(rt; log.held(), 1);
+    let values = log.ready(alloc, &Value::Noop)?;
+    let count = values.as_slice().len();
+    log.put(values);
+    Ok(count)
+}
+
+// The slots are taken in order: slot 1 brings slot 2 with it.
 #[test]
 fn takes_in_order(rt: HostRuntime) -> Result<(), Fail> {
     let alloc = rt.alloc();
-    let noop = Value::Noop;
     let mut log = Log::new(alloc)?;
     log.restore(alloc, &[Value::Noop])?;
-    let slots = [
-        (0, Taken::Past),
-        (2, Taken::Early),
-        (2, Taken::Early),
-        (32, Taken::Early),
-        (33, Taken::Full),
-        (1, Taken::Next),
-    ];
-    for (slot, taken) in &slots {
-        let slot = *slot;
-        assert!(rt; slot < 64);
-        assert_eq!(rt; log.take(alloc, slot, &noop)?, *taken);
-    }
-    assert_eq!(rt; log.held(), 1);
-    let values = log.ready(alloc, &noop)?;
-    assert_eq!(rt; values.as_slice().len(), 2);
-    log.put(values);
+    take_slots(&rt, alloc, &mut log)?;
+    assert_eq!(rt; hold_next(&rt, alloc, &mut log)?, 2);
     let copied = log.copy(alloc)?;
     assert_eq!(rt; copied.held(), 3);
     assert!(rt; copied.value(alloc, 2)?.is_some());

@@ -1,6 +1,6 @@
 //! Pieces of several lengths.
 
-use crate::Pieces;
+use cx_pieces::Pieces;
 use std::test::Fail;
 
 fn text_of(pieces: &Pieces, number: usize) -> &[u8] {

@@ -1,4 +1,6 @@
-use crate::{Short, put_u8, put_u16, put_u32, put_u64, take_u8, take_u16, take_u32, take_u64};
+//! Numbers on the wire.
+
+use cx_wire::{Short, put_u8, put_u16, put_u32, put_u64, take_u8, take_u16, take_u32, take_u64};
 use std::test::Fail;
 
 #[test]

@@ -1,4 +1,6 @@
-use crate::{
+//! Fields and lists of them, both ways, as another implementation writes them.
+
+use cx_field::{
     ReadFault, Reader, answers_from, commands_from, entries_from, found_from, grid_from,
     put_answers, put_commands, put_entries, put_found, put_grid, put_value, put_values, put_votes,
     round_from, slot_from, value_from, values_from, votes_from,

@@ -1,7 +1,7 @@
 //! A ring of pairs of a slot and a letter.
 
-use crate::{Ring, Slotted};
 use cx_base::{Duplicate, NoMemory};
+use cx_ring::{Ring, Slotted};
 use std::alloc::Global;
 use std::test::Fail;
 
