@@ -2,7 +2,7 @@
 //!
 //! The world and the node drive it through the trait `Role`. Its theorem is `Role`'s contract at
 //! `matchmaker_rules`: each step is the model's row, over any keeper, and `open` names exactly the
-//! first record that a matchmaker could not have appended.
+//! first record that isn't its own.
 #![tactic(auto)]
 
 mod entries;

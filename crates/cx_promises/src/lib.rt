@@ -1,9 +1,9 @@
 //! What every run is promised: agreement, one command list, fresh reads, safe retirement, announcement.
 //!
-//! The world, the replay and the node cite it. Its theorem is `runs_are_lawful`: all of these
-//! (`IsLawful`) hold of the run of each list of events over each cluster. `reads_are_fresh` and
-//! `retirement_is_safe` say two of them of all runs at once, cx_inv_vote, cx_inv_list and
-//! cx_inv_announce the others.
+//! The world, the replay and the node cite it. `reads_are_fresh` and `retirement_is_safe` say two of
+//! these of all runs at once, cx_inv_vote, cx_inv_list and cx_inv_announce the others. Its theorem
+//! is `runs_are_lawful`: all of them (`IsLawful`) hold of the run of each list of events over each
+//! cluster.
 #![tactic(auto)]
 
 ghost use Rattle.cx_model.specs.Promises.{FreshReads, SafeRetirement};

@@ -1,9 +1,8 @@
 //! Windows of slots: at most one value for each of 32 slots, found at once.
 //!
 //! A replica's log, the first phase, leaders and proxy leaders hold their slots in it. Its theorem
-//! is that a ring is the list of its values in the order in which their slots came, of which
-//! `Ring::get` gives the one of a slot. That list exists in proofs alone (`Told`) and takes no
-//! memory.
+//! is that a ring is the list of its values in the order in which their slots came (a list in proofs
+//! alone, `Told`), of which `Ring::get` gives the one of a slot.
 #![tactic(auto)]
 
 mod order;
