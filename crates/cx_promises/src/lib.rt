@@ -2,8 +2,8 @@
 //!
 //! The world, the replay and the node cite it. `reads_are_fresh` and `retirement_is_safe` say two of
 //! these of all runs at once, cx_inv_vote, cx_inv_list and cx_inv_announce the others. Its theorem
-//! is `runs_are_lawful`: all of them (`IsLawful`) hold of the run of each list of events over each
-//! cluster.
+//! is `runs_are_lawful`: all these promises (`IsLawful`) hold of the run of each list of events over
+//! each cluster.
 #![tactic(auto)]
 
 ghost use Rattle.cx_model.specs.Promises.{FreshReads, SafeRetirement};
