@@ -1,8 +1,8 @@
 //! The journal of a role: its records on a disk, which outlive a crash at any moment.
 //!
-//! Its theorem is that after an append answered with Ok every crash leaves the record; that a crash
-//! at any moment of an append leaves the records from before, or those and the one in flight; and
-//! that `open` gives exactly the records of the bytes, or the first break with its place.
+//! Its theorems are: after an append answered with Ok every crash leaves the record; a crash at any
+//! moment of an append leaves the records from before, or those and the one in flight; `open` gives
+//! exactly the records of the bytes, or the first break with its place.
 #![tactic(auto)]
 
 mod adding;

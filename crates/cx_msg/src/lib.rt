@@ -1,8 +1,8 @@
 //! Datagrams and records, and their bytes.
 //!
-//! Its theorem is that `decode` answers the one datagram that the bytes spell, or exactly the first
-//! test that they fail, and that `encode_into` appends that spelling, which begins no other
-//! datagram's (`one_spelling`). The same is proved of records.
+//! Its theorems are: `decode` answers the one datagram that the bytes spell, or exactly the first
+//! test that they fail; `encode_into` appends that spelling, which begins no other datagram's
+//! (`one_spelling`); `record_from` and `record_into` do the same for records.
 #![tactic(auto)]
 
 mod bodies;

@@ -1,8 +1,8 @@
 //! A leader's first phase: who has promised, and what is then proposed (VLDB 2021).
 //!
-//! `Slots` is the leader's window of slots. Its theorem is that an answer counts once, that the
-//! phase ends exactly when each live grid has a whole row, and that the plan is the model's: in each
-//! slot the value of the greatest round reported, or a no-op.
+//! `Slots` is the leader's window of slots. Its theorems are: an answer counts once; the phase ends
+//! exactly when each live grid has a whole row; the plan is the model's, in each slot the value of
+//! the greatest round reported, or a no-op.
 #![tactic(auto)]
 
 mod best;

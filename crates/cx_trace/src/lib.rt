@@ -1,8 +1,8 @@
 //! The text of a run: a line for each event, one for each datagram that it sends, and the summary.
 //!
-//! The replay and the node print by it. Its theorem is that each call appends exactly the text that
-//! its definition says, and that a printed event, list of datagrams, slot or replica is appended
-//! whole or not at all.
+//! The replay and the node print by it. Its theorems are: each call appends exactly the text that
+//! its definition says; a printed event, list of datagrams, slot or replica is appended whole or not
+//! at all.
 #![tactic(auto)]
 
 mod commands;
