@@ -1,9 +1,9 @@
 //! The program: `replay` runs a schedule, `gen` generated events, `node` roles over UDP and files.
 //!
-//! Its theorem is the contract of `top`: Done only with the whole text of the run written, and any
-//! other status with its cause and a prefix of that text. The run is lawful (`IsLawful`: agreement,
-//! one command list, fresh reads, safe retirement, announcement). A node binds, sends, keeps and
-//! prints exactly what the run of its roles says.
+//! Its theorem is the contract of `top`: Done only with the whole text of the run written, any other
+//! status with its cause and a prefix of it; the run is lawful (`IsLawful`: agreement, one command
+//! list, fresh reads, safe retirement, announcement); a node does exactly what the run of its roles
+//! says.
 #![tactic(auto)]
 
 #[cfg(test)]

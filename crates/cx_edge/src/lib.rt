@@ -1,9 +1,9 @@
 //! The outside: sources and sinks of bytes, links over UDP, stores in files, each also in memory.
 //!
 //! All that a program reads, writes, sends and stores goes through it; real sockets and files are
-//! only tested. Its theorems are: a call fails only where its count of failures rises, which it does
-//! at nothing else; in memory, and over readers and writers, what was read, written, sent (until a
-//! link lacks room) and stored is told exactly; `Lines` gives each line of a source.
+//! only tested. Its theorems are: a call fails only where its count of failures rises, which nothing
+//! else raises; what was read, written, sent (until a link lacks room) and stored is told exactly,
+//! except by sockets and files; `Lines` gives each line of a source.
 #![tactic(auto)]
 
 mod adapters;

@@ -1,8 +1,8 @@
 //! The fields of messages and records, written and read: rounds, grids, commands, values, lists.
 //!
 //! Its theorems are: what is appended is what the field's format spells; a reader answers what the
-//! format reads from the next bytes, or where the first bad field begins; each format is exact, so
-//! what it reads is spelled so, and what it spells is read again, whatever follows.
+//! format reads from the next bytes, or where the first bad field begins; each format is exact: what
+//! it reads is spelled so, and what it spells is read again.
 #![tactic(auto)]
 
 mod fault;

@@ -1,7 +1,7 @@
 //! The journal of a role: its records on a disk, which outlive a crash at any moment.
 //!
 //! Its theorems are: after an append answered with Ok every crash leaves the record; a crash at any
-//! moment of an append leaves the records from before, or those and the one in flight; `open` gives
+//! moment of one leaves the records from before, or those and the one in flight; `open` gives
 //! exactly the records of the bytes, or the first break with its place.
 #![tactic(auto)]
 

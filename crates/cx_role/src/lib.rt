@@ -1,8 +1,8 @@
 //! What a role is: the trait `Role`, and the outbox that takes what a role sends.
 //!
 //! The world and the node drive every role through it. Its theorem is the contract of `Role`, which
-//! each role's crate proves: a whole step is the row of the role's rules, over any keeper; one that
-//! is out of memory leaves everything as it was, and one whose append fails sends nothing.
+//! each role proves: a whole step is the row of its rules, over any keeper; a step that is out of
+//! memory leaves everything as it was, and one whose append fails sends nothing.
 #![tactic(auto)]
 
 mod keeping;

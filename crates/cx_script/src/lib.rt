@@ -1,9 +1,8 @@
 //! The language of inputs: the header's end, the events and requests of lines; generated events.
 //!
 //! Its theorems are: `line` answers exactly what the grammar says, the event or the first fault from
-//! the left; `read_schedule` and `read_requests` give exactly what stands before the first bad line,
-//! and its number; `Gen` makes the events of its sequence; all of these are valid for the world and
-//! the cluster (`spelled_events_are_taken` and its like).
+//! the left; `read_schedule` and `read_requests` stop exactly at the first bad line; `Gen` makes the
+//! events of its sequence; all of these are valid in their cluster.
 #![tactic(auto)]
 
 mod count;
