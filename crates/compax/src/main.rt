@@ -1,10 +1,9 @@
-//! The program: `compax replay` replays a recorded schedule, from standard input; `compax gen SEED COUNT` runs events that
-//! are made from a seed; `compax node ROLE..` hosts roles over UDP and files. What comes of the run goes to standard output.
+//! The program: `replay` runs a schedule, `gen` generated events, `node` roles over UDP and files.
 //!
-//! Stands on cx_replay and cx_node. Its theorem is the contract of `top`: Done only with the whole text of the run that was asked
-//! for on the sink, and every other status exactly by its cause. The run of a schedule is lawful: no slot has two chosen values,
-//! each replica holds the beginning of one command list, every answer is that list's, and reads are fresh. A node binds, sends
-//! and keeps what the run of its roles says.
+//! Its theorem is the contract of `top`: Done only with the whole text of the run written, any other
+//! status with its cause and a prefix of it; the run is lawful (`IsLawful`: agreement, one command
+//! list, fresh reads, safe retirement, announcement); a node does exactly what the run of its roles
+//! says.
 #![tactic(auto)]
 
 #[cfg(test)]

@@ -1,7 +1,9 @@
-//! The types that every layer speaks of: roles, rounds, grids, names, commands and replies, events, words and statuses.
+//! The types that every crate speaks of: roles, rounds, grids, names, commands, replies, events.
 //!
-//! Everything stands on this crate. Its definitions say when rounds come before each other, what a grid is, which command
-//! of a list acts, and what the commands that act leave in the map.
+//! Its definitions say which of two rounds is earlier, what a grid is, which command of a list takes
+//! effect, and what those commands leave in the map. Its theorems are the contracts of its
+//! functions: each answers what its definition says, and `Grid::new` exactly the first rule that a
+//! grid breaks.
 #![tactic(auto)]
 
 mod cluster;

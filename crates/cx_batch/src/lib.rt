@@ -1,7 +1,8 @@
 //! Batchers, which gather commands, and unbatchers, which send each client its own answer (VLDB 2021).
 //!
-//! Stands on the trait of roles; the world and the node run it. Its theorem: every datagram, order and tick is taken as the
-//! row of the model says, over any keeper, and neither kind keeps a record.
+//! The world and the node drive them through the trait `Role`. Its theorem is `Role`'s contract at
+//! `batcher_rules` and at `unbatcher_rules`: each step is the model's row, over any keeper, and
+//! neither keeps a record.
 #![tactic(auto)]
 
 mod batcher;

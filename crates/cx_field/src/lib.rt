@@ -1,10 +1,8 @@
-//! The fields of messages and records, both ways: numbers in their ranges, rounds, grids, names, commands, values, replies,
-//! entries, votes, and lists of them.
+//! The fields of messages and records, written and read: rounds, grids, commands, values, lists.
 //!
-//! Stands on the base types and on the formats of cx_wire; messages and records (cx_msg) stand on it. Its theorem: what a
-//! reader answers is what the field's format reads from the front of the bytes, or the place of the first bad field, and what
-//! is appended is what the format spells; each format is exact, so what it reads is spelled so, and what it spells is read
-//! again, whatever follows.
+//! Its theorems are: what is appended is what the field's format spells; a reader answers what the
+//! format reads from the next bytes, or where the first bad field begins; each format is exact: what
+//! it reads is spelled so, and what it spells is read again.
 #![tactic(auto)]
 
 mod fault;

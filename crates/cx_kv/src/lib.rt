@@ -1,8 +1,8 @@
-//! The key-value map of a replica, and the fold of commands.
+//! The key-value map of a replica, and what executing commands leaves in it.
 //!
-//! Replicas stand on its step, which leaves the map and gives the reply that the definitions of the fold name: `Store::apply`.
-//! Summaries of runs stand on the commands of values, one value behind another: `execute`, and `Executed`, which tells the commands
-//! that act without holding those before them.
+//! Its theorems are: `Store::apply` is one step of the fold of commands, with its reply; `execute`
+//! does those commands of a value that take effect after others, which `Executed` tells without
+//! holding all of these.
 #![tactic(auto)]
 
 mod acting;

@@ -1,9 +1,9 @@
-//! A node: hosted roles that take datagrams of a link, and keep their records in journals.
+//! A node: hosted roles that take datagrams from a link and keep their records in journals.
 //!
-//! Stands on the role crates, on clients, journals and what is outside; the program stands on it. Its theorem is the contract
-//! of `serve`: what was bound, sent, kept and printed is exactly the node's run over what the link gave, or a front of it where
-//! something failed; each status comes by its cause, and every store is given back. And `stops_are_crashes`: what a node that
-//! is stopped at any write leaves is the journal of a run of the model in which that role crashed there.
+//! Its theorems are the contract of `serve`: what was bound, sent, kept and printed is exactly the
+//! node's run over what the link gave, or a prefix of it and a status that says why; and
+//! `stops_are_crashes`: a crash at any moment of an append leaves the journal of a run in which that
+//! role crashed there.
 #![tactic(auto)]
 
 mod acting;

@@ -1,8 +1,8 @@
-//! The plain programs of what the others read and hold in another form.
+//! The obvious forms of what other crates read or hold in a faster one.
 //!
-//! Stands on cx_replay; nothing stands on it. Its theorem is the contract of `replay_whole`: an input that is read whole, then run,
-//! and then written gives the text that `replay` writes line by line. The tests run both, and beside lists what holds them
-//! otherwise.
+//! Its tests run both forms of a replay, and plain lists beside histories, windows of slots and a
+//! first phase. Its theorem is the contract of `replay_whole`: an input that is read whole, then
+//! run, then written gives the text that `replay` writes line by line.
 #![tactic(auto)]
 
 mod ending;

@@ -1,7 +1,7 @@
-//! Proxy leaders, which ask a column of acceptors for votes and announce what is chosen (VLDB 2021).
+//! Proxy leaders: they ask a column of acceptors for votes, and announce what is chosen (VLDB 2021).
 //!
-//! Stands on the trait of roles, on grids and on rings; the world and the node run it. Its theorem: every datagram, order and tick is
-//! taken as the row of the model says, over any keeper, and a proxy leader keeps no record.
+//! The world and the node drive them through the trait `Role`. Its theorem is `Role`'s contract at
+//! `proxy_rules`: each step is the model's row, over any keeper, and a proxy leader keeps no record.
 #![tactic(auto)]
 
 mod pendings;

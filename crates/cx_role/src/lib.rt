@@ -1,8 +1,8 @@
-//! What a role is, and where it puts what it sends.
+//! What a role is: the trait `Role`, and the outbox that takes what a role sends.
 //!
-//! Stands on the model and the keepers; each role crate stands on it, and the world and the node drive roles through it
-//! alone. Its law is the contract of `Role`: a whole step is the row of the role's rules over any keeper, want of memory
-//! leaves everything as it was, and a failed append sends nothing.
+//! The world and the node drive every role through it. Its theorem is the contract of `Role`, which
+//! each role proves: a whole step is the row of its rules, over any keeper; a step that is out of
+//! memory leaves everything as it was, and one whose append fails sends nothing.
 #![tactic(auto)]
 
 mod keeping;

@@ -1,7 +1,8 @@
-//! The client table of a replica: the last number and answer of each client.
+//! A replica's client table: the last number and answer of each client.
 //!
-//! Replicas and batchers stand on it. It tells a new number from the last one, which is answered again, and from a past one:
-//! `Table::judge`.
+//! Only replicas use it. Its theorems are: `Table::judge` tells exactly whether a number is new, the
+//! client's last one (which is answered again) or past; `Table::note` puts an answer in the place of
+//! the client's earlier one.
 #![tactic(auto)]
 
 mod judge;

@@ -1,7 +1,8 @@
 //! The text of a run: a line for each event, one for each datagram that it sends, and the summary.
 //!
-//! Stands on the base types, the datagrams and the key-value map; the world's replay and the node print by it. Its theorem:
-//! each call appends exactly the text that its definition names, or want of memory appends nothing.
+//! The replay and the node print by it. Its theorems are: each call appends exactly the text that
+//! its definition says; a printed event, list of datagrams, slot or replica is appended whole or not
+//! at all.
 #![tactic(auto)]
 
 mod commands;

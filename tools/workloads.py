@@ -1,0 +1,232 @@
+#!/usr/bin/env python3
+"""Writes an input that is too large to be stored:  tools/workloads.py NAME SIZE
+
+Schedules of SIZE lines after the header:
+
+    puts        one put after another is carried to its answer, in a cluster of one of each role
+    crowd       the same by 64 clients in turn, each put to a key of its own
+    reads       one put, then nine reads, and so on
+    changes     puts, with four acceptors; after each fourth the leader changes its grid and retires the round before
+    ticks       a proxy leader ticks that waits for nothing
+
+Schedules of another form:
+
+    log         a log of SIZE values; then the roles with records crash and are opened again, ten times, and a put is answered
+    header      a header of SIZE bytes, and nothing else
+    line        one event, in a line of SIZE bytes
+    requests    SIZE puts of one client, for a node
+
+Journals of a cluster of one of each role in which the first SIZE slots are chosen, with one command each:
+
+    leader, matchmaker, acceptor, replica
+    informed    of an acceptor that has no votes, and was told that they are chosen
+    longest     of a replica whose log has them in records of 32 values, with eight commands of the greatest size each
+"""
+import itertools
+import struct
+import sys
+
+KEYS = ("f", "leaders", "proxies", "acceptors", "replicas", "batchers", "unbatchers", "readers", "clients", "batch")
+
+
+def header(**counts):
+    """A cluster with one of each role, but for these counts."""
+    return [*(f"{key} = {counts.get(key, int(key != 'f'))}" for key in KEYS), "---"]
+
+
+def delivered(*numbers):
+    return [f"deliver {number}" for number in numbers]
+
+
+def led(grid="1x1 0"):
+    """The leader begins the first round and tells the batcher: datagrams 0 to 2."""
+    return [f"lead leader:0 {grid}", *delivered(0, 1, 2)]
+
+
+def carried(n, command):
+    """A command is carried to its answer, and the leader is told that its replica has it: datagrams n to n + 9.
+
+    They are Submit, Batch, Propose, Phase2A, Phase2B, Chosen, ChosenIn, Results, Answer and Held."""
+    return [command, *delivered(*range(n, n + 6), n + 7), "tick replica:0", *delivered(n + 9)]
+
+
+def put(at, clients=1, key=None):
+    """The put with this place in a workload."""
+    return f"write client:{at % clients} {at // clients + 1} batcher:0 put {key or f'k{at % 8}'} v{at % 10}"
+
+
+def puts():
+    yield from led()
+    for at in itertools.count():
+        yield from carried(3 + 10 * at, put(at))
+
+
+def crowd():
+    yield from led()
+    for at in itertools.count():
+        yield from carried(3 + 10 * at, put(at, clients=64, key=f"key-{at}"))
+
+
+def asked(n, read):
+    """A read is carried to its answer: datagrams n to n + 6, from ReadReq to ReadAnswer."""
+    return [read, *delivered(*range(n, n + 6))]
+
+
+def reads():
+    yield from led()
+    n = 3
+    for number in itertools.count(1):
+        if number % 10 == 1:
+            yield from carried(n, f"write client:0 {number} batcher:0 put k{number % 8} v{number}")
+            n += 10
+        else:
+            yield from asked(n, f"read client:0 {number} reader:0 replica:0 k{number % 8}")
+            n += 7
+
+
+def carried_by_column(n, command):
+    """`carried` where a column has two acceptors: datagrams n to n + 11, of which two are Phase2A and two Phase2B."""
+    return [command, *delivered(*range(n, n + 8), n + 9), "tick replica:0", *delivered(n + 11)]
+
+
+def changed(n, grid):
+    """The leader begins its next round with a grid of the same four acceptors: datagrams n to n + 8.
+
+    They are MatchA, MatchB, four Phase1A, the Phase1B of acceptors 0 and 1, which are a row, and Leads."""
+    return [f"change leader:0 {grid}", *delivered(n, n + 1, n + 2, n + 3, n + 6, n + 7, n + 8)]
+
+
+def retired(n):
+    """It retires all earlier rounds: datagrams n to n + 7.
+
+    They are four Inform, the Informed of acceptors 0 and 2, which are a column, GarbageA and GarbageB."""
+    return ["collect leader:0", *delivered(n, n + 2, n + 4, n + 5, n + 6, n + 7)]
+
+
+def changes():
+    grids = itertools.cycle(("2x2 0,1,2,3", "2x2 3,2,1,0"))
+    yield from led(next(grids))
+    n = 3
+    for at in itertools.count():
+        yield from carried_by_column(n, put(at))
+        n += 12
+        if at % 4 == 3:
+            yield from [*changed(n, next(grids)), *retired(n + 9)]
+            n += 17
+
+
+def ticks():
+    return itertools.repeat("tick proxy:0")
+
+
+def log(size):
+    """The one Batch, datagram 4, is delivered for each slot. Then come Propose, Phase2A, Phase2B, Chosen, ChosenIn and Results; at
+    each sixteenth slot the leader is told how many the replica has."""
+    yield from [*led(), put(0), *delivered(3)]
+    n = 5
+    for slot in range(size):
+        yield from delivered(4, n, n + 1, n + 2, n + 3)
+        n += 6
+        if slot % 16 == 15 or slot == size - 1:
+            yield from ["tick replica:0", *delivered(n)]
+            n += 1
+    for _ in range(10):
+        for role in ("acceptor:0", "match:0", "replica:0"):
+            yield from [f"crash {role}", f"restart {role}"]
+    yield from carried(n, put(1))
+
+
+def long_header(size):
+    """Its last line but one is a comment."""
+    lines = header()
+    comment = size - sum(len(line) + 1 for line in lines[:-1]) - 1
+    return [*lines[:-1], "#" * comment, lines[-1]]
+
+
+def long_line(size):
+    return [*header(), "deliver ".ljust(size, "0")]
+
+
+def requests(size):
+    return [*header()[:-1], "base_port = 23890", "---", *map(put, range(size))]
+
+
+SCHEDULES = {
+    "puts": lambda size: [*header(), *itertools.islice(puts(), size)],
+    "crowd": lambda size: [*header(clients=64), *itertools.islice(crowd(), size)],
+    "reads": lambda size: [*header(), *itertools.islice(reads(), size)],
+    "changes": lambda size: [*header(acceptors=4), *itertools.islice(changes(), size)],
+    "ticks": lambda size: [*header(), *itertools.islice(ticks(), size)],
+    "log": lambda size: [*header(), *log(size)],
+    "header": long_header,
+    "line": long_line,
+    "requests": requests,
+}
+
+ROUND = struct.pack(">IHI", 1, 0, 0)
+GRID = struct.pack(">BBH", 1, 1, 0)
+
+
+def spelled(text):
+    return bytes([len(text)]) + text.encode()
+
+
+def command(number, key, text):
+    """Client 0 puts."""
+    return struct.pack(">HQB", 0, number, 1) + spelled(key) + spelled(text)
+
+
+def value(*commands):
+    return bytes([1, len(commands)]) + b"".join(commands)
+
+
+def value_at(slot):
+    return value(command(slot + 1, f"k{slot % 8}", f"v{slot % 10}"))
+
+
+def long_value_at(slot):
+    """Eight commands, each with a key of 32 bytes and a text of 64."""
+    return value(*(command(8 * slot + at + 1, f"key-{at}".ljust(32, "-"), f"{slot}".rjust(64, "0")) for at in range(8)))
+
+
+def journal(records):
+    """Each record after an open gate and its length, then a closed gate."""
+    return b"".join(b"\1" + struct.pack(">I", len(record)) + record for record in records) + b"\0"
+
+
+def votes(size):
+    """The votes of the first round. With each goes what the acceptor is told: how many slots are chosen and held."""
+    for slot in range(size):
+        yield b"\2" + ROUND + struct.pack(">QQ", slot, slot - slot % 16) + value_at(slot)
+
+
+def long_records(size):
+    for first in range(0, size, 32):
+        slots = range(first, min(first + 32, size))
+        yield bytes([7, len(slots)]) + b"".join(map(long_value_at, slots))
+
+
+JOURNALS = {
+    "leader": lambda size: [b"\6" + ROUND + GRID],
+    "matchmaker": lambda size: [b"\4" + ROUND + GRID],
+    "acceptor": votes,
+    "replica": lambda size: (b"\7\1" + value_at(slot) for slot in range(size)),
+    "informed": lambda size: [b"\3" + ROUND + struct.pack(">Q", size)],
+    "longest": long_records,
+}
+
+
+def written(name, size):
+    if name in JOURNALS:
+        return journal(JOURNALS[name](size))
+    return "".join(f"{line}\n" for line in SCHEDULES[name](size)).encode()
+
+
+def main(words):
+    if len(words) != 2 or words[0] not in {*SCHEDULES, *JOURNALS} or not words[1].isdecimal():
+        sys.exit(__doc__)
+    sys.stdout.buffer.write(written(words[0], int(words[1])))
+
+
+if __name__ == "__main__":
+    main(sys.argv[1:])
