@@ -111,9 +111,14 @@ class RunsTest(unittest.TestCase):
         self.store("one", {"stdout.sha256": found[:-1] + ("1" if found[-1] == "0" else "0") + "\n"})
         self.fails("stdout has another SHA-256")
 
-    def test_missing_file_after_a_run(self):
+    def test_files_after_a_run(self):
         self.store("one", {**ONE, "left/journal": ""})
-        self.fails("journal isn't there")
+        self.fails("journal is missing after the run")
+        self.store("one", {"left/.nothing": ""})
+        (self.runs / "one" / "left" / "journal").unlink()
+        self.passes(1)
+        (self.runs / "one" / "left" / "log").unlink()
+        self.fails("log is there after the run")
 
     def test_input_from_elsewhere(self):
         self.store("one", ONE)

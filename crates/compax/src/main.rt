@@ -16,32 +16,10 @@ mod failing;
 mod fault_tests;
 #[cfg(test)]
 mod foreign_tests;
-#[cfg(test)]
-mod generated;
-#[cfg(test)]
-mod later_rounds;
-#[cfg(test)]
-mod limits;
 mod line;
-#[cfg(test)]
-mod node_tests;
-#[cfg(test)]
-mod one_round;
-#[cfg(test)]
-mod outside_tests;
-#[cfg(test)]
-mod pieces;
-#[cfg(test)]
-mod refusals;
 mod roles;
-#[cfg(test)]
-mod shipped;
-#[cfg(test)]
-mod tests;
 mod top;
 mod words;
-#[cfg(test)]
-mod worked;
 
 use crate::line::write_line;
 use crate::top::top;
