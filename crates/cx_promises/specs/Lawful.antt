@@ -7,8 +7,27 @@ use Rattle.cx_msg.specs.declared.input.KeptRecord.{KeptRecord}
 use Rattle.cx_model.specs.Chosen.{is_chosen, chosen_prefix}
 use Rattle.cx_model.specs.Member.{Begins}
 use Rattle.cx_model.specs.Promises.{
-  OfEveryRun, Agreement, ListIsChosen, ReplicasHoldIt, ListGrows, MapsAreFolds, TablesAreFolds, NoneActsTwice, AnswersAreRight, ResultsAreRight, CommandsWereAsked,
-  OrderIsKept, ReadsAreRight, ReadsAreOfTheirReplica, ReadsComeAfterAnswers, ReadsComeAfterReads, ChosenBelow, HeldBelow, RoundsAskLater, ReadsAskLater, Announces,
+  OfEveryRun,
+  Agreement,
+  ListIsChosen,
+  ReplicasHoldIt,
+  ListGrows,
+  MapsAreFolds,
+  TablesAreFolds,
+  NoneActsTwice,
+  AnswersAreRight,
+  ResultsAreRight,
+  CommandsWereAsked,
+  OrderIsKept,
+  ReadsAreRight,
+  ReadsAreOfTheirReplica,
+  ReadsComeAfterAnswers,
+  ReadsComeAfterReads,
+  ChosenBelow,
+  HeldBelow,
+  RoundsAskLater,
+  ReadsAskLater,
+  Announces,
 }
 use Rattle.cx_model.specs.World.{run, log_of}
 
