@@ -1,7 +1,7 @@
 //! A node: hosted roles that take datagrams from a link and keep their records in journals.
 //!
 //! Its theorems are the contract of `serve`: what was bound, sent, kept and printed is exactly the
-//! node's run over what the link gave, or a prefix of it and a status that says why; and
+//! node's run over what the link gave, or a prefix of each and a status that says why; and
 //! `stops_are_crashes`: a crash at any moment of an append leaves the journal of a run in which that
 //! role crashed there.
 #![tactic(auto)]

@@ -1,7 +1,7 @@
 //! What every run is promised: agreement, one command list, fresh reads, safe retirement, announcement.
 //!
 //! The world, the replay and the node cite it; the law crates prove its sentences, each in one of
-//! them. Its theorem is `runs_are_lawful`: all of them (`IsLawful`) hold of the run of each list of
+//! them. Its theorem is `runs_are_lawful`: all promises (`IsLawful`) hold of the run of each list of
 //! events over each cluster.
 #![tactic(auto)]
 
