@@ -9,8 +9,6 @@ mod acceptor;
 mod informing;
 mod promising;
 mod records;
-#[cfg(test)]
-mod tests;
 mod votes;
 mod voting;
 

@@ -8,8 +8,6 @@
 mod client;
 mod law;
 mod sending;
-#[cfg(test)]
-mod tests;
 
 pub use client::{Client, Taken};
 pub use law::{clients_stay, completes_once, sends_are_own};

@@ -7,8 +7,6 @@
 mod fault;
 mod header;
 mod key;
-#[cfg(test)]
-mod tests;
 
 pub use fault::{ClusterFault, UnknownKey};
 pub use header::read;

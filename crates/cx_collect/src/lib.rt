@@ -6,7 +6,5 @@
 #![tactic(auto)]
 
 mod collector;
-#[cfg(test)]
-mod tests;
 
 pub use collector::Collector;

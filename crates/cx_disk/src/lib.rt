@@ -9,8 +9,6 @@ mod crash;
 mod disk;
 mod making;
 mod memory;
-#[cfg(test)]
-mod tests;
 
 pub use crash::Unsynced;
 pub use disk::{Disk, Failed};

@@ -1,6 +1,6 @@
 mod DeskLaws
 mod FileLaws
-mod HeldLaws
+pub mod HeldLaws
 mod LineLaws
 mod NotesLaws
 mod SlotLaws

@@ -9,18 +9,12 @@
 mod adapters;
 mod counted_disk;
 mod depot;
-#[cfg(test)]
-mod depot_tests;
 mod desk;
 mod file_depot;
 mod file_disk;
 mod in_pieces;
 mod lines;
-#[cfg(test)]
-mod lines_tests;
 mod link;
-#[cfg(test)]
-mod link_tests;
 mod mem_depot;
 mod mem_link;
 mod memory;
@@ -31,8 +25,6 @@ mod sink;
 mod slot;
 mod slots;
 mod source;
-#[cfg(test)]
-mod tests;
 mod udp_link;
 
 pub use adapters::{ReaderSource, WriterSink};

@@ -17,6 +17,3 @@ mod stale;
 pub use events::Events;
 pub use kept::Kept;
 pub use sent::Sent;
-
-#[cfg(test)]
-mod tests;

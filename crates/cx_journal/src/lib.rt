@@ -15,6 +15,3 @@ mod split;
 
 pub use image::Found;
 pub use journal::Journal;
-
-#[cfg(test)]
-mod tests;

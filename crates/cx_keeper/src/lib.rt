@@ -12,6 +12,3 @@ mod records;
 pub use keeper::{KeepFault, Keeper, OpenFault};
 pub use mem_keeper::MemKeeper;
 pub use records::Records;
-
-#[cfg(test)]
-mod tests;

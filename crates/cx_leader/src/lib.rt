@@ -18,8 +18,6 @@ mod refusing;
 mod retiring;
 mod rounds;
 mod sending;
-#[cfg(test)]
-mod tests;
 mod ticks;
 
 pub use leader::Leader;

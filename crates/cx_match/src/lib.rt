@@ -9,7 +9,5 @@ mod entries;
 mod matchmaker;
 mod records;
 mod rows;
-#[cfg(test)]
-mod tests;
 
 pub use matchmaker::Matchmaker;

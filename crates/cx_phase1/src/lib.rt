@@ -10,8 +10,6 @@ mod phase1;
 mod planning;
 mod promises;
 mod slots;
-#[cfg(test)]
-mod tests;
 mod told;
 
 pub use phase1::Phase1;

@@ -6,12 +6,6 @@
 #![tactic(auto)]
 
 mod ending;
-#[cfg(test)]
-mod request_tests;
-#[cfg(test)]
-mod tests;
 mod whole;
-#[cfg(test)]
-mod window_tests;
 
 pub use whole::replay_whole;

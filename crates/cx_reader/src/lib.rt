@@ -12,6 +12,3 @@ mod reads;
 mod rows;
 
 pub use reader::Reader;
-
-#[cfg(test)]
-mod tests;

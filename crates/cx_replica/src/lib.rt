@@ -12,6 +12,3 @@ mod replica;
 mod sending;
 
 pub use replica::Replica;
-
-#[cfg(test)]
-mod tests;

@@ -17,8 +17,6 @@ mod lines;
 mod place;
 mod requests;
 mod split;
-#[cfg(test)]
-mod tests;
 mod unended;
 mod words;
 
