@@ -51,7 +51,7 @@ impl<N: Net> UdpLink<N> {
     /// The link with no role bound and room for so many. All memory is taken here, none by a call.
     pub fn new(alloc: Global, net: N, room: usize) -> Result<Self, NoMemory>
     where
-        N: Net + Drop,
+        N: Drop,
         ensures { IfOk result (λ link. link ≡ record { faults = 0; losses = 0 }) }
     {
         // Without a poll, as where the system has no more file descriptors, each bind fails.
