@@ -6,26 +6,16 @@
 # much of a processor four processes take that nobody asks anything, and, where `etcd` is installed (Debian's etcd-server), what
 # three of its members do for as many clients.
 #
-# Use: bench/node.sh [-s SECONDS] [-d FOLDER] [WORD..]
+# Use: [TIME=SECONDS] [FOLDER=PATH] [PROGRAM=PATH] bench/node.sh [WORD..]
 #
-# Each line takes SECONDS (3 where none are given). Journals lie in FOLDER, so its disk is measured; /dev/shm has none. The words are
-# passed to each node. The program must have been built, by `rt run` in crates/compax or by `rt ci`'s checks there;
-# PROGRAM=FILE names another one.
+# The words, as `--tend 1024`, are passed to each node. Each line takes TIME, 3 seconds where it isn't given. Journals lie in FOLDER, so
+# its disk is measured; /dev/shm has none. Without PROGRAM the program must have been built, by `rt run` in crates/compax or by
+# `rt ci`'s checks there.
 set -euo pipefail
-
-seconds=3 folder=${TMPDIR:-/tmp}
-while getopts s:d: option; do
-    case $option in
-        s) seconds=$OPTARG ;;
-        d) folder=$OPTARG ;;
-        *) exit 2 ;;
-    esac
-done
-shift $((OPTIND - 1))
 
 load=$(cd "$(dirname "$0")" && pwd)/load.py
 program=${PROGRAM:-$(cd "$(dirname "$0")/../crates/compax" && pwd)/out/compax}
-measure() { "$load" --seconds "$seconds" --folder "$folder" "$@"; }
+measure() { "$load" --seconds "${TIME:-3}" --folder "${FOLDER:-${TMPDIR:-/tmp}}" "$@"; }
 
 measure idle "$program" "$@"
 for clients in 1 4 16 64; do
