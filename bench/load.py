@@ -142,7 +142,7 @@ def compax(args, folder):
         ended = time.monotonic()
         spent = sum(processor_time(process) for process in running)
     count = max(times.count, 1)
-    what = f"compax, {args.layout:4}, {clients:2} clients, batch {args.batch}"
+    what = f"compax in {args.layout:>4}, {clients:2} clients, batch {args.batch}"
     return (f"{what}: {times.line(ended, spent, clients)}, "
             f"slots {slots / count:6.2f} and syncs {2 * records(folder) / count:7.2f} a command")
 
