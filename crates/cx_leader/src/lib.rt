@@ -18,6 +18,7 @@ mod refusing;
 mod retiring;
 mod rounds;
 mod sending;
+mod tending;
 mod ticks;
 
 pub use leader::Leader;
