@@ -1,9 +1,10 @@
-"""A cluster's header: its roles, their ports, and how they are spread over processes."""
+"""A cluster's header: its roles, their ports, and how they are spread over processes; and where the program is."""
 
 import functools
 import os
 import pathlib
 import re
+import socket
 import tomllib
 from collections.abc import Mapping
 from dataclasses import dataclass
@@ -36,6 +37,16 @@ def program() -> pathlib.Path:
     if named:
         raise Unusable(f"COMPAX names {named}, which is no program")
     raise Unusable("there is no program yet: tools/build makes one without proofs, .ci/run a proved one")
+
+
+def taken(port: int) -> str | None:
+    """Why a UDP port of the loopback can't be had; None where it can."""
+    with socket.socket(socket.AF_INET, socket.SOCK_DGRAM) as it:
+        try:
+            it.bind(("127.0.0.1", port))
+        except OSError as error:
+            return error.strerror
+    return None
 
 
 @dataclass(frozen=True)
