@@ -4,6 +4,7 @@ import itertools
 import pathlib
 import random
 import re
+import socket
 import subprocess
 import time
 from collections.abc import Iterator, Sequence
@@ -54,8 +55,8 @@ def ways(header: Header) -> Iterator[Way]:
 class Asker:
     """Gets an answer to one command, at the latest after so many seconds.
 
-    A client's numbers must rise, and a repeated number acts once. So a number is the time in nanoseconds at which its client's port was
-    first had, and stays; nothing has to be stored.
+    A client's numbers must rise, and a repeated number acts once. So a command has its client for itself until it ends, and its number
+    is the time in nanoseconds at which it got the client; nothing has to be stored.
     """
 
     def __init__(self, program: pathlib.Path, header: Header, command: Command, seconds: float) -> None:
@@ -68,8 +69,33 @@ class Asker:
     def left(self) -> float:
         return max(0.0, self.until - time.monotonic())
 
+    def held(self, client: int) -> socket.socket | None:
+        """Holds a client for as long as this socket is open; None where another command or program has it."""
+        port = self.header.port(Role("client", client))
+        holder = socket.socket(socket.AF_UNIX, socket.SOCK_DGRAM)
+        try:
+            holder.bind(f"\0compax-client-{port}")     # a name that is gone with the socket, and is no file
+            if not taken(port):
+                return holder
+        except OSError:
+            pass
+        holder.close()
+        return None
+
+    def first_free(self, clients: Sequence[int]) -> tuple[int, socket.socket]:
+        """The first of these clients that is free, held. It is waited for."""
+        for client in itertools.cycle(clients):
+            holder = self.held(client)
+            if holder:
+                return client, holder
+            if not self.left():
+                break
+            if client == clients[-1]:
+                time.sleep(PAUSE)
+        raise Unusable(f"{of_clients(clients)} taken for {self.seconds:g} s, by other commands or other programs", PORT_TAKEN)
+
     def node(self, client: int, number: int, way: Way, wait: float) -> tuple[int, str, str]:
-        """What a node that asks once gives: its status, and what it wrote to both streams."""
+        """What a node gives that asks one way: its status, and what it wrote to both streams."""
         words = [str(self.program), "node", "--turns", str(max(1000, int(TURNS_A_SECOND * wait))), "--tend", "1024", f"client:{client}"]
         given = f"{self.header.input}{self.command.line(client, number, way)}\n"
         try:
@@ -78,44 +104,27 @@ class Asker:
             return UNANSWERED, "", ""
         return ran.returncode, ran.stdout, ran.stderr
 
-    def begin(self, clients: Sequence[int], way: Way) -> tuple[int, int, str | None]:
-        """Asks as the first of these clients whose port is free, for which it waits. Gives the client, its number, and the answer."""
-        for client in itertools.cycle(clients):
-            if not taken(self.header.port(Role("client", client))):
-                number = time.time_ns()
-                status, out, said = self.node(client, number, way, min(FIRST_WAIT, self.left()))
-                if status != PORT_TAKEN:
-                    return client, number, self.answer(status, out, said)
-            if not self.left():
-                break
-            if client == clients[-1]:
-                time.sleep(PAUSE)
-        whose = f"the port of client:{clients[0]} was" if len(clients) == 1 else "the ports of all clients were"
-        raise Unusable(f"{whose} taken for {self.seconds:g} s, by other commands or other programs", PORT_TAKEN)
-
-    def answer(self, status: int, out: str, said: str) -> str | None:
-        """The answer in words; None where there is none yet."""
-        found = ANSWER.fullmatch(out)
-        if found:
-            return found[1]
-        if status in (PORT_TAKEN, UNANSWERED):
-            return None
-        raise Unusable(f"the node ended with status {status}: {said.strip() or 'it said nothing'}")
-
     def ask(self, clients: Sequence[int]) -> str:
-        """Asks by one way after another until there is an answer."""
-        by = ways(self.header)
-        client, number, answer = self.begin(clients, next(by))
-        wait = FIRST_WAIT
-        while answer is None and self.left():
-            wait *= 2
-            status, out, said = self.node(client, number, next(by), min(wait, self.left()))
-            answer = self.answer(status, out, said)
-            if status == PORT_TAKEN:
-                time.sleep(PAUSE)
-        if answer is None:
-            raise Unusable(f"nothing answered within {self.seconds:g} s; the command may act or not", UNANSWERED)
-        return answer
+        """Asks one way after another until there is an answer."""
+        client, holder = self.first_free(clients)
+        with holder:
+            number, wait = time.time_ns(), FIRST_WAIT
+            for way in ways(self.header):
+                status, out, said = self.node(client, number, way, min(wait, self.left()))
+                found = ANSWER.fullmatch(out)
+                if found:
+                    return found[1]
+                if status not in (PORT_TAKEN, UNANSWERED):
+                    raise Unusable(f"the node ended with status {status}: {said.strip() or 'it said nothing'}")
+                if not self.left():
+                    break
+                time.sleep(PAUSE if status == PORT_TAKEN else 0)
+                wait *= 2
+        raise Unusable(f"nothing answered within {self.seconds:g} s; the command may act or not", UNANSWERED)
+
+
+def of_clients(clients: Sequence[int]) -> str:
+    return f"the port of client:{clients[0]} was" if len(clients) == 1 else "the ports of all clients were"
 
 
 def ask(program: pathlib.Path, header: Header, command: Command, clients: Sequence[int], seconds: float) -> str:

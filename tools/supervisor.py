@@ -25,7 +25,7 @@ TURNS = 1_000_000_000           # the most that a node makes
 TEND = 1024
 LONG_RUN = 10.0                 # seconds
 FIRST_PAUSE, LONGEST_PAUSE = 0.2, 10.0
-LOOK = 5.0                      # seconds between looks whether the folder is still there
+LOOK = 1.0                      # seconds between looks whether the folder is still there
 HEADER, ROLES, LOG, STATE = "header.toml", "roles", "log", "state.json"
 
 

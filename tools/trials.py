@@ -1,9 +1,11 @@
 """What the tests of tools/kv and tools/cluster share: a cluster in a folder of its own, which is gone after the test."""
 
 import contextlib
+import functools
 import importlib.machinery
 import importlib.util
 import io
+import os
 import pathlib
 import tempfile
 import time
@@ -14,10 +16,12 @@ from collections.abc import Callable
 from headers import Header, header_of, program, read_header
 
 TOOLS = pathlib.Path(__file__).resolve().parent
+MEMORY = "/dev/shm" if os.access("/dev/shm", os.W_OK) else None        # no test rests on how fast a disk syncs
 LONGEST = 60.0                          # seconds for what takes a second on a quiet machine
 SMALL = "f = 0\nleaders = 1\nproxies = 1\nacceptors = 1\nreplicas = 1\nbatchers = 1\nunbatchers = 1\nreaders = 1\nclients = 8\nbatch = 1\n"
 
 
+@functools.cache
 def tool_of(name: str) -> types.ModuleType:
     """A tool as a module: its file has no ending."""
     loader = importlib.machinery.SourceFileLoader(f"tool_{name}", str(TOOLS / name))
@@ -53,7 +57,7 @@ class Trial(unittest.TestCase):
 
     def setUp(self) -> None:
         program()                       # without it no test says anything
-        self.room = pathlib.Path(self.enterContext(tempfile.TemporaryDirectory(prefix="compax-trial-")))
+        self.room = pathlib.Path(self.enterContext(tempfile.TemporaryDirectory(prefix="compax-trial-", dir=MEMORY)))
         self.file = self.room / "c.toml"
 
     def passes(self, tool: str, *words: object) -> str:
