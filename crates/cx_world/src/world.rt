@@ -122,7 +122,7 @@ impl World {
 
     /// One event: the new world is the model's step of the old one, and the effect tells what the step did. What is promised of
     /// runs holds of the events so far. After want of memory the world is spent, and its histories begin with those from before.
-    #[tactic(auto, using(cx_promises::proofs::Lawful::lawful), unfolding(cx_model::specs::World::step))]
+    #[tactic(auto, unfolding(cx_model::specs::World::step))]
     pub fn step(&mut self, event: &Event) -> Result<Effect, NoMemory>
         requires fresh { self.old.spent ≡ false }
         requires taken { IsTrue (takes_event event.now) }
@@ -215,7 +215,6 @@ impl World {
 
     /// What is true of every world that isn't spent: it is the run of its events, and what is promised of runs holds of it. It takes
     /// no memory.
-    #[tactic(auto, using(cx_promises::proofs::Lawful::lawful))]
     pub fn law(&self)
         requires { self.now.spent ≡ false }
         ensures run { self.now.world ≡ run self.now.world.cluster (event_list self.now.world.events) }
