@@ -5,7 +5,7 @@ use Rattle.cx_base.specs.declared.event.Event.{Event}
 use Rattle.cx_model.specs.Chosen.{chosen_prefix}
 use Rattle.cx_model.specs.World.{run, log_of}
 use Rattle.cx_inv_vote.proofs.Agree.{agreement}
-use Rattle.cx_inv_announce.proofs.Steps.{all_is_told}
+use Rattle.cx_inv_announce.proofs.Steps.{announced}
 use Rattle.cx_inv_held.proofs.Steps.{kept_watermarks}
 use Rattle.cx_inv_list.proofs.Answers.{answers_are_of_a_log, one_list, reads_tell}
 use Rattle.cx_inv_list.proofs.Right.{machine_is_the_fold}
@@ -34,7 +34,7 @@ lawful c es = record {
   held = kept_watermarks.held c es;
   rounds_ask_later = rounds_ask_later c es;
   reads_ask_later = reads_ask_later c es;
-  announced = all_is_told c es;
+  announced = announced c es;
 }
 
 pub prefix_is_the_list : (c : Cluster) (es : List Event) → IsCommandList c (run c es).kept (chosen_prefix (run c es).kept)

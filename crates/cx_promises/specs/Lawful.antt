@@ -1,4 +1,5 @@
--- What is promised of one run: that of these events over this cluster. Each sentence stands under its name in cx_model's Promises.
+-- What is promised of one run: that of these events over this cluster. Each sentence stands under its name in cx_model's Promises, but for the
+-- announcement, which is cx_inv_announce's.
 use Rattle.std.specs.Prelude.{◌≡◌, ℕ, ◌<◌, true, List, slice_get, Some}
 use Rattle.cx_base.specs.declared.cluster.Cluster.{Cluster}
 use Rattle.cx_base.specs.declared.command.Value.{Value}
@@ -27,9 +28,9 @@ use Rattle.cx_model.specs.Promises.{
   HeldBelow,
   RoundsAskLater,
   ReadsAskLater,
-  Announces,
 }
 use Rattle.cx_model.specs.World.{run, log_of}
+use Rattle.cx_inv_announce.specs.Announced.{Announced}
 
 pub record IsLawful (c : Cluster) (es : List Event) : Type 0 where
   -- agreement
@@ -56,7 +57,7 @@ pub record IsLawful (c : Cluster) (es : List Event) : Type 0 where
   pub rounds_ask_later : RoundsAskLater c es
   pub reads_ask_later : ReadsAskLater c es
   -- announcement
-  pub announced : Announces c es
+  pub announced : Announced c es
 
 -- every run is so
 abbrev pub RunsAreLawful : Type 0
