@@ -1,20 +1,33 @@
 //! What a keeper in memory keeps, and what it gives back.
 
-use cx_keeper::{KeepFault, Keeper, MemKeeper};
 use cx_base::Cut;
-use cx_msg::{Record, record_from, record_into};
+use cx_keeper::{Keeper, MemKeeper};
+use cx_msg::{record_from, record_into};
 use std::alloc::Global;
 use std::test::Fail;
 
-// Promises of the rounds (1, 0, 0) and (2, 0, 0).
+// Promises of the rounds (1, 0, 0) and (2, 0, 0), and their bytes one after the other.
 const FIRST: [u8; 11] = [1, 0, 0, 0, 1, 0, 0, 0, 0, 0, 0];
 
 const SECOND: [u8; 11] = [1, 0, 0, 0, 2, 0, 0, 0, 0, 0, 0];
 
-fn spelled(alloc: Global, what: &Record) -> Result<Vec<u8>, Fail> {
-    let mut bytes = Vec::new(alloc);
-    record_into(alloc, what, &mut bytes)?;
-    Ok(bytes)
+const BOTH: [u8; 22] = [
+    1, 0, 0, 0, 1, 0, 0, 0, 0, 0, 0, 1, 0, 0, 0, 2, 0, 0, 0, 0, 0, 0,
+];
+
+// What an append is cut by, whether it is answered with Ok, and how many records are kept after it.
+const APPENDS: [(Cut, bool, u64); 3] = [
+    (Cut::Whole, true, 1),
+    (Cut::Torn, false, 1),
+    (Cut::Kept, false, 2),
+];
+
+// Whether an append of the next record is answered with Ok.
+fn appends(alloc: Global, keeper: &mut MemKeeper, cut: Cut) -> Result<bool, Fail> {
+    let spelled = if keeper.len() == 0 { &FIRST } else { &SECOND };
+    let what = record_from(alloc, spelled)?;
+    keeper.cut(cut);
+    Ok(keeper.append(&what).is_ok())
 }
 
 // The bytes of all that it keeps.
@@ -29,26 +42,33 @@ fn recovered(alloc: Global, keeper: &mut MemKeeper) -> Result<Vec<u8>, Fail> {
     Ok(bytes)
 }
 
+// The bytes of the record that was kept last, where it was not kept yet at this count.
+fn kept_since(alloc: Global, keeper: &MemKeeper, count: u64) -> Result<Vec<u8>, Fail> {
+    let mut bytes = Vec::new(alloc);
+    if let Some(kept) = keeper.kept_since(count)? {
+        record_into(alloc, &kept, &mut bytes)?;
+    }
+    Ok(bytes)
+}
+
 #[test]
 fn keeps_what_an_append_leaves(rt: HostRuntime) -> Result<(), Fail> {
     let alloc = rt.alloc();
-    let first = record_from(alloc, &FIRST)?;
-    let second = record_from(alloc, &SECOND)?;
     let mut keeper = MemKeeper::new(alloc);
-    assert!(rt; keeper.append(&first).is_ok());
-    let Some(kept) = keeper.kept_since(0)? else {
-        return Err("nothing kept".into());
-    };
-    assert_eq!(rt; spelled(alloc, &kept)?.as_slice(), FIRST.as_slice());
-    assert!(rt; keeper.kept_since(1)?.is_none());
-    keeper.cut(Cut::Torn);
-    assert!(rt; matches!(keeper.append(&second), Err(KeepFault::Failed)));
-    assert_eq!(rt; keeper.len(), 1);
-    keeper.cut(Cut::Kept);
-    assert!(rt; matches!(keeper.append(&second), Err(KeepFault::Failed)));
-    assert_eq!(rt; keeper.len(), 2);
-    let mut both = FIRST.to_vec(alloc)?;
-    both.extend_from_slice(&SECOND)?;
-    assert_eq!(rt; recovered(alloc, &mut keeper)?.as_slice(), both.as_slice());
+    for (cut, is_ok, count) in APPENDS {
+        assert_eq!(rt; appends(alloc, &mut keeper, cut)?, is_ok);
+        assert_eq!(rt; keeper.len(), count);
+    }
+    assert_eq!(rt; recovered(alloc, &mut keeper)?.as_slice(), BOTH.as_slice());
+    Ok(())
+}
+
+#[test]
+fn gives_the_last_record(rt: HostRuntime) -> Result<(), Fail> {
+    let alloc = rt.alloc();
+    let mut keeper = MemKeeper::new(alloc);
+    assert!(rt; appends(alloc, &mut keeper, Cut::Whole)?);
+    assert_eq!(rt; kept_since(alloc, &keeper, 0)?.as_slice(), FIRST.as_slice());
+    assert_eq!(rt; kept_since(alloc, &keeper, 1)?.len(), 0);
     Ok(())
 }
