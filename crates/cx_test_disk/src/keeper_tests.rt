@@ -16,7 +16,7 @@ const BOTH: [u8; 22] = [
 ];
 
 // What an append is cut by, whether it is answered with Ok, and how many records are kept after it.
-const APPENDS: [(Cut, bool, u64); 3] = [
+const APPENDS: [(Cut, bool, usize); 3] = [
     (Cut::Whole, true, 1),
     (Cut::Torn, false, 1),
     (Cut::Kept, false, 2),
@@ -43,7 +43,11 @@ fn recovered(alloc: Global, keeper: &mut MemKeeper) -> Result<Vec<u8>, Fail> {
 }
 
 // The bytes of the record that was kept last, where it was not kept yet at this count.
-fn kept_since(alloc: Global, keeper: &MemKeeper, count: u64) -> Result<Vec<u8>, Fail> {
+fn kept_since(alloc: Global, keeper: &MemKeeper, count: usize) -> Result<Vec<u8>, Fail> {
+    let len = keeper.len();
+    if count > len || len > count + 1 {
+        return Err("not the last one".into());
+    }
     let mut bytes = Vec::new(alloc);
     if let Some(kept) = keeper.kept_since(count)? {
         record_into(alloc, &kept, &mut bytes)?;
