@@ -65,7 +65,7 @@ class Role:
 
 @dataclass(frozen=True)
 class Header:
-    text: str                           # what stands above ---
+    text: str                           # the lines above ---
     numbers: Mapping[str, int]
 
     @property

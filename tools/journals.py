@@ -1,8 +1,8 @@
 """Reads the journals of roles: their records in words, and where a file is no journal.
 
 A journal is a list of records, then a closed gate. A record is its gate, the byte 1; a length of four bytes, 1 to 32,768; and so many
-bytes: a tag and the record's fields, numbers with the highest byte first. A closed gate is any other byte, 0 as a node writes it. Behind
-it may stand the bytes of an append that was cut off.
+bytes: a tag and the record's fields, numbers with the highest byte first. A closed gate is any other byte, 0 as a node writes it.
+Bytes of an append that was cut off may follow.
 """
 
 import collections
@@ -159,7 +159,7 @@ class Frame:
     payload: bytes
 
     def tag(self, kind: str | None) -> Tag:
-        """What it is; a break where a role of this kind has no such record. None stands for any kind."""
+        """What it is; a break where a role of this kind has no such record. None is any kind."""
         if not self.payload:
             raise Break(self.at + 5, "the file ends in a record")
         tag = TAGS.get(self.payload[0])
@@ -211,13 +211,13 @@ class Journal:
         self.closed = at
 
     def check_front(self) -> None:
-        """Refuses what a node refuses to open: another first byte than 0 or 1, or more behind a 0 than one append leaves."""
+        """Refuses what a node refuses to open: another first byte than 0 or 1, or more after a 0 than one append leaves."""
         first = self.file.read(1)
         self.file.seek(0)
         if first > OPEN:
             raise Break(0, f"the first byte is {first[0]}, and not 0 or 1")
         if first == b"\x00" and self.size > 1 + 4 + LONGEST + 1:
-            raise Break(0, "the first byte is 0, and more than one record's bytes stand behind it")
+            raise Break(0, "the first byte is 0, and more than one record's bytes follow")
 
     def is_open(self, at: int) -> bool:
         gate = self.file.read(1)
@@ -226,7 +226,7 @@ class Journal:
         return gate == OPEN
 
     def frame(self, at: int, slot: int) -> Frame:
-        """The record behind an open gate."""
+        """The record after an open gate."""
         said = self.file.read(4)
         if len(said) < 4:
             raise Break(at + 1 + len(said), "the file ends in the length of a record")
@@ -236,7 +236,7 @@ class Journal:
         return Frame(at, slot, length, self.file.read(length))
 
     def left(self) -> int:
-        """How many bytes stand behind the closed gate."""
+        """How many bytes follow the closed gate."""
         return max(0, self.size - self.closed - 1)
 
 

@@ -45,10 +45,15 @@ class ClusterTrial(Trial):
         assert state
         return state
 
-    def all_run(self) -> bool:
-        return all(note.process and note.process.lives() for note in self.state().notes)
+    def running(self, number: int) -> Process | None:
+        """The node of a process, if it runs."""
+        process = self.state().notes[number].process
+        return process if process and process.lives() else None
 
-    def told(self) -> tuple[int, str]:
+    def all_run(self) -> bool:
+        return all(self.running(number) for number in range(len(self.state().notes)))
+
+    def status(self) -> tuple[int, str]:
         """What `status` says."""
         status, out, said = run("cluster", "status", self.file)
         self.assertNotIn("Traceback", said)
@@ -87,10 +92,9 @@ class KillsTest(ClusterTrial):
         chance = random.Random(9)
         for number in chance.sample([0, 1, 2, 3] * 2, 8):
             wanted = self.answers() + chance.randrange(20, 60)
-            until(lambda: self.answers() >= wanted and self.state().notes[number].process is not None, f"{wanted} answers")
-            process = self.state().notes[number].process
-            if process:
-                process.send(signal.SIGKILL)
+            until(lambda: self.answers() >= wanted and self.running(number) is not None, f"{wanted} answers")
+            process = self.running(number)
+            self.assertTrue(process and process.send(signal.SIGKILL))
 
     def watch(self) -> None:
         """Notes when all processes begin to run, and when they cease to."""
@@ -127,7 +131,7 @@ class KillsTest(ClusterTrial):
         self.assertLess(max(self.silences()), SILENCE)
         self.assertEqual({key: self.kv("get", key) for key in last}, {key: f"is {text}" for key, text in last.items()})
         self.assertEqual([note.starts for note in self.state().notes], [3, 3, 3, 3])
-        status, text = self.told()
+        status, text = self.status()
         self.assertEqual((status, text.count("started 3 times, ended last with signal 9")), (0, 4), text)
 
 
@@ -155,15 +159,15 @@ class JournalsTest(ClusterTrial):
         good = self.journal(role).read_bytes()
         self.journal(role).write_bytes(data)
         self.up()
-        until(lambda: why in self.told()[1], why)
-        status, text = self.told()
+        until(lambda: why in self.status()[1], why)
+        status, text = self.status()
         self.assertEqual(status, 1)
         self.assertIn(found, text)
         self.assertEqual(self.kv("app", "a", "x"), f"len {self.length + 1}")
         self.length += 1
         self.assertEqual(self.journal(role).read_bytes(), data)
         self.journal(role).write_bytes(good)
-        until(lambda: self.told()[0] == 0, "all processes run")
+        until(lambda: self.status()[0] == 0, "all processes run")
         self.assertEqual(self.kv("get", "a"), f"is {'x' * self.length}")
 
     def test_corrupted_and_foreign_journals(self) -> None:
@@ -187,7 +191,7 @@ class JournalsTest(ClusterTrial):
         self.assertEqual((ran.returncode, ran.stdout, ran.stderr), (7, "", "store failed: acceptor:1\n"))
         self.assertEqual(self.journal("acceptor:1").read_bytes(), kept)
         self.assertEqual((self.kv("get", "a"), self.kv("put", "a", "2"), self.kv("get", "a")), ("is 1", "ok", "is 2"))
-        self.assertEqual(self.told()[0], 0)
+        self.assertEqual(self.status()[0], 0)
 
 
 class FoldersTest(ClusterTrial):
@@ -212,6 +216,12 @@ class FoldersTest(ClusterTrial):
         shutil.move(self.journal("acceptor:2"), self.room / "away")
         self.refused("compax-acceptor-2.journal is missing: its role must not forget")
         shutil.move(self.room / "away", self.folder / "2" / "compax-acceptor-2.journal")
+        (self.room / "all").mkdir()
+        for journal in list((self.folder / "3").glob("*.journal")):
+            shutil.move(journal, self.room / "all")
+        self.refused(r"3/compax-\w+-\d.journal is missing: its role must not forget")
+        for journal in (self.room / "all").iterdir():
+            shutil.move(journal, self.folder / "3")
         shutil.move(self.folder / "2", self.room / "away")
         self.refused("has no folder with acceptor:2 match:1")
         shutil.move(self.room / "away", self.folder / "2")
@@ -252,7 +262,7 @@ class SupervisorTest(ClusterTrial):
     def test_status_and_down(self) -> None:
         self.assertIn("up: 1 process of ", self.up())
         self.assertEqual(self.kv("put", "a", "1"), "ok")
-        status, text = self.told()
+        status, text = self.status()
         self.assertEqual(status, 0, text)
         for line in (r"^process 0 runs since .*, pid \d+$", r"^  acceptor:0: \d+ records: .* Vote; [\d,]+ bytes; last ", r"^a write was answered in ",
                      r"^  replica:0: \d+ records: \d+ Log; .* put a 1$", r"^  batcher:0 proxy:0 unbatcher:0 reader:0$"):
@@ -260,7 +270,7 @@ class SupervisorTest(ClusterTrial):
         started = [self.state().supervisor, self.node()]
         self.assertIn("down: 1 process ended", self.passes("cluster", "down", self.file))
         self.assertFalse(any(process.lives() for process in started))
-        status, text = self.told()
+        status, text = self.status()
         self.assertEqual(status, 1)
         self.assertRegex(text, re.compile(r"^process 0 is down.*^cluster: .* is not up$", re.MULTILINE | re.DOTALL))
 
@@ -271,7 +281,7 @@ class SupervisorTest(ClusterTrial):
         self.state().supervisor.send(signal.SIGKILL)
         until(lambda: not self.state().supervisor.lives(), "the supervisor has ended")
         self.assertEqual(self.kv("put", "a", "1"), "ok")
-        status, text = self.told()
+        status, text = self.status()
         self.assertEqual(status, 1)
         self.assertIn("the supervisor has ended, so no process is started again", text)
         self.fails(1, "runs, without its supervisor", "cluster", "up", self.file)

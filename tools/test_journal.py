@@ -46,7 +46,7 @@ class JournalTest(unittest.TestCase):
         return status, out.splitlines(), said
 
     def breaks(self, data: bytes, at: int, lines: list[str], **how: str) -> None:
-        """A file is no journal from this byte on, behind the records of these lines."""
+        """A file is no journal from this byte on, after the records of these lines."""
         status, out, said = self.read(data, **how)
         self.assertEqual((status, out), (1, lines))
         self.assertIn(f"is not a journal from byte {at}: ", said)
