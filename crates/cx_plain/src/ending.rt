@@ -9,9 +9,10 @@ ghost use Rattle.cx_trace.specs.Summary.{replicas_text, slot_text, slots_text};
 ghost use Rattle.cx_world.specs.Folded.{folded_of};
 
 use cx_base::NoMemory;
+use cx_choice::Chosen;
 use cx_kv::Executed;
 use cx_trace::{chosen_into, replica_into, slot_into};
-use cx_world::{Chosen, World};
+use cx_world::World;
 use std::alloc::Global;
 
 // Puts the lines of a slot at the end of a text; the commands before it grow by its own.

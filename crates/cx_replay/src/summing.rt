@@ -10,10 +10,11 @@ ghost use Rattle.cx_trace.specs.Summary.{replica_text, replicas_text, slot_text,
 ghost use Rattle.cx_world.specs.Folded.{folded_of};
 
 use cx_base::{NoMemory, Status};
+use cx_choice::Chosen;
 use cx_edge::{Sink, write_all};
 use cx_kv::Executed;
 use cx_trace::{chosen_into, replica_into, slot_into};
-use cx_world::{Chosen, World};
+use cx_world::World;
 use std::alloc::Global;
 
 // Writes the lines that were put into a text, where there was memory for them.

@@ -16,7 +16,7 @@ use Rattle.cx_model.specs.World.{log_of, records_of}
 use Rattle.cx_msg.specs.declared.kept.Record.{Record}
 use Rattle.cx_msg.specs.declared.kept.Record.TheVariants as kept
 use Rattle.cx_msg.specs.declared.input.KeptRecord.{KeptRecord}
-use Rattle.cx_world.proofs.Numbered.{next_kept}
+use Rattle.cx_choice.proofs.Numbered.{next_kept}
 use Rattle.cx_world.specs.Folded.{values_by, values_in, values_kept}
 
 -- the commands of values behind others

@@ -5,18 +5,13 @@
 //! gives the one command list.
 #![tactic(auto)]
 
-mod chains;
 mod change;
-mod choice;
 mod counts;
 mod folded;
 mod last_keeper;
-mod prefix;
 mod seat;
-mod sorted;
 mod turned;
 mod world;
 
 pub use counts::Counts;
-pub use prefix::Chosen;
 pub use world::World;

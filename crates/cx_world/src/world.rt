@@ -13,13 +13,12 @@ ghost use Rattle.cx_keeper.specs.Keeper.{all_fit};
 ghost use Rattle.cx_world.specs.World.{BeginWith, effect_of};
 
 use crate::change::{Seats, change};
-use crate::choice::chosen_prefix;
 use crate::counts::{Counts, count};
 use crate::folded::folded;
-use crate::prefix::Chosen;
 use crate::seat::open_all;
 use crate::turned::Changed;
 use cx_base::{Cluster, Event, Happened, Kind, NoMemory, Why};
+use cx_choice::{Chosen, chosen_prefix};
 use cx_history::{Events, Kept, Sent};
 use cx_msg::{Datagram, KeptRecord};
 use cx_role::Outbox;
