@@ -128,6 +128,13 @@ impl Log {
         self.early.raise(held);
     }
 
+    /// Drops the values that wait. It takes no memory.
+    pub fn forget_early(&mut self)
+        ensures { self.new ≡ record self.old { early = [] } }
+    {
+        self.early.clear();
+    }
+
     /// Holds more values, while none waits: for a log that is opened from its records.
     pub fn restore(&mut self, alloc: Global, values: &[Value]) -> Result<(), NoMemory>
         requires none_early { self.old.early ≡ [] }
