@@ -45,7 +45,7 @@ fn recovered(alloc: Global, keeper: &mut MemKeeper) -> Result<Vec<u8>, Fail> {
 // The bytes of the record that was kept last, where it was not kept yet at this count.
 fn kept_since(alloc: Global, keeper: &MemKeeper, count: usize) -> Result<Vec<u8>, Fail> {
     let len = keeper.len();
-    if count > len || len > count + 1 {
+    if count > len || len - count > 1 {
         return Err("not the last one".into());
     }
     let mut bytes = Vec::new(alloc);
