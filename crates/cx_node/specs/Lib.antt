@@ -1,6 +1,8 @@
 pub mod Hosted
 pub mod Ports
 pub mod Run
+pub mod Tending
+pub mod TendingExamples
 pub mod Guest
 pub mod Seat
 pub mod Doing

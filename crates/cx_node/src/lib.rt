@@ -10,6 +10,7 @@ mod acting;
 mod binding;
 mod closing;
 mod doing;
+mod examples;
 mod guest;
 mod input;
 #[cfg(test)]
@@ -25,6 +26,7 @@ mod waking;
 
 pub use closing::close_seats;
 pub use doing::Doing;
+pub use examples::{beats, no_leader, reports, waits};
 pub use guest::Guest;
 pub use input::{Heard, Refusal, listen};
 pub use law::stops_are_crashes;
