@@ -18,6 +18,7 @@ use Rattle.cx_msg.specs.declared.fault.WireFault.{WireFault}
 use Rattle.cx_msg.specs.declared.input.Input.TheVariants as input
 use Rattle.cx_node.specs.declared.doing.Doing.{Doing}
 use Rattle.cx_node.specs.declared.doing.Doing.TheVariants.{Begin, Give}
+use Rattle.cx_node.specs.declared.standing.Standing.{Standing}
 use Rattle.cx_node.specs.Hosted.{Hosted, ClientAt, LeaderAt, Moved, ReplicaAt, name_of, stays}
 use Rattle.cx_node.specs.Run.{all_do, at_place, does_at, grid_of, is_client, ordered, place_of, then_do, turns_from}
 
@@ -180,16 +181,27 @@ beat_over k = record k { turns = 0; empty = 0 }
 unfoldable pub others_tick : List Hosted → Moved (List Hosted)
 others_tick hs = those_tick (λ i h. not (is_client h)) hs
 
--- how the leader's watermark stands
-unfoldable pub leader_noted : LeaderVolatile → Care → Care
-leader_noted v k = if nat_lt k.cw v.cw || not (has_open v) then record k { cw = v.cw; stuck = 0 } else record k { stuck = one_more k.stuck }
+-- how the leader's watermark stands, and whether a slot is open
+unfoldable pub leader_noted : ℕ → Bool → Care → Care
+leader_noted cw opened k = if nat_lt k.cw cw || not opened then record k { cw = cw; stuck = 0 } else record k { stuck = one_more k.stuck }
 
 -- a leader that is idle, and has heard enough replicas, may lead
-abbrev pub may_lead : Cluster → LeaderVolatile → Bool
-may_lead c v = is_idle v.mode && has_heard c v
+abbrev pub may_lead : Running LeaderDurable LeaderVolatile → Bool
+may_lead l = is_idle l.volatile.mode && has_heard l.cluster l.volatile
 
-abbrev pub leader_cared : Cluster → LeaderVolatile → Care → Care
-leader_cared c v k = if may_lead c v then k else leader_noted v k
+-- what a beat asks of a leader
+abbrev pub standing_of : Running LeaderDurable LeaderVolatile → Standing
+standing_of l =
+    record {
+      may_lead = may_lead l;
+      watermark = l.volatile.cw;
+      has_open = has_open l.volatile;
+      is_spent = is_spent l.volatile;
+      can_collect = can_collect l.volatile;
+    }
+
+abbrev pub leader_cared : Standing → Care → Care
+leader_cared l k = if l.may_lead then k else leader_noted l.watermark l.has_open k
 
 -- whether a spent leader changes after so many beats: 16, 32, 64, 128, 256, 512 or a multiple of 1,024
 unfoldable pub is_time : ℕ → Bool
@@ -197,18 +209,18 @@ is_time n = (n == 16) || (n == 32) || (n == 64) || (n == 128) || (n == 256) || (
 
 -- The order that the leader gets, by what is noted: to lead, where it may; to go on in its next round with the same grid, where it has
 -- been stuck for long and is spent; or to collect, where that would begin.
-unfoldable pub leader_asked : Cluster → LeaderVolatile → Care → Option Order
-leader_asked c v k =
-    if may_lead c v then Some (order.Lead (grid_of c))
-    else if is_time k.stuck && is_spent v then Some (order.Change (grid_of c))
-    else if can_collect v then Some order.Collect
+unfoldable pub leader_asked : Cluster → Standing → Care → Option Order
+leader_asked c l k =
+    if l.may_lead then Some (order.Lead (grid_of c))
+    else if is_time k.stuck && l.is_spent then Some (order.Change (grid_of c))
+    else if l.can_collect then Some order.Collect
     else None
 
 abbrev pub leader_tended : Cluster → Option (Running LeaderDurable LeaderVolatile) → Tended → Moved Tended
 leader_tended c None t = stays t
 leader_tended c (Some l) t =
-    let k = leader_cared c l.volatile t.care in
-    with_care k (gets (leader_asked c l.volatile k) t.hosted)
+    let k = leader_cared (standing_of l) t.care in
+    with_care k (gets (leader_asked c (standing_of l) k) t.hosted)
 
 -- how many beats the clients have completed no request
 unfoldable pub clients_noted : ℕ → Care → Care
@@ -219,12 +231,15 @@ unfoldable pub asks_again : ℕ → Bool
 asks_again n = (n == 1) || (n == 2) || (n == 4) || (n == 8) || (nat_le 16 n && (n % 16 == 0))
 
 -- a pass ends when more than two requests a client were completed in it
-unfoldable pub passes : Care → List Hosted → Bool
-passes k hs = nat_lt (sum k.marks + 2 * count_by is_client hs) (all_completed hs)
+unfoldable pub passes : ℕ → ℕ → Care → Bool
+passes clients done k = nat_lt (sum k.marks + 2 * clients) done
+
+abbrev pub is_marked : List ℕ → ℕ → ℕ → Bool
+is_marked marks i done = option_map_or (λ n. n == done) (slice_get marks i) false
 
 -- a client that has completed none since the pass began
 abbrev pub is_overtaken : List ℕ → ℕ → Hosted → Bool
-is_overtaken marks i h = is_client h && option_map_or (λ n. n == completed h) (slice_get marks i) false
+is_overtaken marks i h = is_client h && is_marked marks i (completed h)
 
 -- who was overtaken asks again, and the next pass begins
 abbrev pub next_pass : Tended → Moved Tended
@@ -238,7 +253,7 @@ clients_tended t =
     let k = clients_noted (all_completed t.hosted) t.care in
     let noted : Tended = record { care = k; hosted = t.hosted } in
     if asks_again k.still then within (kind_ticks kind.Client) noted
-    else if passes k t.hosted then next_pass noted
+    else if passes (count_by is_client t.hosted) (all_completed t.hosted) k then next_pass noted
     else stays noted
 
 unfoldable pub beat : Cluster → Tended → Moved Tended

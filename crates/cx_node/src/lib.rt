@@ -21,6 +21,7 @@ mod opening;
 mod seat;
 mod sending;
 mod serving;
+mod standing;
 mod turning;
 mod waking;
 
@@ -34,4 +35,5 @@ pub use node::{Node, RunEnd, Stop};
 pub use opening::{OpenStop, open_seats};
 pub use seat::Seat;
 pub use serving::serve;
+pub use standing::Standing;
 pub use waking::{WakeStop, wake};
