@@ -6,11 +6,16 @@ ghost use Rattle.cx_edge.specs.UdpLink.{TakenFits};
 use crate::{Link, TakeEnd};
 use cx_base::{Faults, NoMemory, RoleId};
 use cx_disk::Failed;
-use std::alloc::Global;
+use mio::net::UdpSocket;
+use mio::{Events, Interest, Poll, Token};
+use std::alloc::{Allocator, Global};
 use std::io;
 use std::io::ErrorKind;
 use std::marker::Model;
-use std::net::{Ipv4Addr, Net, SocketAddr, UdpSocket};
+use std::net::{Ipv4Addr, Net, SocketAddr};
+use std::rt::Clock;
+use std::thread::sleep;
+use std::time::Duration;
 
 /// A role and its socket.
 #[derive(Drop)]
@@ -19,12 +24,17 @@ struct Bound {
     socket: UdpSocket,
 }
 
-/// Carries datagrams over one socket of 127.0.0.1 for each bound role, and never waits. It tells no histories.
+/// Carries datagrams over one socket of 127.0.0.1 for each bound role. While datagrams come, a take doesn't wait; where none comes,
+/// it waits for one, a millisecond at most. It tells no histories.
 #[derive(Drop)]
 pub struct UdpLink<N> {
     net: N,
+    poll: Option<Poll>,
+    events: Events<Global>,
     sockets: Vec<Bound>,
     first: usize,
+    // Whether the last take found nothing.
+    is_calm: bool,
     faults: Faults,
     losses: Faults,
 }
@@ -37,17 +47,22 @@ impl<N> Model for UdpLink<N> {
     ghost view = { λ l. record { faults = l.faults; losses = l.losses } };
 }
 
-impl<N> UdpLink<N> {
+impl<N: Net> UdpLink<N> {
     /// The link with no role bound and room for so many. All memory is taken here, none by a call.
     pub fn new(alloc: Global, net: N, room: usize) -> Result<Self, NoMemory>
     where
         N: Drop,
         ensures { IfOk result (λ link. link ≡ record { faults = 0; losses = 0 }) }
     {
+        // Without a poll, as where the system has no more file descriptors, each bind fails.
+        let poll = Poll::new(&net).ok();
         Ok(UdpLink {
+            poll,
+            events: Events::with_capacity(alloc, 64)?,
             net,
             sockets: Vec::with_capacity(alloc, room)?,
             first: 0,
+            is_calm: false,
             faults: Faults::none(),
             losses: Faults::none(),
         })
@@ -58,11 +73,20 @@ fn local(port: u16) -> SocketAddr {
     SocketAddr::from((Ipv4Addr::LOCALHOST, port))
 }
 
-/// A socket at this port that never waits.
+/// A socket at this port, which doesn't wait.
 fn opened<N: Net>(net: &N, port: u16) -> io::Result<UdpSocket> {
-    let socket = UdpSocket::bind(net, local(port))?;
-    socket.set_nonblocking(true)?;
-    Ok(socket)
+    UdpSocket::bind(net, local(port))
+}
+
+/// Has a datagram that comes to the socket end a wait, and says whether that succeeded.
+fn is_registered(poll: &Option<Poll>, socket: &mut UdpSocket) -> bool {
+    match poll {
+        Some(poll) => poll
+            .registry()
+            .register(socket, Token(0), Interest::READABLE)
+            .is_ok(),
+        None => false,
+    }
 }
 
 /// Sends from the role's socket, and says whether all bytes were taken.
@@ -113,7 +137,21 @@ fn asked_in_turn(sockets: &[Bound], first: usize, buffer: &mut [u8]) -> (usize, 
     (first, TakeEnd::Nothing)
 }
 
-impl<N: Net> Link for UdpLink<N> {
+/// How long the first take that finds nothing lets further datagrams gather, in microseconds.
+const GATHER: u64 = 50;
+
+/// How long each further one waits, in microseconds.
+const WAIT: u64 = 1_000;
+
+/// Waits for a datagram, at most so long. An event only ends the wait, since the poll tells each one once: which sockets have a
+/// datagram is asked of the sockets. A failure ends it too.
+fn wait<A: Allocator>(poll: &mut Option<Poll>, events: &mut Events<A>, micros: u64) {
+    if let Some(poll) = poll {
+        let _ = poll.poll(events, Some(Duration::from_micros(micros)));
+    }
+}
+
+impl<N: Net + Clock> Link for UdpLink<N> {
     ghost told = { λ l. None };
 
     ghost faults = { λ l. l.faults };
@@ -122,9 +160,11 @@ impl<N: Net> Link for UdpLink<N> {
 
     fn bind(&mut self, role: RoleId, port: u16) -> Result<(), Failed> {
         if self.sockets.len() < self.sockets.capacity() {
-            if let Ok(socket) = opened(&self.net, port) {
-                self.sockets.push_reserved(Bound { role, socket });
-                return Ok(());
+            if let Ok(mut socket) = opened(&self.net, port) {
+                if is_registered(&self.poll, &mut socket) {
+                    self.sockets.push_reserved(Bound { role, socket });
+                    return Ok(());
+                }
             }
         }
         self.faults.add();
@@ -140,8 +180,22 @@ impl<N: Net> Link for UdpLink<N> {
     }
 
     fn take(&mut self, buffer: &mut [u8]) -> TakeEnd {
-        let (first, end) = asked_in_turn(&self.sockets, self.first, buffer);
+        let (mut first, mut end) = (self.first, TakeEnd::Nothing);
+        if self.is_calm {
+            wait(&mut self.poll, &mut self.events, WAIT);
+        } else {
+            (first, end) = asked_in_turn(&self.sockets, first, buffer);
+            if let TakeEnd::Nothing = end {
+                // What is on its way to a batcher may fill a batch. The wait drops the events of what was already taken.
+                sleep(&self.net, Duration::from_micros(GATHER));
+                wait(&mut self.poll, &mut self.events, 0);
+            }
+        }
+        if let TakeEnd::Nothing = end {
+            (first, end) = asked_in_turn(&self.sockets, first, buffer);
+        }
         self.first = first;
+        self.is_calm = matches!(end, TakeEnd::Nothing);
         if let TakeEnd::Failed = end {
             self.faults.add();
         }

@@ -1,5 +1,5 @@
 -- What a node that tends its roles asks of a leader.
-use Rattle.std.specs.Prelude.{ℕ, ◌-◌, Bool, not, ◌&&◌, nat_lt, nat_le, filter, length, is_some}
+use Rattle.std.specs.Prelude.{◌-◌, Bool, not, ◌&&◌, nat_lt, nat_le, filter, length, is_some}
 use Rattle.std.specs.List.{list_all}
 use Rattle.cx_base.specs.declared.cluster.Cluster.{Cluster}
 use Rattle.cx_base.specs.Grid.{is_in}

@@ -18,6 +18,7 @@ mod refusing;
 mod retiring;
 mod rounds;
 mod sending;
+mod tending;
 #[cfg(test)]
 mod tests;
 mod ticks;

@@ -1,8 +1,10 @@
 //! What a leader proposed, and what it knows to be chosen.
 
 ghost use Rattle.std.specs.Prelude.{◌≡◌, ◌≤◌, ◌<◌, ◌+◌, ◌-◌, ◌^◌, ◌++◌, ◌∷◌, [], true, not, max, map, length, None, Some, All, IsTrue, IfOk, IfSome, OnOk, OnErr};
+ghost use Rattle.std.specs.List.{list_all};
 ghost use Rattle.cx_base.specs.declared.role.Kind.{Kind as KindOf};
 ghost use Rattle.cx_base.specs.Grid.{is_in};
+ghost use Rattle.cx_base.specs.Lists.{numbers};
 ghost use Rattle.cx_base.specs.Role.{role};
 ghost use Rattle.cx_field.specs.Fields as field;
 ghost use Rattle.cx_model.specs.Leader.{propose_to};
@@ -215,6 +217,15 @@ impl Proposals {
         ensures { result ≡ is_in slot self.now.chosen }
     {
         self.chosen.contains(slot)
+    }
+
+    /// Whether each slot from the chosen watermark to the next free one is known to be chosen.
+    pub fn all_chosen(&self) -> bool
+        ensures { result ≡ list_all (λ s. is_in s self.now.chosen) (numbers self.now.cw (self.now.next - self.now.cw)) }
+    {
+        let cw = self.slots.cw();
+        self.chosen
+            .contains_all(cw, self.slots.next().saturating_sub(cw))
     }
 
     /// Whether all that it proposed when its first phase was done is known to be chosen, or held by enough replicas.

@@ -1,6 +1,6 @@
 //! A replica's state, and how it is opened.
 
-ghost use Rattle.std.specs.Prelude.{◌≡◌, ◌<◌, [], true, IfOk, IsTrue};
+ghost use Rattle.std.specs.Prelude.{◌≡◌, ◌<◌, [], true, length, IfOk, IsTrue};
 ghost use Rattle.std.specs.List.{list_all};
 ghost use Rattle.cx_base.specs.declared.command.Value.{Value};
 ghost use Rattle.cx_base.specs.declared.role.Kind.TheVariants as kind;
@@ -46,6 +46,13 @@ impl Model for Replica {
 }
 
 impl Replica {
+    /// How many slots it holds: all below it. It takes no memory.
+    pub fn held(&self) -> u64
+        ensures { result ≡ length self.now.durable.log }
+    {
+        self.log.held()
+    }
+
     /// A replica that has no records.
     fn new(alloc: Global, cluster: &Cluster, me: RoleId) -> Result<Self, NoMemory>
         requires kind { me.kind ≡ kind.Replica }
