@@ -27,3 +27,4 @@ pub mod ClosedStores
 pub mod HostedRuns
 pub mod Answering
 pub mod Actions
+pub mod Tended

@@ -15,3 +15,4 @@ pub mod Stops
 pub mod Durable
 pub mod Hosting
 pub mod Acts
+pub mod Tends

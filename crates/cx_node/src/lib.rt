@@ -8,7 +8,9 @@
 
 mod acting;
 mod binding;
+mod care;
 mod closing;
+mod come;
 mod doing;
 mod examples;
 mod guest;
@@ -22,10 +24,13 @@ mod seat;
 mod sending;
 mod serving;
 mod standing;
+mod tending;
 mod turning;
 mod waking;
+mod whom;
 
 pub use closing::close_seats;
+pub use come::Come;
 pub use doing::Doing;
 pub use examples::{beats, no_leader, reports, waits};
 pub use guest::Guest;
@@ -37,3 +42,4 @@ pub use seat::Seat;
 pub use serving::serve;
 pub use standing::Standing;
 pub use waking::{WakeStop, wake};
+pub use whom::Whom;
