@@ -27,3 +27,5 @@ pub mod ClosedStores
 pub mod HostedRuns
 pub mod Answering
 pub mod Actions
+pub mod Tended
+pub mod Vain

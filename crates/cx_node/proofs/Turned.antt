@@ -31,11 +31,11 @@ then_stays : (m : Moved (List Hosted)) → then_do m (λ hs. stays hs) ≡ m
 then_stays m = λ i. record { next = m.next; kept = append-nil m.kept i; sends = append-nil m.sends i; text = append-nil m.text i }
 
 -- one turn more
-turns_more : (c : Cluster) (n : ℕ) (ts : Takes) (what : Option (List ℕ)) (hs : List Hosted) → turns_from c n (ts ++ what ∷ []) hs ≡ then_do (turns_from c n ts hs) (λ after. turn c (n + length ts) what after)
+turns_more : (c : Cluster) (n : ℕ) (ts : Takes) (what : Option (List ℕ)) (hs : List Hosted) → turns_from (turn c) n (ts ++ what ∷ []) hs ≡ then_do (turns_from (turn c) n ts hs) (λ after. turn c (n + length ts) what after)
 turns_more c n [] what hs = then_stays (turn c n what hs) ∙ ap (λ k. turn c k what hs) (sym (add-zero n))
 turns_more c n (t ∷ ts) what hs =
     let m = turn c n t hs in
-    let rest = turns_from c (n + 1) ts m.next in
+    let rest = turns_from (turn c) (n + 1) ts m.next in
     let number : (n + 1) + length ts ≡ n + suc (length ts) = omega arith in
     ap (with_next m) (turns_more c (n + 1) ts what m.next ∙ ap (λ k. with_next rest (turn c k what rest.next)) number)
     ∙ with_next_again m rest (turn c (n + suc (length ts)) what rest.next)
@@ -44,7 +44,7 @@ run_more : (c : Cluster) (ts : Takes) (what : Option (List ℕ)) (hs : List Host
 unfolding node_run
 run_more c ts what hs =
     let m = all_do Begin hs in
-    let rest = turns_from c 1 ts m.next in
+    let rest = turns_from (turn c) 1 ts m.next in
     let number : 1 + length ts ≡ length ts + 1 = omega arith in
     ap (with_next m) (turns_more c 1 ts what m.next ∙ ap (λ k. with_next rest (turn c k what rest.next)) number)
     ∙ with_next_again m rest (turn c (length ts + 1) what rest.next)

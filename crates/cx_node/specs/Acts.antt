@@ -8,6 +8,8 @@ use Rattle.cx_msg.specs.Decoding.{decoded}
 use Rattle.cx_msg.specs.Letter.{Letter}
 use Rattle.cx_msg.specs.declared.fault.WireFault.{WireFault}
 use Rattle.cx_role.specs.Role.{Appending}
+use Rattle.cx_node.specs.declared.come.Come.{Come}
+use Rattle.cx_node.specs.declared.come.Come.TheVariants as come
 use Rattle.cx_node.specs.declared.node.Stop.{Stop}
 use Rattle.cx_node.specs.declared.node.Stop.TheVariants.{LinkFault, NoMemory, StoreFault, WriteFault}
 use Rattle.cx_node.specs.Doing.{Does, DoesPart, Scene, StoreFails}
@@ -58,18 +60,18 @@ ActsLong gives c limit result old new =
     (takes : Takes) × Acts gives c takes (node_run c takes (hosted_in old.guests)) result old new × Ends c limit (hosted_in old.guests) takes
     × OnOk result ((all_finished ((node_run c takes (hosted_in old.guests)).next) ≡ true) ⊎ (length takes ≡ limit))
 
--- the datagram that a take gave, if it gave one
-abbrev pub read_as : Result Letter WireFault → Option Letter
-read_as (Ok d) = Some d
-read_as (Err fault) = None
+-- what a take gave: nothing, bytes that are no datagram, or one
+abbrev pub read_as : Result Letter WireFault → Come
+read_as (Ok d) = come.Letter d
+read_as (Err fault) = come.Foreign
 
-abbrev pub letter_in : Option (List ℕ) → Option Letter
-letter_in None = None
-letter_in (Some bytes) = read_as (decoded bytes)
+abbrev pub come_of : Option (List ℕ) → Come
+come_of None = come.Nothing
+come_of (Some bytes) = read_as (decoded bytes)
 
 -- One take was told, and what it gave; one that failed isn't told.
-abbrev pub Receives : Option LinkHistory → Option LinkHistory → Result (Option Letter) Stop → Type 0
-Receives old new (Ok o) = (what : Option (List ℕ)) × (new ≡ option_map (with_taken what) old) × (letter_in what ≡ o)
+abbrev pub Receives : Option LinkHistory → Option LinkHistory → Result Come Stop → Type 0
+Receives old new (Ok o) = (what : Option (List ℕ)) × (new ≡ option_map (with_taken what) old) × (come_of what ≡ o)
 Receives old new (Err LinkFault) = new ≡ old
 Receives old new (Err NoMemory) = (what : Option (List ℕ)) × (new ≡ option_map (with_taken what) old)
 Receives old new (Err WriteFault) = ⊥

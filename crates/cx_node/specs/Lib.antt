@@ -1,6 +1,8 @@
 pub mod Hosted
 pub mod Ports
 pub mod Run
+pub mod Tending
+pub mod TendingExamples
 pub mod Guest
 pub mod Seat
 pub mod Doing
@@ -13,3 +15,5 @@ pub mod Stops
 pub mod Durable
 pub mod Hosting
 pub mod Acts
+pub mod Tends
+pub mod Orders

@@ -1,4 +1,5 @@
--- The run of a node: a function of its cluster, its hosted roles as they were opened, and what each take of its link gave.
+-- The turns of a node that doesn't tend its roles, and its run: a function of its cluster, its hosted roles as they were opened, and what
+-- each take of its link gave.
 use Rattle.std.specs.Prelude.{ℕ, zero, suc, ◌+◌, ◌/◌, ◌%◌, ◌==◌, min, Bool, true, false, ◌&&◌, ◌||◌, List, [], ◌∷◌, ◌++◌, length, Option, None, Some, Result, Ok, Err, option_map, slice_get, slice_set, if◌then◌else◌}
 use Rattle.std.specs.List.{list_all, list_any}
 use Rattle.cx_base.specs.declared.cluster.Cluster.{Cluster}
@@ -99,14 +100,14 @@ ticked n hs = if n % 64 == 0 then all_do (Give input.Tick) hs else stays hs
 unfoldable pub turn : Cluster → ℕ → Option (List ℕ) → List Hosted → Moved (List Hosted)
 turn c n what hs = then_do (ordered c n hs) (λ after. then_do (comes what after) (λ last. ticked n last))
 
--- the turns from the n-th on
-abbrev pub turns_from : Cluster → ℕ → List (Option (List ℕ)) → List Hosted → Moved (List Hosted)
-turns_from c n [] hs = stays hs
-turns_from c n (what ∷ rest) hs = then_do (turn c n what hs) (λ after. turns_from c (n + 1) rest after)
+-- the turns from the n-th on, each of this kind
+abbrev pub turns_from : {S : Type 0} → (ℕ → Option (List ℕ) → S → Moved S) → ℕ → List (Option (List ℕ)) → S → Moved S
+turns_from step n [] s = stays s
+turns_from step n (what ∷ rest) s = then_do (step n what s) (λ after. turns_from step (n + 1) rest after)
 
 -- The whole run: clients send their first requests, and then come the turns.
 unfoldable pub node_run : Cluster → List (Option (List ℕ)) → List Hosted → Moved (List Hosted)
-node_run c takes hs = then_do (all_do Begin hs) (λ after. turns_from c 1 takes after)
+node_run c takes hs = then_do (all_do Begin hs) (λ after. turns_from (turn c) 1 takes after)
 
 -- ---- when it ends
 

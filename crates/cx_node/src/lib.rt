@@ -8,8 +8,11 @@
 
 mod acting;
 mod binding;
+mod care;
 mod closing;
+mod come;
 mod doing;
+mod examples;
 mod guest;
 mod input;
 #[cfg(test)]
@@ -17,19 +20,28 @@ mod input_tests;
 mod law;
 mod node;
 mod opening;
+mod orders;
 mod seat;
 mod sending;
 mod serving;
+mod standing;
+mod tending;
 mod turning;
 mod waking;
+mod whom;
 
 pub use closing::close_seats;
+pub use come::Come;
 pub use doing::Doing;
+pub use examples::{beats, no_leader, reports, waits};
 pub use guest::Guest;
 pub use input::{Heard, Refusal, listen};
 pub use law::stops_are_crashes;
 pub use node::{Node, RunEnd, Stop};
 pub use opening::{OpenStop, open_seats};
+pub use orders::no_vain_order;
 pub use seat::Seat;
 pub use serving::serve;
+pub use standing::Standing;
 pub use waking::{WakeStop, wake};
+pub use whom::Whom;

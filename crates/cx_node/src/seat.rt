@@ -2,17 +2,22 @@
 
 ghost use Rattle.std.specs.Prelude.{◌≡◌, [], true, IsTrue, OnOk, OnErr, IsErrOf};
 ghost use Rattle.std.specs.List.{slice_get};
+ghost use Rattle.std.specs.Option.{option_map};
+ghost use Rattle.cx_leader.specs.Tending.{can_collect, is_new};
 ghost use Rattle.cx_model.specs.Rules.{outcome_of, running_after};
 ghost use Rattle.cx_model.specs.World.{kept_by, records_of};
 ghost use Rattle.cx_node.specs.Guest.{Appended, AppendedPart, Fails, GrowsPart, GuestFails, GuestGrows, GuestGrowsPart, hosted_of, keeper_of, who};
 ghost use Rattle.cx_node.specs.Hosted.{ClientAt, begun, client_given, does, given, is_idle_leader, is_live};
 ghost use Rattle.cx_node.specs.Run.{has_finished, is_client};
 ghost use Rattle.cx_node.specs.Seat.{FailsIn};
+ghost use Rattle.cx_node.specs.Tending.{completed, held_of, is_of, leader_of, standing_of};
+ghost use Rattle.cx_node.specs.Tends.{is_leader_so};
 
-use crate::{Doing, Guest};
-use cx_base::{NoMemory, RoleId};
+use crate::{Doing, Guest, Standing};
+use cx_base::{Kind, NoMemory, RoleId};
 use cx_client::Client;
 use cx_keeper::{Keeper, MemKeeper};
+use cx_leader::Leader;
 use cx_msg::Input;
 use cx_role::{Outbox, Role, StepFault};
 use cx_trace::put_told;
@@ -172,6 +177,19 @@ fn give<K: Keeper>(
     Ok(())
 }
 
+// How a leader stands.
+fn standing_in(leader: &Leader) -> Standing
+    ensures { result ≡ standing_of leader.now }
+{
+    Standing {
+        may_lead: leader.idle() && leader.has_heard(),
+        watermark: leader.watermark(),
+        has_open: leader.has_open(),
+        is_spent: leader.is_spent(),
+        can_collect: leader.can_collect(),
+    }
+}
+
 // The keeper of a hosted role's records, where it has any.
 fn keeper_in<K>(guest: Guest<K>) -> Option<K>
     ensures { result ≡ keeper_of guest }
@@ -211,11 +229,68 @@ impl<K: Keeper> Seat<K> {
         }
     }
 
+    /// Whether it is a leader that never began a round. It takes no memory.
+    pub fn is_new(&self) -> bool
+        ensures { result ≡ is_leader_so (λ l. is_new l.durable) (leader_of (hosted_of self.now)) }
+    {
+        match &self.guest {
+            Guest::Leader { role, .. } => role.is_new(),
+            _ => false,
+        }
+    }
+
+    /// Whether it is a leader that an order to collect would have begin. It takes no memory.
+    pub fn can_collect(&self) -> bool
+        ensures { result ≡ is_leader_so (λ l. can_collect l.volatile) (leader_of (hosted_of self.now)) }
+    {
+        match &self.guest {
+            Guest::Leader { role, .. } => role.can_collect(),
+            _ => false,
+        }
+    }
+
+    /// How its leader stands, if it is one. It takes no memory.
+    pub fn standing(&self) -> Option<Standing>
+        ensures { result ≡ option_map standing_of (leader_of (hosted_of self.now)) }
+    {
+        match &self.guest {
+            Guest::Leader { role, .. } => Some(standing_in(role)),
+            _ => None,
+        }
+    }
+
+    /// How many slots its replica holds, 0 where it is none. It takes no memory.
+    pub fn held(&self) -> u64
+        ensures { result ≡ held_of (hosted_of self.now) }
+    {
+        match &self.guest {
+            Guest::Replica { role, .. } => role.held(),
+            _ => 0,
+        }
+    }
+
+    /// How many requests its client has completed, 0 where it is none. It takes no memory.
+    pub fn completed(&self) -> u64
+        ensures { result ≡ completed (hosted_of self.now) }
+    {
+        match &self.guest {
+            Guest::Client { role } => role.completed(),
+            _ => 0,
+        }
+    }
+
+    /// Whether it is of this kind. It takes no memory.
+    pub fn is_of(&self, kind: Kind) -> bool
+        ensures { result ≡ is_of kind (hosted_of self.now) }
+    {
+        self.me.kind == kind
+    }
+
     /// Whether it is a client. It takes no memory.
     pub fn is_client(&self) -> bool
         ensures { result ≡ is_client (hosted_of self.now) }
     {
-        self.me.kind == cx_base::Kind::Client
+        self.me.kind == Kind::Client
     }
 
     /// Whether it has no request that isn't answered: only a client has any. It takes no memory.
