@@ -2,7 +2,7 @@
 use Rattle.std.proofs.Common.{◌≡◌, ◌&&◌, ◌||◌, ◌==◌, ◌∷◌, ◌++◌, ◌∙◌, [], ℕ, Bool, true, false, Bor, List, refl, inl, inr, ap, sym}
 use Rattle.std.proofs.lemmas.Bool.{cases_Bool}
 use Rattle.std.proofs.lemmas.List.Folds.{list_any-append}
-use Rattle.std.specs.List.{list_any, position}
+use Rattle.std.specs.List.{list_any}
 use Rattle.cx_base.specs.Grid.{Shape}
 use Rattle.cx_base.specs.Same.{same_value}
 use Rattle.cx_base.specs.declared.command.Value.{Value}
@@ -13,7 +13,7 @@ use Rattle.cx_msg.specs.declared.input.KeptRecord.{KeptRecord}
 use Rattle.cx_choice.proofs.Casts.{same_among}
 use Rattle.cx_choice.proofs.Whole.{chosen_by_whole}
 use Rattle.cx_choice.proofs.Same.{one_value}
-use Rattle.cx_choice.specs.Enough.{is_among, is_chosen_among, is_enough, is_for, is_whole, is_whole_vote, selects}
+use Rattle.cx_choice.specs.Enough.{is_among, is_chosen_among, is_enough, is_whole, is_whole_vote}
 use Rattle.cx_choice.specs.OfRound.{of_round}
 use Rattle.cx_choice.specs.Sorted.{AreCast, casts_in}
 use Rattle.cx_choice.specs.declared.of_round.OfRound.{OfRound}
