@@ -2,7 +2,7 @@
 //!
 //! `Sent` and `Kept` hold bytes, `Events` holds requests alone. Its theorem is: contracts see
 //! `Sent`, `Kept` and `Events` as the lists of what was pushed, which `Sent::get`, `Sent::since` and
-//! `Kept::records_of` read again as it was; `Events::is_stale` is the model's test over all events.
+//! `Kept::at` read again as it was; `Events::is_stale` is the model's test over all events.
 #![tactic(auto)]
 
 mod events;

@@ -7,7 +7,7 @@ ghost use Rattle.cx_model.specs.Names.{names_round, names_grid};
 ghost use Rattle.cx_model.specs.Rules.{IsFit};
 ghost use Rattle.cx_field.specs.Fields as field;
 ghost use Rattle.cx_role.specs.declared.role.StepFault.TheVariants as fault;
-ghost use Rattle.cx_role.specs.Role.{Steps, StaysAt, FailsAt, takes_no_memory};
+ghost use Rattle.cx_role.specs.Role.{Steps, StaysAt, FailsAt, KeepsDurable, takes_no_memory};
 
 use crate::Leader;
 use crate::sending::{ask_matchmakers, matchmakers};
@@ -80,6 +80,7 @@ impl Leader {
         ensures spared { IsErrOf result StepFault.NoMemory → takes_no_memory (begin_in self.old.cluster self.old.me self.old.volatile grid.now (Some round)).why ≡ false }
         ensures told { K.tells keeper.new ≡ K.tells keeper.old }
         ensures failed { IsErrOf result StepFault.Failed → FailsAt K.append_gives (begin_in self.old.cluster self.old.me self.old.volatile grid.now (Some round)) keeper.old keeper.new self.new out.new.list }
+        ensures keeps { IsErrOf result StepFault.Failed → KeepsDurable self.old self.new }
     {
         let count = matchmakers(&self.cluster);
         out.room(usize::from(count))?;
@@ -116,6 +117,7 @@ impl Leader {
         ensures spared { IsErrOf result StepFault.NoMemory → takes_no_memory (lead_row self.old.cluster self.old.me self.old.durable self.old.volatile grid.now).why ≡ false }
         ensures told { K.tells keeper.new ≡ K.tells keeper.old }
         ensures failed { IsErrOf result StepFault.Failed → FailsAt K.append_gives (lead_row self.old.cluster self.old.me self.old.durable self.old.volatile grid.now) keeper.old keeper.new self.new out.new.list }
+        ensures keeps { IsErrOf result StepFault.Failed → KeepsDurable self.old self.new }
         ensures fits { IsFit leader_rules self.old.cluster self.old.me self.old.durable (lead_row self.old.cluster self.old.me self.old.durable self.old.volatile grid.now).kept }
     {
         if !names_grid(&self.cluster, grid) {
@@ -142,6 +144,7 @@ impl Leader {
         ensures spared { IsErrOf result StepFault.NoMemory → takes_no_memory (change_row self.old.cluster self.old.me self.old.durable self.old.volatile grid.now).why ≡ false }
         ensures told { K.tells keeper.new ≡ K.tells keeper.old }
         ensures failed { IsErrOf result StepFault.Failed → FailsAt K.append_gives (change_row self.old.cluster self.old.me self.old.durable self.old.volatile grid.now) keeper.old keeper.new self.new out.new.list }
+        ensures keeps { IsErrOf result StepFault.Failed → KeepsDurable self.old self.new }
         ensures fits { IsFit leader_rules self.old.cluster self.old.me self.old.durable (change_row self.old.cluster self.old.me self.old.durable self.old.volatile grid.now).kept }
     {
         if !names_grid(&self.cluster, grid) {

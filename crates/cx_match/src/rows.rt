@@ -5,7 +5,7 @@ ghost use Rattle.cx_base.specs.declared.role.Kind.{Kind};
 ghost use Rattle.cx_base.specs.Role.{role};
 ghost use Rattle.cx_model.specs.Matchmaker.{garbage_a_row, matchmaker_rules, match_a_row, match_read_row};
 ghost use Rattle.cx_field.specs.Fields as field;
-ghost use Rattle.cx_role.specs.Role.{Replies, Steps, StaysAt, FailsAt, takes_no_memory};
+ghost use Rattle.cx_role.specs.Role.{Replies, Steps, StaysAt, FailsAt, KeepsDurable, takes_no_memory};
 
 use crate::Matchmaker;
 use crate::entries::{earlier, has_entry, has_later, last_round, retire, told};
@@ -36,6 +36,7 @@ impl Matchmaker {
         ensures spared { IsErrOf result StepFault.NoMemory → takes_no_memory (match_a_row self.old.me self.old.durable from round grid).why ≡ false }
         ensures told { K.tells keeper.new ≡ K.tells keeper.old }
         ensures failed { IsErrOf result StepFault.Failed → FailsAt K.append_gives (match_a_row self.old.me self.old.durable from round grid) keeper.old keeper.new self.new out.new.list }
+        ensures keeps { IsErrOf result StepFault.Failed → KeepsDurable self.old self.new }
     {
         if round.is_before(&self.watermark) {
             out.room(1)?;
@@ -89,6 +90,7 @@ impl Matchmaker {
         ensures spared { IsErrOf result StepFault.NoMemory → takes_no_memory (garbage_a_row self.old.me self.old.durable from round grid).why ≡ false }
         ensures told { K.tells keeper.new ≡ K.tells keeper.old }
         ensures failed { IsErrOf result StepFault.Failed → FailsAt K.append_gives (garbage_a_row self.old.me self.old.durable from round grid) keeper.old keeper.new self.new out.new.list }
+        ensures keeps { IsErrOf result StepFault.Failed → KeepsDurable self.old self.new }
     {
         out.room(1)?;
         if !self.watermark.is_before(&round) {

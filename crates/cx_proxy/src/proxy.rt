@@ -6,7 +6,7 @@ ghost use Rattle.cx_field.specs.Fields as field;
 ghost use Rattle.cx_field.specs.Fields.{in_window};
 ghost use Rattle.cx_msg.specs.declared.input.Input.TheVariants as input;
 ghost use Rattle.cx_model.specs.declared.states.Pending.{Pending};
-ghost use Rattle.cx_model.specs.Rules.{Running, outcome_of};
+ghost use Rattle.cx_model.specs.Rules.{Running, opened, outcome_of};
 ghost use Rattle.cx_model.specs.Proxy.{ProxyVolatile, proxy_rules, propose_row, raised_to, pending_of, vote_for, pending_at};
 ghost use Rattle.cx_role.specs.Role.{Replies, takes_no_memory};
 ghost use Rattle.cx_proxy.specs.Holds.{IsPending};
@@ -49,6 +49,19 @@ impl Model for Proxy {
 }
 
 impl Proxy {
+    // A proxy leader to which nothing was sent. It takes no memory.
+    fn new(alloc: Global, cluster: &Cluster, me: RoleId) -> Self
+        ensures { result ≡ opened proxy_rules cluster.now me [] }
+    {
+        Proxy {
+            alloc,
+            cluster: *cluster,
+            me,
+            live: true,
+            pending: Pendings::new(alloc, 0),
+        }
+    }
+
     // One datagram.
     fn taken(&mut self, datagram: &Datagram, out: &mut Outbox) -> Result<Why, NoMemory>
         requires { out.old.list ≡ [] }
@@ -152,23 +165,21 @@ impl Role for Proxy {
 
     ghost state = { λ s. s };
 
-    #[tactic(auto, using(crate::proofs::Rows::proxy_refuses))]
     fn open(
         alloc: Global,
         cluster: &Cluster,
         me: RoleId,
         records: &[Record],
     ) -> Result<Self, WakeFault> {
+        Proxy::new(alloc, cluster, me).reopen(records)
+    }
+
+    #[tactic(auto, using(crate::proofs::Rows::proxy_refuses))]
+    fn reopen(self, records: &[Record]) -> Result<Self, WakeFault> {
         if let [_, ..] = records {
             return Err(WakeFault::Record { index: 0 });
         }
-        Ok(Proxy {
-            alloc,
-            cluster: *cluster,
-            me,
-            live: true,
-            pending: Pendings::new(alloc, 0),
-        })
+        Ok(Proxy::new(self.alloc, &self.cluster, self.me))
     }
 
     fn take<K: Keeper>(

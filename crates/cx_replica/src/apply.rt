@@ -9,7 +9,7 @@ ghost use Rattle.cx_model.specs.Rules.{IsFit};
 ghost use Rattle.cx_field.specs.Fields as field;
 ghost use Rattle.cx_replica.specs.Sound.{is_own};
 ghost use Rattle.cx_role.specs.declared.role.StepFault.TheVariants as fault;
-ghost use Rattle.cx_role.specs.Role.{Steps, StaysAt, FailsAt, takes_no_memory};
+ghost use Rattle.cx_role.specs.Role.{Steps, StaysAt, FailsAt, KeepsDurable, takes_no_memory};
 
 use crate::machine::Machine;
 use crate::reads::drop_answered;
@@ -39,6 +39,7 @@ impl Replica {
         ensures spared { IsErrOf result StepFault.NoMemory → takes_no_memory (chosen_row self.old.cluster self.old.me self.old.durable self.old.volatile slot value.now).why ≡ false }
         ensures told { K.tells keeper.new ≡ K.tells keeper.old }
         ensures failed { IsErrOf result StepFault.Failed → FailsAt K.append_gives (chosen_row self.old.cluster self.old.me self.old.durable self.old.volatile slot value.now) keeper.old keeper.new self.new out.new.list }
+        ensures keeps { IsErrOf result StepFault.Failed → KeepsDurable self.old self.new }
         ensures fits { IsFit replica_rules self.old.cluster self.old.me self.old.durable (chosen_row self.old.cluster self.old.me self.old.durable self.old.volatile slot value.now).kept }
     {
         match self.log.take(self.alloc, slot, value)? {
@@ -65,6 +66,7 @@ impl Replica {
         ensures spared { IsErrOf result StepFault.NoMemory → takes_no_memory (apply self.old.cluster self.old.me self.old.durable self.old.volatile (ready_values (length self.old.durable.log) self.old.volatile.early value.now)).why ≡ false }
         ensures told { K.tells keeper.new ≡ K.tells keeper.old }
         ensures failed { IsErrOf result StepFault.Failed → FailsAt K.append_gives (apply self.old.cluster self.old.me self.old.durable self.old.volatile (ready_values (length self.old.durable.log) self.old.volatile.early value.now)) keeper.old keeper.new self.new out.new.list }
+        ensures keeps { IsErrOf result StepFault.Failed → KeepsDurable self.old self.new }
     {
         let values = self.log.ready(self.alloc, value)?;
         let record = Record::Log {

@@ -70,6 +70,17 @@ impl Replica {
         })
     }
 
+    /// What its records left, as in a replica that was just opened. It takes no memory.
+    fn stopped(self) -> Self
+        ensures { result ≡ record self { live = true; volatile = replica_rules.fresh self.cluster } }
+    {
+        let mut replica = self;
+        replica.live = true;
+        replica.log.forget_early();
+        replica.deferred.clear();
+        replica
+    }
+
     /// Whether it could have appended this record. It takes no memory.
     fn fits(&self, what: &Record) -> bool
         ensures { result ≡ replica_fits self.now.cluster self.now.me self.now.durable what.now }
@@ -143,7 +154,11 @@ impl Role for Replica {
         me: RoleId,
         records: &[Record],
     ) -> Result<Self, WakeFault> {
-        let mut replica = Replica::new(alloc, cluster, me)?;
+        Replica::new(alloc, cluster, me)?.reopen(records)
+    }
+
+    fn reopen(self, records: &[Record]) -> Result<Self, WakeFault> {
+        let mut replica = self.stopped();
         for (index, record) in records.iter().enumerate() {
             if !replica.fits(record) {
                 return Err(WakeFault::Record { index });

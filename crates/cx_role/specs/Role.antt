@@ -48,6 +48,12 @@ pub record FailsAt {K D V : Type 0} (append_gives : Appending K) (outcome : Outc
   pub dead : after.live ≡ false
   pub sends : sent ≡ []
 
+-- what the records of a role left stays, also where an append failed
+pub record KeepsDurable {D V : Type 0} (before after : Running D V) : Type 0 where
+  pub cluster : after.cluster ≡ before.cluster
+  pub me : after.me ≡ before.me
+  pub durable : after.durable ≡ before.durable
+
 -- the words of the rows that take no memory, so that want of it is never their answer (this project's own)
 abbrev pub takes_no_memory : Why → Bool
 takes_no_memory why.Stranger = true

@@ -142,11 +142,5 @@ fn records_are_read_as_they_were_kept(rt: HostRuntime) -> Result<(), Fail> {
     let mut bytes = Vec::new(alloc);
     record_into(alloc, &last.what, &mut bytes)?;
     assert_eq!(rt; bytes.as_slice(), PROMISE);
-
-    let of_one = kept.records_of(acceptor)?;
-    assert_eq!(rt; of_one.len(), 1);
-    let mut again = Vec::new(alloc);
-    record_into(alloc, &of_one[0], &mut again)?;
-    assert_eq!(rt; again.as_slice(), PROMISE);
     Ok(())
 }

@@ -145,7 +145,7 @@ impl Keeper for LastKeeper {
         }
     }
 
-    /// It fails: the records stand in the world's history, from which the world itself opens a role.
+    /// It fails: the records stand in the world's history, and a role that stopped still knows its own.
     fn recover(&mut self) -> Result<Vec<Record>, OpenFault> {
         self.faults.add();
         Err(OpenFault::Failed)

@@ -134,9 +134,7 @@ impl World {
         self.spent = true;
         let first = self.sent.len();
         let Changed { who, why, kept } = change(
-            self.alloc,
             &mut self.seats,
-            &self.kept,
             &self.sent,
             &self.events,
             event,
