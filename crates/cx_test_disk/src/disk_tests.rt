@@ -1,6 +1,6 @@
 //! Calls that fail, and a disk that stops.
 
-use cx_disk::{Unsynced, Disk, Failed, Room, MemDisk};
+use cx_disk::{Disk, Failed, MemDisk, Room, Unsynced};
 use std::alloc::Global;
 use std::test::Fail;
 

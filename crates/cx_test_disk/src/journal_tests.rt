@@ -1,8 +1,8 @@
 //! The bytes of a small journal, its breaks, and appends that fail or stop.
 
-use cx_journal::{Journal};
 use cx_base::Kind;
 use cx_disk::{MemDisk, Room};
+use cx_journal::Journal;
 use cx_keeper::{KeepFault, Keeper, OpenFault};
 use cx_msg::record_from;
 use std::alloc::Global;

@@ -1,7 +1,7 @@
 //! Headers round the edges of the form, and what they are told.
 
-use cx_cluster::read;
 use cx_base::Cluster;
+use cx_cluster::read;
 use std::alloc::Global;
 use std::test::Fail;
 

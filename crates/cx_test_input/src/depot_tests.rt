@@ -1,8 +1,8 @@
 //! Depots: what fails in memory, and a file that is written, read and opened anew.
 
-use cx_edge::{Depot, FileDepot, MemDepot};
 use cx_base::{Kind, RoleId};
 use cx_disk::{Disk, Failed, MemDisk, Room};
+use cx_edge::{Depot, FileDepot, MemDepot};
 use std::fs;
 use std::test::Fail;
 

@@ -1,8 +1,8 @@
 //! Links: what fails in memory, and one datagram through real sockets and back.
 
-use cx_edge::{Front, Link, LinkFailing, LinkRoom, MemLink, TakeEnd, UdpLink};
 use cx_base::{Kind, RoleId};
 use cx_disk::Failed;
+use cx_edge::{Front, Link, LinkFailing, LinkRoom, MemLink, TakeEnd, UdpLink};
 use std::net::{Ipv4Addr, SocketAddr, UdpSocket};
 use std::test::Fail;
 

@@ -1,9 +1,9 @@
 //! Lines, schedules and headers round the edges of the form, and the events of a seed.
 
+use cx_base::{Command, Cut, Event, Grid, Key, Kind, NoMemory, Op, Order, RoleId, Text};
 use cx_script::{
     Gen, LineFault, gen_cluster, line, read_requests, read_schedule, script, split_header,
 };
-use cx_base::{Command, Cut, Event, Grid, Key, Kind, NoMemory, Op, Order, RoleId, Text};
 use std::alloc::Global;
 use std::test::Fail;
 

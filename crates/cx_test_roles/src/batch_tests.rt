@@ -1,7 +1,7 @@
 //! A batcher's and an unbatcher's rows.
 
-use cx_batch::{Batcher, Unbatcher};
 use cx_base::{Cluster, Command, Key, Kind, Op, Order, RoleId, Round, Why};
+use cx_batch::{Batcher, Unbatcher};
 use cx_keeper::MemKeeper;
 use cx_msg::{Datagram, Msg};
 use cx_role::{Outbox, Role, StepFault};
@@ -23,8 +23,8 @@ const CLUSTER: Cluster = Cluster {
 
 // A replica's results: slot 4; client 1, number 7, at 5, ok.
 const RESULTS: [u8; 40] = [
-    67, 88, 1, 15, 7, 0, 0, 8, 0, 0, 0, 28, 0, 0, 0, 0, 0, 0, 0, 4, 1, 0, 1, 0, 0, 0, 0, 0, 0,
-    0, 7, 0, 0, 0, 0, 0, 0, 0, 5, 0,
+    67, 88, 1, 15, 7, 0, 0, 8, 0, 0, 0, 28, 0, 0, 0, 0, 0, 0, 0, 4, 1, 0, 1, 0, 0, 0, 0, 0, 0, 0,
+    7, 0, 0, 0, 0, 0, 0, 0, 5, 0,
 ];
 
 fn step<R: Role>(

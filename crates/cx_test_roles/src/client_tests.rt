@@ -1,7 +1,7 @@
 //! A client's requests and their answers.
 
-use cx_client::Client;
 use cx_base::{Cluster, Kind, NoMemory, RoleId, Why};
+use cx_client::Client;
 use cx_msg::{Datagram, Msg, WireFault};
 use cx_role::Outbox;
 use cx_script::{read_requests, requests_rise, script};

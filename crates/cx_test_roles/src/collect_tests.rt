@@ -1,7 +1,7 @@
 //! A collection over two rows of two, and its answers.
 
-use cx_collect::Collector;
 use cx_base::Grid;
+use cx_collect::Collector;
 use cx_model::Stage;
 use std::test::Fail;
 

@@ -3,10 +3,10 @@
 ghost use Rattle.std.specs.Prelude.{◌<◌, IsTrue};
 ghost use Rattle.cx_msg.specs.Records.{fits};
 
-use cx_leader::Leader;
 use cx_base::{Cluster, Cut, Grid, Kind, Order, RoleId, Round, Why};
 use cx_field::grid_fits;
 use cx_keeper::{Keeper, MemKeeper};
+use cx_leader::Leader;
 use cx_msg::{Datagram, Record, decode, encode_into};
 use cx_role::{Outbox, Role, WakeFault};
 use std::alloc::Global;

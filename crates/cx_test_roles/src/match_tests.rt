@@ -3,10 +3,10 @@
 ghost use Rattle.std.specs.Prelude.{◌≡◌, IfOk, IsTrue};
 ghost use Rattle.cx_keeper.specs.Keeper.{all_fit};
 
-use cx_match::Matchmaker;
 use cx_base::{Cluster, Cut, Grid, Kind, NoMemory, Order, RoleId, Round, Why};
 use cx_field::grid_fits;
 use cx_keeper::{Keeper, MemKeeper};
+use cx_match::Matchmaker;
 use cx_msg::{Record, decode, encode_into};
 use cx_role::{Outbox, Role, WakeFault};
 use std::alloc::Global;

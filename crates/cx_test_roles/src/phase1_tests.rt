@@ -1,10 +1,10 @@
 //! Answers of acceptors, as bytes, and the plan that they make.
 
-use cx_phase1::{Phase1, Slots, Told};
 use cx_base::{Duplicate, Grid, Round, Value};
 use cx_field::Entry;
 use cx_model::Plan;
 use cx_msg::{Msg, decode};
+use cx_phase1::{Phase1, Slots, Told};
 use std::alloc::Global;
 use std::test::Fail;
 

@@ -1,9 +1,9 @@
 //! A proxy leader's rows, from a proposal to what is announced.
 
-use cx_proxy::{Proxy};
 use cx_base::{Cluster, Kind, RoleId, Why};
 use cx_keeper::MemKeeper;
 use cx_msg::{Datagram, Msg, WireFault, decode};
+use cx_proxy::Proxy;
 use cx_role::{Outbox, Role, StepFault};
 use std::alloc::Global;
 use std::test::Fail;
@@ -25,8 +25,8 @@ const CLUSTER: Cluster = Cluster {
 // Leader 1 hands over a no-op in its round of this number, with acceptors 0 to 3 in two rows of two.
 fn propose(alloc: Global, r: u8, slot: u8, cw: u8) -> Result<Datagram, WireFault> {
     let bytes = [
-        67, 88, 1, 10, 3, 0, 1, 4, 0, 0, 0, 37, 0, 0, 0, r, 0, 1, 0, 0, 0, 0, 2, 2, 0, 0, 0, 1,
-        0, 2, 0, 3, 0, 0, 0, 0, 0, 0, 0, slot, 0, 0, 0, 0, 0, 0, 0, cw, 0,
+        67, 88, 1, 10, 3, 0, 1, 4, 0, 0, 0, 37, 0, 0, 0, r, 0, 1, 0, 0, 0, 0, 2, 2, 0, 0, 0, 1, 0,
+        2, 0, 3, 0, 0, 0, 0, 0, 0, 0, slot, 0, 0, 0, 0, 0, 0, 0, cw, 0,
     ];
     decode(alloc, &bytes)
 }
@@ -34,8 +34,8 @@ fn propose(alloc: Global, r: u8, slot: u8, cw: u8) -> Result<Datagram, WireFault
 // An acceptor voted in that round.
 fn voted(alloc: Global, acceptor: u8, r: u8, slot: u8) -> Result<Datagram, WireFault> {
     let bytes = [
-        67, 88, 1, 12, 5, 0, acceptor, 4, 0, 0, 0, 18, 0, 0, 0, r, 0, 1, 0, 0, 0, 0, 0, 0, 0,
-        0, 0, 0, 0, slot,
+        67, 88, 1, 12, 5, 0, acceptor, 4, 0, 0, 0, 18, 0, 0, 0, r, 0, 1, 0, 0, 0, 0, 0, 0, 0, 0, 0,
+        0, 0, slot,
     ];
     decode(alloc, &bytes)
 }
@@ -71,20 +71,12 @@ fn asks_and_announces(rt: HostRuntime) -> Result<(), Fail> {
     let why = step(&mut proxy, &mut keeper, propose(alloc, 2, 5, 0)?, &mut out)?;
     assert!(rt; why == Why::Asking && out.len() == 2);
     assert!(rt; goes_to(&out, 0, Kind::Acceptor, 1) && goes_to(&out, 1, Kind::Acceptor, 3));
-    assert!(rt;
-        step(&mut proxy, &mut keeper, propose(alloc, 2, 5, 0)?, &mut out)? == Why::Same
-    );
+    assert!(rt; step(&mut proxy, &mut keeper, propose(alloc, 2, 5, 0)?, &mut out)? == Why::Same);
     assert!(rt; step(&mut proxy, &mut keeper, propose(alloc, 1, 5, 0)?, &mut out)? == Why::Old);
-    assert!(rt;
-        step(&mut proxy, &mut keeper, voted(alloc, 1, 1, 5)?, &mut out)? == Why::Unasked
-    );
-    assert!(rt;
-        step(&mut proxy, &mut keeper, voted(alloc, 1, 2, 5)?, &mut out)? == Why::Counted
-    );
+    assert!(rt; step(&mut proxy, &mut keeper, voted(alloc, 1, 1, 5)?, &mut out)? == Why::Unasked);
+    assert!(rt; step(&mut proxy, &mut keeper, voted(alloc, 1, 2, 5)?, &mut out)? == Why::Counted);
     assert!(rt; step(&mut proxy, &mut keeper, voted(alloc, 1, 2, 5)?, &mut out)? == Why::Same);
-    assert!(rt;
-        step(&mut proxy, &mut keeper, voted(alloc, 0, 2, 5)?, &mut out)? == Why::Counted
-    );
+    assert!(rt; step(&mut proxy, &mut keeper, voted(alloc, 0, 2, 5)?, &mut out)? == Why::Counted);
     let why = step(&mut proxy, &mut keeper, voted(alloc, 3, 2, 5)?, &mut out)?;
     assert!(rt; why == Why::Chosen && out.len() == 3);
     assert!(rt; goes_to(&out, 0, Kind::Replica, 0) && goes_to(&out, 1, Kind::Replica, 1));
@@ -95,12 +87,8 @@ fn asks_and_announces(rt: HostRuntime) -> Result<(), Fail> {
     assert!(rt; proxy.tick(&mut out)? == Why::Resent);
     assert!(rt; out.len() == 3 && goes_to(&out, 2, Kind::Leader, 1));
 
-    assert!(rt;
-        step(&mut proxy, &mut keeper, propose(alloc, 2, 8, 6)?, &mut out)? == Why::Asking
-    );
-    assert!(rt;
-        step(&mut proxy, &mut keeper, propose(alloc, 3, 5, 0)?, &mut out)? == Why::Past
-    );
+    assert!(rt; step(&mut proxy, &mut keeper, propose(alloc, 2, 8, 6)?, &mut out)? == Why::Asking);
+    assert!(rt; step(&mut proxy, &mut keeper, propose(alloc, 3, 5, 0)?, &mut out)? == Why::Past);
     out.clear();
     assert!(rt; proxy.live());
     assert!(rt; proxy.tick(&mut out)? == Why::Resent);

@@ -1,9 +1,9 @@
 //! A reader's rows, with the datagrams that it takes as bytes.
 
-use cx_reader::Reader;
 use cx_base::{Cluster, Kind, Order, RoleId, Why};
 use cx_keeper::MemKeeper;
 use cx_msg::{Msg, decode};
+use cx_reader::Reader;
 use cx_role::{Outbox, Role};
 use std::alloc::Global;
 use std::test::Fail;

@@ -3,10 +3,10 @@
 ghost use Rattle.std.specs.Prelude.{IsTrue};
 ghost use Rattle.cx_keeper.specs.Keeper.{all_fit};
 
-use cx_replica::Replica;
 use cx_base::{Cluster, Cut, Kind, Order, Reply, RoleId, Why};
 use cx_keeper::{Keeper, MemKeeper};
 use cx_msg::{Msg, Record, decode};
+use cx_replica::Replica;
 use cx_role::{Outbox, Role, WakeFault};
 use std::alloc::Global;
 use std::test::Fail;

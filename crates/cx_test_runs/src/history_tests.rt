@@ -1,8 +1,8 @@
 //! Datagrams of the one put, held and read again.
 
-use cx_history::{Events, Kept, Sent};
 use cx_base::{Command, Cut, Event, Happened, Key, Kind, Op, RoleId, Text, Why};
 use cx_field::Token;
+use cx_history::{Events, Kept, Sent};
 use cx_msg::{decode, encode_into, record_from, record_into};
 use std::alloc::Global;
 use std::test::Fail;

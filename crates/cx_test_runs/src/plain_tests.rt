@@ -1,12 +1,12 @@
 //! Inputs that are replayed as they are read and whole, and lists beside what holds them otherwise.
 
-use cx_plain::replay_whole;
 use cx_base::{Command, CommandList, Key, Kind, Op, RoleId, Text, acts};
 use cx_edge::{InPieces, MemSink, MemSource};
 use cx_grid::Marks;
 use cx_history::{Kept, Sent};
 use cx_kv::Executed;
 use cx_msg::{Datagram, decode, encode_into, record_from, record_into};
+use cx_plain::replay_whole;
 use cx_replay::replay;
 use std::alloc::Global;
 use std::test::Fail;

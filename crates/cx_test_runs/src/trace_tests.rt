@@ -1,9 +1,11 @@
 //! Lines of a trace, and what is left of a text that memory ran out for.
 
-use cx_trace::{slot_into, datagram_into, datagrams_into, Effect, event_into, Folded, chosen_into, replica_into};
 use cx_base::{Command, Cut, Event, Few, Key, Kind, Op, RoleId, Text, Value, Why};
 use cx_kv::{Executed, Store};
 use cx_msg::decode;
+use cx_trace::{
+    Effect, Folded, chosen_into, datagram_into, datagrams_into, event_into, replica_into, slot_into,
+};
 use std::test::Fail;
 
 // Lines of a run with one role of each kind.
