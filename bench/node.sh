@@ -2,9 +2,9 @@
 # What a cluster costs while it is up: f = 1, three matchmakers, a grid of two by two, two replicas; each client has one put
 # outstanding. For 1, 4, 16 and 64 clients, batches of 1 and 8, and all roles in one process or in five (the clients in one of
 # them), a line says: answers a second from the first one on, slots and syncs a command, the median of the times from one answer
-# of a client to its next and what 99 of 100 stay below, processor time a command, and how many clients got no answer. Then: how
-# much of a processor four processes take that nobody asks anything, and, where `etcd` is installed (Debian's etcd-server), what
-# three of its members do for as many clients.
+# of a client to its next and what 99 of 100 stay below (as a script reads them, so nothing else should run), processor time a
+# command, and how many clients got no answer. Before these: how much of a processor each of four processes takes that nobody asks
+# anything. Beside them, where `etcd` is installed (Debian's etcd-server): what three of its members do for as many clients.
 #
 # Use: [TIME=SECONDS] [FOLDER=PATH] [PROGRAM=PATH] bench/node.sh [WORD..]
 #

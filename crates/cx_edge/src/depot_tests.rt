@@ -85,3 +85,34 @@ fn a_file_is_written_read_and_opened_anew(rt: HostRuntime) -> Result<(), Fail> {
     fs::remove_file(&rt, NAME)?;
     Ok(())
 }
+
+const TEXT: &str = "compax-match-65535.journal";
+
+#[test]
+fn a_file_that_is_no_journal_is_left_as_it_is(rt: HostRuntime) -> Result<(), Fail> {
+    let (me, other) = (acceptor(), RoleId::new(Kind::Matchmaker, 65535));
+    fs::write(&rt, TEXT, b"no journal")?;
+    let mut depot = FileDepot::new(rt.alloc(), &rt, &[other, me])?;
+    assert!(rt; depot.open(other).is_err());
+    assert_eq!(rt; fs::read(&rt, TEXT)?.as_slice(), b"no journal".as_slice());
+    fs::remove_file(&rt, TEXT)?;
+    Ok(())
+}
+
+const TWICE: &str = "compax-replica-65535.journal";
+
+#[test]
+#[tactic(auto, using(crate::proofs::HeldLaws::out_last))]
+fn a_file_is_open_once_at_a_time(rt: HostRuntime) -> Result<(), Fail> {
+    let me = RoleId::new(Kind::Replica, 65535);
+    let mut depot = FileDepot::new(rt.alloc(), &rt, &[me])?;
+    let mut second = FileDepot::new(rt.alloc(), &rt, &[me])?;
+    let Ok(store) = depot.open(me) else {
+        return Err("not opened".into());
+    };
+    assert!(rt; second.open(me).is_err());
+    depot.close(me, store);
+    assert!(rt; second.open(me).is_ok());
+    fs::remove_file(&rt, TWICE)?;
+    Ok(())
+}

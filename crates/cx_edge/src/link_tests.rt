@@ -60,8 +60,9 @@ fn comes(socket: &UdpSocket, buffer: &mut [u8]) -> Option<(usize, SocketAddr)> {
     None
 }
 
+/// What comes within ten seconds, since a take that finds nothing waits a millisecond.
 fn taken(link: &mut impl Link, buffer: &mut [u8]) -> TakeEnd {
-    for _ in 0..TRIES {
+    for _ in 0..10_000 {
         let end = link.take(buffer);
         if !matches!(end, TakeEnd::Nothing) {
             return end;
