@@ -51,7 +51,7 @@ pub record Answered (said : Option Invocation) (old new : Outside) (s : Status) 
   pub generating_completes : (seed count : ℕ) → said ≡ Some (Generate seed count) → GenCompletes old.writes new.writes s
   pub comes_of_gen : (seed count : ℕ) → said ≡ Some (Generate seed count) → ComesOfGen s
   -- A node bound, sent, kept and printed what the run of its roles says, or its status says why it stopped.
-  pub hosted : (turns : ℕ) (tend : Option ℕ) (roles : List RoleId) → said ≡ Some (Node turns tend roles) → Hosted roles turns old new s
+  pub hosted : (turns : ℕ) (tend : Option ℕ) (roles : List RoleId) → said ≡ Some (Node turns tend roles) → Hosted roles tend turns old new s
   pub hosting_completes : (turns : ℕ) (tend : Option ℕ) (roles : List RoleId) → said ≡ Some (Node turns tend roles) → HostedCompletes roles old new s
   pub hosting_tells_bad : (turns : ℕ) (tend : Option ℕ) (roles : List RoleId) → said ≡ Some (Node turns tend roles) → HostedTellsBad roles old new s
 

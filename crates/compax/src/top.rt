@@ -38,10 +38,11 @@ fn answer<S: Source, W: Sink, L: Link, D: Depot>(
             u64::from(count),
             out,
         ),
-        Ok(Some(Invocation::Node { turns, roles, .. })) => serve(
+        Ok(Some(Invocation::Node { turns, tend, roles })) => serve(
             alloc,
             roles.as_slice(),
             turns,
+            tend,
             input,
             link,
             depot,
