@@ -10,8 +10,8 @@ use Rattle.cx_node.proofs.Actions.{blames_then}
 use Rattle.cx_node.proofs.Turned.{begun_underway, never_begun, stopped_begun, stopped_turn, turned_underway}
 use Rattle.cx_node.proofs.node.Node.all_turns.Goals as goal
 
-pub returns-in_err-first_care-clause-acts : goal.returns-in_err-first_care-clause-acts
-returns-in_err-first_care-clause-acts g c =
+pub returns-in_err-care-clause-acts : goal.returns-in_err-care-clause-acts
+returns-in_err-care-clause-acts g c =
     let p = err_from_is_err_and c.from_residual.result c.from_residual.ensures.1 in
     let is : c.from_residual.result ≡ Err stop.NoMemory = p.1 ∙ ap Err p.2 in
     rw is (never_begun g.K.Keeper.append_gives c.args.tend c.args.self.now.cluster c.args.turns (scene c.args.self.now.guests (g.L.Link.told c.args.link.now) (g.W.Sink.taken c.args.out.now)))
@@ -28,7 +28,7 @@ pub loop-made-init : goal.loop-made-init
 loop-made-init g c =
     record {
       acts = begun_underway g.K.Keeper.append_gives c.args.tend c.args.self.now.cluster c.args.turns (scene c.args.self.now.guests (g.L.Link.told c.args.link.now) (g.W.Sink.taken c.args.out.now))
-          (scene c.all_act.new.self.guests (g.L.Link.told c.all_act.new.link) (g.W.Sink.taken c.all_act.new.out)) c.in_ok-first_care.care c.in_ok-first_care.ensures c.in_ok-all_act.ensures.acts;
+          (scene c.all_act.new.self.guests (g.L.Link.told c.all_act.new.link) (g.W.Sink.taken c.all_act.new.out)) c.in_ok-care.care c.in_ok-care.ensures c.in_ok-all_act.ensures.acts;
       blames = c.in_ok-all_act.ensures.blames;
       cluster = c.in_ok-all_act.ensures.cluster;
       most = omega arith;
