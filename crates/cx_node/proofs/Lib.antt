@@ -28,3 +28,4 @@ pub mod HostedRuns
 pub mod Answering
 pub mod Actions
 pub mod Tended
+pub mod Vain

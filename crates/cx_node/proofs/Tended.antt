@@ -1,5 +1,5 @@
 -- The parts of a tended turn, as acts.
-use Rattle.std.proofs.Common.{◌≡◌, ◌+◌, ◌<◌, ◌≤◌, ◌⊎◌, ◌==◌, ◌&&◌, not, nat_lt, ◌/◌, ℕ, zero, suc, min, arith, length, Bool, true, false, cond, List, [], ◌∷◌, ◌++◌, map, Option, None, Some, option_map, Result, Ok, Err, slice_get, if◌then◌else◌, inl, inr, refl, sym, ap, ◌∙◌, subst, append-nil}
+use Rattle.std.proofs.Common.{◌≡◌, ◌+◌, ◌<◌, ◌≤◌, ◌⊎◌, ◌==◌, ◌&&◌, not, nat_lt, ◌/◌, ℕ, zero, suc, min, arith, length, Bool, true, false, cond, List, [], ◌∷◌, map, Option, None, Some, option_map, Result, Ok, Err, slice_get, if◌then◌else◌, inl, inr, refl, sym, ap, ◌∙◌, subst, append-nil}
 use Rattle.std.specs.Prelude.{OnOk, filter, is_some}
 use Rattle.std.specs.List.{count_by, sum_by}
 use Rattle.std.specs.Option.{option_map_or}
@@ -21,7 +21,6 @@ use Rattle.cx_msg.specs.Letter.{Letter}
 use Rattle.cx_msg.specs.declared.fault.WireFault.{WireFault}
 use Rattle.cx_msg.specs.declared.input.Input.TheVariants as input
 use Rattle.cx_role.specs.Role.{Appending}
-use Rattle.cx_node.specs.declared.come.Come.{Come}
 use Rattle.cx_node.specs.declared.come.Come.TheVariants as come
 use Rattle.cx_node.specs.declared.doing.Doing.TheVariants.{Give}
 use Rattle.cx_node.specs.declared.guest.Guest.{Guest}
@@ -32,7 +31,6 @@ use Rattle.cx_node.specs.Acts.{Acts, Receives, come_of, read_as}
 use Rattle.cx_node.specs.Doing.{Scene, scene}
 use Rattle.cx_node.specs.Guest.{AreReady, hosted_in, hosted_of}
 use Rattle.cx_node.specs.Hosted.{Hosted, Moved, stays}
-use Rattle.cx_node.specs.Node.{Takes}
 use Rattle.cx_node.specs.Run.{at_place, does_at, is_client, ordered, place_of, then_do}
 use Rattle.cx_node.specs.Tending.{Care, Tended, all_completed, asks_again, at_or_none, beat, beat_over, clients_noted, clients_tended, collected, completed, completed_by, counted, decoded_heeded, first_leader, first_tick, flushed, gets, heeded, held_by, held_of, hosted_as, is_beat, is_of, is_overtaken, is_so, kind_ticks, leader_asked, leader_cared, leader_of, leader_tended, next_pass, others_tick, passes, reported, standing_of, tend_comes, tend_ordered, tended_turn, those_tick, turn_ended, with_care, within, without_care}
 use Rattle.cx_node.specs.Tends.{TendsOnce, is_leader_so, tended}

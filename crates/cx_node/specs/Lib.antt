@@ -16,3 +16,4 @@ pub mod Durable
 pub mod Hosting
 pub mod Acts
 pub mod Tends
+pub mod Orders

@@ -1,6 +1,6 @@
 use Rattle.std.proofs.Common.{◌≡◌, ◌∙◌, ℕ, List, ap, replicate, rules}
 use Rattle.std.proofs.lemmas.Simd.{splat_is_map}
-use Rattle.cx_node.specs.Tending.{Care, no_care}
+use Rattle.cx_node.specs.Tending.{no_care}
 use Rattle.cx_node.proofs.care.Care.new.Goals as goal
 
 pub returns : goal.returns

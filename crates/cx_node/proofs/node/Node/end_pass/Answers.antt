@@ -1,5 +1,5 @@
 use Rattle.std.proofs.Common.{map}
-use Rattle.std.proofs.Common.{◌≡◌, Err, sym, ap, ◌∙◌, List}
+use Rattle.std.proofs.Common.{◌≡◌, Err, ap, ◌∙◌}
 use Rattle.std.proofs.lemmas.Result.{err_from_is_err_and}
 use Rattle.cx_node.specs.Doing.{scene}
 use Rattle.cx_node.specs.Guest.{hosted_in, hosted_of}

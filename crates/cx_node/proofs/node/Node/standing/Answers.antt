@@ -1,15 +1,12 @@
-use Rattle.std.proofs.Common.{◌≡◌, ◌<◌, Some, None, length, get_or, slice_get, arith, refl, sym, ap, ◌∙◌}
+use Rattle.std.proofs.Common.{◌≡◌, ◌<◌, Some, length, get_or, slice_get, arith, refl, sym, ap, ◌∙◌}
 use Rattle.std.proofs.lemmas.Option.{slice_get_read}
 use Rattle.std.specs.Option.{option_map}
 use Rattle.cx_base.specs.Role.{role}
 use Rattle.cx_base.specs.declared.role.Kind.TheVariants as kind
-use Rattle.cx_model.specs.Leader.{LeaderDurable, LeaderVolatile}
-use Rattle.cx_model.specs.Rules.{Running}
 use Rattle.cx_node.specs.Guest.{hosted_in}
 use Rattle.cx_node.specs.Node.{NodeState}
 use Rattle.cx_node.specs.Run.{place_of}
 use Rattle.cx_node.specs.Tending.{standing_of}
-use Rattle.cx_node.specs.Tends.{is_leader_so}
 use Rattle.cx_node.proofs.Places.{place_within}
 use Rattle.cx_node.proofs.Tended.{first_none, first_some}
 use Rattle.cx_node.proofs.node.Node.standing.Goals as goal
