@@ -19,7 +19,7 @@ use Rattle.cx_node.specs.Guest.{AreDistinct, Grows, GrowsPart, GuestGrowsPart, h
 use Rattle.cx_node.specs.Hosted.{name_of}
 use Rattle.cx_node.specs.Node.{Runs, RunsPart}
 use Rattle.cx_node.specs.Opening.{lent_to}
-use Rattle.cx_node.specs.Run.{node_run}
+use Rattle.cx_node.specs.Tending.{node_run}
 use Rattle.cx_node.proofs.OpenedRoles.{get_beside, get_map, map_get}
 
 -- each role has its name and its store, if it has one
@@ -70,35 +70,35 @@ module _ {K : Type 0} (gives : Appending K) where
   }
 
   -- a run leaves all of it
-  pub steady_run : (c : Cluster) (turns : ℕ) (answer : Result RunEnd Stop) (old new : Scene K) → IfOk answer (λ e. Runs gives c turns e old new) → OnOk answer (map who new.guests ≡ map who old.guests)
-      → OnErr answer (RunsPart gives (fails_by answer) c turns old new) → IsSteady old.guests new.guests
-  steady_run c turns (Ok e) old new done names part =
+  pub steady_run : (tend : Option ℕ) (c : Cluster) (turns : ℕ) (answer : Result RunEnd Stop) (old new : Scene K) → IfOk answer (λ e. Runs gives tend c turns e old new) → OnOk answer (map who new.guests ≡ map who old.guests)
+      → OnErr answer (RunsPart gives (fails_by answer) tend c turns old new) → IsSteady old.guests new.guests
+  steady_run tend c turns (Ok e) old new done names part =
       let grow = done.1.kept in
       record {
         count = grow.0;
         each = λ i g h a b. (
           same_Some (who h) (who g) (sym (map_get who new.guests i h b) ∙ ap (λ names. slice_get names i) names ∙ map_get who old.guests i g a),
-          grows_stays (records_of (who g) (node_run c done.0 (hosted_in old.guests)).kept) (keeper_of g) (keeper_of h) (grow.1 i g h a b),
+          grows_stays (records_of (who g) (node_run tend c done.0 (hosted_in old.guests)).kept) (keeper_of g) (keeper_of h) (grow.1 i g h a b),
         );
       }
-  steady_run c turns (Err s) old new done names part =
-      steady_part (fails_by {T = RunEnd} (Err s)) (node_run c part.0 (hosted_in old.guests)).kept old.guests new.guests part.3.kept
+  steady_run tend c turns (Err s) old new done names part =
+      steady_part (fails_by {T = RunEnd} (Err s)) (node_run tend c part.0 (hosted_in old.guests)).kept old.guests new.guests part.3.kept
 
   none_kept : (may_fail : Type 0) (rs : List Record) (o : Option K) → GrowsPart gives may_fail rs o o
   none_kept may_fail rs None = tt
   none_kept may_fail rs (Some k) = record { count = 0; mid = k; front = refl; stop = inl (inl refl) }
 
   -- nothing is a front of every run
-  pub runs_none : (failing : RoleId → Type 0) (c : Cluster) (turns : ℕ) (s : Scene K) → RunsPart gives failing c turns s s
-  runs_none failing c turns s = (
+  pub runs_none : (failing : RoleId → Type 0) (tend : Option ℕ) (c : Cluster) (turns : ℕ) (s : Scene K) → RunsPart gives failing tend c turns s s
+  runs_none failing tend c turns s = (
     [],
     0,
     omega arith,
     record {
       kept = (
         refl,
-        λ i g h a b. subst (λ x. GuestGrowsPart gives (failing (who g)) (node_run c [] (hosted_in s.guests)).kept g x) (same_Some g h (sym a ∙ b))
-            (record { grows = none_kept (failing (who g)) (records_of (who g) (node_run c [] (hosted_in s.guests)).kept) (keeper_of g); name = refl }),
+        λ i g h a b. subst (λ x. GuestGrowsPart gives (failing (who g)) (node_run tend c [] (hosted_in s.guests)).kept g x) (same_Some g h (sym a ∙ b))
+            (record { grows = none_kept (failing (who g)) (records_of (who g) (node_run tend c [] (hosted_in s.guests)).kept) (keeper_of g); name = refl }),
       );
       sent = (0, λ h e. (h, e, asks_none h));
       printed = (0, Appends-nil s.out);

@@ -16,7 +16,8 @@ use Rattle.cx_node.specs.Doing.{Does, DoesPart, Scene, StoreFails}
 use Rattle.cx_node.specs.Guest.{AreReady, hosted_in, who}
 use Rattle.cx_node.specs.Hosted.{Hosted, Moved}
 use Rattle.cx_node.specs.Node.{Takes}
-use Rattle.cx_node.specs.Run.{all_finished, node_run}
+use Rattle.cx_node.specs.Run.{all_finished}
+use Rattle.cx_node.specs.Tending.{node_run}
 
 -- how often the link and the output have failed
 pub record Failures : Type 0 where
@@ -50,15 +51,15 @@ abbrev pub ActsOnce : {K : Type 0} → Appending K → Cluster → (Option (List
 ActsOnce gives c f result old new = (what : Option (List ℕ)) × Acts gives c (what ∷ []) (f what) result old new
 
 -- whether a run has come to its end behind these takes, and to none before
-pub record Ends (c : Cluster) (limit : ℕ) (hs : List Hosted) (takes : Takes) : Type 0 where
+pub record Ends (tend : Option ℕ) (c : Cluster) (limit : ℕ) (hs : List Hosted) (takes : Takes) : Type 0 where
   pub most : length takes ≤ limit
-  pub not_before : (k : ℕ) → k < length takes → all_finished ((node_run c (take k takes) hs).next) ≡ false
+  pub not_before : (k : ℕ) → k < length takes → all_finished ((node_run tend c (take k takes) hs).next) ≡ false
 
 -- the turns of a run were made to its end, or a front of them
-abbrev pub ActsLong : {K : Type 0} → Appending K → Cluster → ℕ → Result (Unit {0}) Stop → Scene K → Scene K → Type 0
-ActsLong gives c limit result old new =
-    (takes : Takes) × Acts gives c takes (node_run c takes (hosted_in old.guests)) result old new × Ends c limit (hosted_in old.guests) takes
-    × OnOk result ((all_finished ((node_run c takes (hosted_in old.guests)).next) ≡ true) ⊎ (length takes ≡ limit))
+abbrev pub ActsLong : {K : Type 0} → Appending K → Option ℕ → Cluster → ℕ → Result (Unit {0}) Stop → Scene K → Scene K → Type 0
+ActsLong gives tend c limit result old new =
+    (takes : Takes) × Acts gives c takes (node_run tend c takes (hosted_in old.guests)) result old new × Ends tend c limit (hosted_in old.guests) takes
+    × OnOk result ((all_finished ((node_run tend c takes (hosted_in old.guests)).next) ≡ true) ⊎ (length takes ≡ limit))
 
 -- what a take gave: nothing, bytes that are no datagram, or one
 abbrev pub read_as : Result Letter WireFault → Come

@@ -10,7 +10,8 @@ use Rattle.cx_node.specs.declared.node.RunEnd.TheVariants.{Done, Turns}
 use Rattle.cx_node.specs.Doing.{Does, DoesPart, Scene, StoreFails}
 use Rattle.cx_node.specs.Guest.{hosted_in}
 use Rattle.cx_node.specs.Hosted.{Hosted}
-use Rattle.cx_node.specs.Run.{all_finished, is_client, node_run}
+use Rattle.cx_node.specs.Run.{all_finished, is_client}
+use Rattle.cx_node.specs.Tending.{node_run}
 
 -- the cluster, and the hosted roles in the order of the words
 pub record NodeState (K : Type 0) : Type 0 where
@@ -22,25 +23,25 @@ abbrev pub Takes : Type 0
 Takes = List (Option (List ℕ))
 
 -- a run has come to its end with these takes, and to no end before the last of them
-pub record IsEnd (c : Cluster) (limit : ℕ) (hs : List Hosted) (takes : Takes) (end : RunEnd) : Type 0 where
+pub record IsEnd (tend : Option ℕ) (c : Cluster) (limit : ℕ) (hs : List Hosted) (takes : Takes) (end : RunEnd) : Type 0 where
   pub most : length takes ≤ limit
-  pub not_before : (k : ℕ) → k < length takes → all_finished ((node_run c (take k takes) hs).next) ≡ false
+  pub not_before : (k : ℕ) → k < length takes → all_finished ((node_run tend c (take k takes) hs).next) ≡ false
   -- Done: all hosted clients have finished, or none is hosted and all turns were made.
-  pub done : end ≡ Done → (all_finished ((node_run c takes hs).next) ≡ true) ⊎ ((list_any is_client hs ≡ false) × (length takes ≡ limit))
+  pub done : end ≡ Done → (all_finished ((node_run tend c takes hs).next) ≡ true) ⊎ ((list_any is_client hs ≡ false) × (length takes ≡ limit))
   -- Turns: all turns were made, and a hosted client hasn't finished.
-  pub turns : end ≡ Turns → (list_any is_client hs ≡ true) × (length takes ≡ limit) × (all_finished ((node_run c takes hs).next) ≡ false)
+  pub turns : end ≡ Turns → (list_any is_client hs ≡ true) × (length takes ≡ limit) × (all_finished ((node_run tend c takes hs).next) ≡ false)
 
 -- the whole run was made
-abbrev pub Runs : {K : Type 0} → Appending K → Cluster → ℕ → RunEnd → Scene K → Scene K → Type 0
-Runs gives c turns end old new =
-    (takes : Takes) × Does gives c takes (node_run c takes (hosted_in old.guests)) old new × IsEnd c turns (hosted_in old.guests) takes end
+abbrev pub Runs : {K : Type 0} → Appending K → Option ℕ → Cluster → ℕ → RunEnd → Scene K → Scene K → Type 0
+Runs gives tend c turns end old new =
+    (takes : Takes) × Does gives c takes (node_run tend c takes (hosted_in old.guests)) old new × IsEnd tend c turns (hosted_in old.guests) takes end
 
 -- A front of it was made, with the first of its takes. Of no other role than these has an append failed.
-abbrev pub RunsPart : {K : Type 0} → Appending K → (RoleId → Type 0) → Cluster → ℕ → Scene K → Scene K → Type 0
-RunsPart gives failing c turns old new =
+abbrev pub RunsPart : {K : Type 0} → Appending K → (RoleId → Type 0) → Option ℕ → Cluster → ℕ → Scene K → Scene K → Type 0
+RunsPart gives failing tend c turns old new =
     (takes : Takes) × (made : ℕ) × (length takes ≤ turns)
-    × DoesPart gives failing c (take made takes) (node_run c takes (hosted_in old.guests)) old new
+    × DoesPart gives failing c (take made takes) (node_run tend c takes (hosted_in old.guests)) old new
 
 -- in a run with these takes the keeper of this role failed
-abbrev pub RunFails : {K : Type 0} → Appending K → Cluster → RoleId → List (Guest K) → List (Guest K) → Type 0
-RunFails gives c role old new = (takes : Takes) × StoreFails gives (node_run c takes (hosted_in old)).kept role old new
+abbrev pub RunFails : {K : Type 0} → Appending K → Option ℕ → Cluster → RoleId → List (Guest K) → List (Guest K) → Type 0
+RunFails gives tend c role old new = (takes : Takes) × StoreFails gives (node_run tend c takes (hosted_in old)).kept role old new

@@ -23,7 +23,7 @@ use Rattle.cx_node.specs.Input.{FailsRead, input_of, refused_of}
 use Rattle.cx_node.specs.Node.{IsEnd, Takes}
 use Rattle.cx_node.specs.Opening.{IsBadAs, IsFirstBad, is_durable, opened_as}
 use Rattle.cx_node.specs.Ports.{bind_of, sendings}
-use Rattle.cx_node.specs.Run.{node_run}
+use Rattle.cx_node.specs.Tending.{node_run}
 
 -- What a node has outside: what its source has left, what its link and its output tell, whether its depot tells, what that holds
 -- for each role, and how often each has failed.
@@ -51,8 +51,8 @@ abbrev pub hosts : Cluster → List Event → (RoleId → List Record) → List 
 hosts c events told roles = map (λ (me : RoleId). opened_as c events me (told me) me.kind) roles
 
 -- the run of these roles over what the takes of a link gave
-abbrev pub run_of : Cluster → List Event → (RoleId → List Record) → List RoleId → Takes → Moved (List Hosted)
-run_of c events told roles takes = node_run c takes (hosts c events told roles)
+abbrev pub run_of : Option ℕ → Cluster → List Event → (RoleId → List Record) → List RoleId → Takes → Moved (List Hosted)
+run_of tend c events told roles takes = node_run tend c takes (hosts c events told roles)
 
 -- the input says this cluster and these requests, and is refused for nothing
 abbrev pub Says : List RoleId → Option (List ℕ) → Cluster → List Event → Type 0
@@ -64,21 +64,21 @@ IsTold old told = old.tells ≡ true → (me : RoleId) → is_durable me.kind �
 
 -- What a whole run left: the link was asked for each role's bind and for all sends, the text is printed, and each store has the records
 -- that were told to its role, and behind them those that it kept.
-pub record Served (roles : List RoleId) (c : Cluster) (events : List Event) (told : RoleId → List Record) (takes : Takes) (old new : Outside) : Type 0 where
+pub record Served (roles : List RoleId) (tend : Option ℕ) (c : Cluster) (events : List Event) (told : RoleId → List Record) (takes : Takes) (old new : Outside) : Type 0 where
   pub told_by : IsTold old told
   pub link : (after : LinkHistory) → new.link ≡ Some after
       → (before : LinkHistory) × (old.link ≡ Some before)
       × (after ≡ record {
         binds = before.binds ++ map (bind_of c) roles;
         taken = before.taken ++ takes;
-        sent = before.sent ++ sendings c (run_of c events told roles takes).sends;
+        sent = before.sent ++ sendings c (run_of tend c events told roles takes).sends;
       })
-  pub printed : Appends old.out new.out (run_of c events told roles takes).text
+  pub printed : Appends old.out new.out (run_of tend c events told roles takes).text
   pub stores : old.tells ≡ true → (i : ℕ) (me : RoleId) → slice_get roles i ≡ Some me → is_durable me.kind ≡ true
-      → told_records (Some (new.held me)) ≡ told me ++ records_of me (run_of c events told roles takes).kept
+      → told_records (Some (new.held me)) ≡ told me ++ records_of me (run_of tend c events told roles takes).kept
 
 -- A front of that: the first binds, takes and sends, a part of the text, and in each store the first of its records.
-pub record ServedPart (roles : List RoleId) (c : Cluster) (events : List Event) (told : RoleId → List Record) (takes : Takes) (old new : Outside) : Type 0 where
+pub record ServedPart (roles : List RoleId) (tend : Option ℕ) (c : Cluster) (events : List Event) (told : RoleId → List Record) (takes : Takes) (old new : Outside) : Type 0 where
   pub told_by : IsTold old told
   pub bound : ℕ
   pub taken : ℕ
@@ -88,27 +88,27 @@ pub record ServedPart (roles : List RoleId) (c : Cluster) (events : List Event) 
       × (after ≡ record {
         binds = before.binds ++ map (bind_of c) (take bound roles);
         taken = before.taken ++ take taken takes;
-        sent = before.sent ++ sendings c (take sent (run_of c events told roles takes).sends);
+        sent = before.sent ++ sendings c (take sent (run_of tend c events told roles takes).sends);
       })
-  pub printed : AppendsPart old.out new.out (run_of c events told roles takes).text
+  pub printed : AppendsPart old.out new.out (run_of tend c events told roles takes).text
   pub stores : old.tells ≡ true → (i : ℕ) (me : RoleId) → slice_get roles i ≡ Some me → is_durable me.kind ≡ true
-      → (count : ℕ) × (told_records (Some (new.held me)) ≡ told_records (Some (old.held me)) ++ take count (records_of me (run_of c events told roles takes).kept))
+      → (count : ℕ) × (told_records (Some (new.held me)) ≡ told_records (Some (old.held me)) ++ take count (records_of me (run_of tend c events told roles takes).kept))
 
 -- the input was read to its end, and no read failed
 abbrev pub AllRead : Outside → Outside → Type 0
 AllRead old new = IsAtEnd new.left × (new.reads ≡ old.reads)
 
 -- the input was accepted, and the whole run was made, to this end
-abbrev pub Ends : List RoleId → ℕ → RunEnd → Outside → Outside → Type 0
-Ends roles turns e old new =
+abbrev pub Ends : List RoleId → Option ℕ → ℕ → RunEnd → Outside → Outside → Type 0
+Ends roles tend turns e old new =
     (c : Cluster) × (events : List Event) × (told : RoleId → List Record) × (takes : Takes)
-    × Says roles old.left c events × AllRead old new × Served roles c events told takes old new × IsEnd c turns (hosts c events told roles) takes e
+    × Says roles old.left c events × AllRead old new × Served roles tend c events told takes old new × IsEnd tend c turns (hosts c events told roles) takes e
 
 -- the input was accepted, and a front of its run was made
-abbrev pub EndsEarly : List RoleId → Outside → Outside → Type 0
-EndsEarly roles old new =
+abbrev pub EndsEarly : List RoleId → Option ℕ → Outside → Outside → Type 0
+EndsEarly roles tend old new =
     (c : Cluster) × (events : List Event) × (told : RoleId → List Record) × (takes : Takes)
-    × Says roles old.left c events × AllRead old new × ServedPart roles c events told takes old new
+    × Says roles old.left c events × AllRead old new × ServedPart roles tend c events told takes old new
 
 -- nothing but the source was used
 pub record IsUntouched (old new : Outside) : Type 0 where
@@ -131,22 +131,22 @@ abbrev pub AnswersPart : List RoleId → Option (List ℕ) → Option (List ℕ)
 AnswersPart roles left left_after s = (why : Refusal) × (s ≡ refused_status why) × FailsRead roles left left_after why
 
 -- What a node answered: what was done, and why.
-pub record Answered (roles : List RoleId) (turns : ℕ) (old new : Outside) (s : Status) : Type 0 where
+pub record Answered (roles : List RoleId) (tend : Option ℕ) (turns : ℕ) (old new : Outside) (s : Status) : Type 0 where
   -- Done: all hosted clients have finished, or none is hosted and all turns were made; Turns: all were made, and a client hasn't finished.
-  pub done : s ≡ status.Done → Ends roles turns end.Done old new
-  pub turns_ended : s ≡ status.Turns → Ends roles turns end.Turns old new
+  pub done : s ≡ status.Done → Ends roles tend turns end.Done old new
+  pub turns_ended : s ≡ status.Turns → Ends roles tend turns end.Turns old new
   -- The input is refused by a role outside the cluster, or its first bad line, or a read failed; nothing else was done.
   pub bad_words : s ≡ status.BadWords → IfSome old.left (λ all. refused_of roles (input_of all) ≡ Some refusal.BadWords) × IsUntouched old new
   pub bad_input : (line : ℕ) → s ≡ status.BadInput line → IfSome old.left (λ all. refused_of roles (input_of all) ≡ Some (refusal.BadInput line)) × IsUntouched old new
   pub read_fault : s ≡ status.ReadFault → Rises old.reads new.reads × IsUntouched old new
   -- A failure behind that: its count has risen, and a front of the run was made.
-  pub link_fault : s ≡ status.LinkFault → Rises old.links new.links × EndsEarly roles old new
-  pub write_fault : s ≡ status.WriteFault → Rises old.writes new.writes × EndsEarly roles old new
-  pub store_fault : (role : RoleId) → s ≡ status.StoreFault role → Rises (old.stores role) (new.stores role) × EndsEarly roles old new
+  pub link_fault : s ≡ status.LinkFault → Rises old.links new.links × EndsEarly roles tend old new
+  pub write_fault : s ≡ status.WriteFault → Rises old.writes new.writes × EndsEarly roles tend old new
+  pub store_fault : (role : RoleId) → s ≡ status.StoreFault role → Rises (old.stores role) (new.stores role) × EndsEarly roles tend old new
   -- The first store that is none of its role's is told with the place of its first fault.
-  pub bad_store : (role : RoleId) (at : ℕ) → s ≡ status.BadStore role at → EndsEarly roles old new
+  pub bad_store : (role : RoleId) (at : ℕ) → s ≡ status.BadStore role at → EndsEarly roles tend old new
   pub bad_place : (role : RoleId) (at : ℕ) → s ≡ status.BadStore role at → old.tells ≡ true → (c : Cluster) × (events : List Event) × Says roles old.left c events × IsFirstBad roles c old.held role at
-  pub no_memory : s ≡ status.NoMemory → IsUntouched old new ⊎ EndsEarly roles old new
+  pub no_memory : s ≡ status.NoMemory → IsUntouched old new ⊎ EndsEarly roles tend old new
   -- A failed read is always told, unless the whole lines before it are refused. A failed write or take, and a store that failed, is always told.
   pub heard : (new.reads ≡ old.reads) ⊎ AnswersPart roles old.left new.left s
   pub written : (s ≡ status.WriteFault → ⊥) → new.writes ≡ old.writes

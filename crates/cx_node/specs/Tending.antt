@@ -1,4 +1,4 @@
--- The turns of a node that tends its roles. A tended node has the roles tick, and gives its
+-- The turns of a node that tends its roles, and the run of a node with and without tending. A tended node has the roles tick, and gives its
 -- leader orders, by what it has counted, and not by the numbers of its turns.
 use Rattle.std.specs.Prelude.{ℕ, zero, suc, ◌+◌, ◌*◌, ◌/◌, ◌%◌, ◌==◌, min, nat_lt, nat_le, Bool, true, false, not, ◌&&◌, ◌||◌, List, [], ◌∷◌, map, length, sum, count_by, is_some, Option, None, Some, Result, Ok, Err, option_map, slice_get, if◌then◌else◌}
 use Rattle.std.specs.Option.{option_map_or}
@@ -20,7 +20,7 @@ use Rattle.cx_node.specs.declared.doing.Doing.{Doing}
 use Rattle.cx_node.specs.declared.doing.Doing.TheVariants.{Begin, Give}
 use Rattle.cx_node.specs.declared.standing.Standing.{Standing}
 use Rattle.cx_node.specs.Hosted.{Hosted, ClientAt, LeaderAt, Moved, ReplicaAt, name_of, stays}
-use Rattle.cx_node.specs.Run.{all_do, at_place, does_at, grid_of, is_client, ordered, place_of, then_do, turns_from}
+use Rattle.cx_node.specs.Run.{all_do, at_place, does_at, grid_of, is_client, ordered, place_of, then_do, turn, turns_from, untended_run}
 
 -- What a tended node has counted. Counts of turns and beats stop at 2 ^ 32 - 1.
 pub record Care : Type 0 where
@@ -281,3 +281,18 @@ untended hs = record { care = no_care hs; hosted = hs }
 -- the run of a tended node
 abbrev pub tended_run : Cluster → ℕ → List (Option (List ℕ)) → List Hosted → Moved Tended
 tended_run c m takes hs = then_do (within (all_do Begin) (untended hs)) (λ after. turns_from (tended_turn c m) 1 takes after)
+
+-- The run of a node, tended with at most so many turns from beat to beat, or not tended.
+unfoldable pub node_run : Option ℕ → Cluster → List (Option (List ℕ)) → List Hosted → Moved (List Hosted)
+node_run None c takes hs = untended_run c takes hs
+node_run (Some m) c takes hs = without_care (tended_run c m takes hs)
+
+-- one turn of either
+abbrev pub any_turn : Option ℕ → Cluster → ℕ → Option (List ℕ) → Tended → Moved Tended
+any_turn None c n what t = within (turn c n what) t
+any_turn (Some m) c n what t = tended_turn c m n what t
+
+-- what is counted before the first turn: a node that isn't tended keeps no marks
+abbrev pub first_care : Option ℕ → List Hosted → Care
+first_care None hs = no_care []
+first_care (Some m) hs = no_care hs

@@ -10,7 +10,10 @@ ghost use Rattle.cx_node.specs.Guest.{AreReady, hosted_in};
 ghost use Rattle.cx_base.specs.Role.{role};
 ghost use Rattle.cx_base.specs.declared.role.Kind.TheVariants as kind;
 ghost use Rattle.cx_node.specs.Run.{comes, grid_of, lead_at, ordered, place_of, ticked, turn};
+ghost use Rattle.cx_node.specs.Tending.{any_turn};
+ghost use Rattle.cx_node.specs.Tends.{TendsOnce, tended};
 
+use crate::care::Care;
 use crate::{Come, Doing, Node, Stop};
 use cx_base::{Cluster, Grid, Kind, Order, RoleId};
 use cx_edge::{Link, Sink, TakeEnd};
@@ -145,8 +148,13 @@ impl<K: Keeper + Drop> Node<K> {
         Ok(())
     }
 
-    // The n-th turn.
-    pub fn turn<L: Link, W: Sink>(&mut self, n: u32, link: &mut L, out: &mut W) -> Result<(), Stop>
+    // The n-th turn of a node that doesn't tend its roles.
+    fn untended_turn<L: Link, W: Sink>(
+        &mut self,
+        n: u32,
+        link: &mut L,
+        out: &mut W,
+    ) -> Result<(), Stop>
         requires ready { AreReady self.old.cluster self.old.guests }
         ensures acts { ActsOnce K.append_gives self.old.cluster (λ what. turn self.old.cluster n what (hosted_in self.old.guests)) result (scene self.old.guests (L.told link.old) (W.taken out.old)) (scene self.new.guests (L.told link.new) (W.taken out.new)) }
         ensures blames { Blames result (failures (L.faults link.old) (W.faults out.old)) (failures (L.faults link.new) (W.faults out.new)) }
@@ -155,5 +163,25 @@ impl<K: Keeper + Drop> Node<K> {
         self.order(n, link, out)?;
         self.take(link, out)?;
         self.tick(n, link, out)
+    }
+
+    // The n-th turn, tended with at most so many turns from beat to beat, or not tended.
+    pub fn turn<L: Link, W: Sink>(
+        &mut self,
+        tend: Option<u32>,
+        care: &mut Care,
+        n: u32,
+        link: &mut L,
+        out: &mut W,
+    ) -> Result<(), Stop>
+        requires ready { AreReady self.old.cluster self.old.guests }
+        ensures acts { TendsOnce K.append_gives self.old.cluster (λ what. any_turn tend self.old.cluster n what (tended care.old (hosted_in self.old.guests))) result (scene self.old.guests (L.told link.old) (W.taken out.old)) (scene self.new.guests (L.told link.new) (W.taken out.new)) care.new }
+        ensures blames { Blames result (failures (L.faults link.old) (W.faults out.old)) (failures (L.faults link.new) (W.faults out.new)) }
+        ensures cluster { self.new.cluster ≡ self.old.cluster }
+    {
+        match tend {
+            Some(most) => self.tended_turn(care, most, n, link, out),
+            None => self.untended_turn(n, link, out),
+        }
     }
 }
