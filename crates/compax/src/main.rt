@@ -30,8 +30,8 @@ use std::env;
 use std::io::ErrorKind;
 use std::process::ExitCode;
 
-// The words, the first of which is the program's name. Where they cannot be had, since one of them is no text or memory is
-// wanting, the status that `top` would tell.
+// The words, the first of which is the program's name. Where they cannot be had, since one of them is no text or memory ran
+// out, the status that `top` would answer.
 fn arguments(rt: &HostRuntime) -> Result<Vec<String>, Status> {
     match env::args(rt) {
         Ok(args) => args

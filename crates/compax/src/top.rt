@@ -59,7 +59,7 @@ fn answer<S: Source, W: Sink, L: Link, D: Depot>(
 /// writes the answers. The line of the status goes to `err`, whose failing never changes the status.
 ///
 /// `BadWords` comes exactly where the words say none of these, and then nothing is read or written, and where a role of a node
-/// isn't in the cluster of its header. Every other status is the command's own, and want of memory. The run of a schedule is
+/// isn't in the cluster of its header. Every other status is the command's own, and out of memory. The run of a schedule is
 /// lawful: no slot has two chosen values, each replica's values begin one command list, every answer is that list's, and reads
 /// are fresh. The link must have no role bound, and the depot no store out; it has none out at the end.
 pub fn top<S: Source, W: Sink, E: Sink, L: Link, D: Depot>(

@@ -57,7 +57,7 @@ impl CommandList {
         self.greatest.is_above(command.client, command.seq) || acts(&self.commands, command)
     }
 
-    /// One command more, behind the others. Want of memory changes nothing.
+    /// One command more, behind the others. Out of memory, it changes nothing.
     pub fn push(&mut self, command: &Command) -> Result<(), NoMemory>
         ensures ok { OnOk result (self.new ≡ self.old ++ command.now ∷ []) }
         ensures err { OnErr result (self.new ≡ self.old) }

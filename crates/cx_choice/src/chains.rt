@@ -67,7 +67,7 @@ fn no_votes(alloc: Global, count: usize) -> Result<Votes, NoMemory>
     })
 }
 
-/// The votes of each slot below the number of records. Want of memory also where a record's number has more than four bytes.
+/// The votes of each slot below the number of records. It is out of memory also where a record's number has more than four bytes.
 pub fn votes_by_slot(alloc: Global, kept: &Kept) -> Result<Votes, NoMemory>
     ensures { IfOk result (λ votes. HaveVotes votes kept.now 0) }
 {

@@ -23,7 +23,7 @@ fn submission(client: u16, seq: u64, op: Op, batcher: u16) -> Datagram
     submit(client, batcher, Command { client, seq, op })
 }
 
-/// The datagram of a request goes out, or nothing does for want of memory.
+/// The datagram of a request goes out, or nothing does when out of memory.
 #[tactic(auto, unfolding(cx_field::specs::Fields::seq, cx_wire::specs::Format::u64))]
 pub fn send(event: &Event, out: &mut Outbox) -> Result<(), NoMemory>
     requires empty { out.old.list ≡ [] }

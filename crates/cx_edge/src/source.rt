@@ -42,14 +42,14 @@ pub enum ReadAll {
     TooLong(Vec<u8>),
     /// Behind these bytes a read failed.
     Failed(Vec<u8>),
-    /// Memory is wanting.
+    /// Out of memory.
     NoMemory,
 }
 
 const PIECE: usize = 4096;
 
 /// Reads all bytes that are left, or more than so many, and hands out what it has read. `Failed` comes exactly where a read
-/// failed, and only then the count of faults changes. For want of memory the bytes that it has read are lost.
+/// failed, and only then the count of faults changes. Out of memory, the bytes that it has read are lost.
 pub fn read_all<S: Source>(alloc: Global, source: &mut S, limit: usize) -> ReadAll
     ensures bytes { ReadsAll limit (S.left source.old) (S.left source.new) result }
     ensures cause { ReadAllTellsFault result (S.faults source.old) (S.faults source.new) }

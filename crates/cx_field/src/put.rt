@@ -1,4 +1,4 @@
-//! The fields of messages and records, appended to bytes. Want of memory may leave a part appended.
+//! The fields of messages and records, appended to bytes. Out of memory, it may leave a part appended.
 
 ghost use Rattle.std.specs.Prelude.{◌≡◌, ◌≤◌, ◌+◌, ◌*◌, ◌++◌, [], length, OnOk};
 ghost use Rattle.cx_wire.specs.Format as wire;

@@ -77,7 +77,7 @@ fn sent_token(happened: &Happened) -> Option<Token>
     token_of(&happened.event)
 }
 
-// One more. More than a count can tell are said to be want of memory.
+// One more. More than a count can tell are answered as out of memory.
 fn next(count: u64) -> Result<u64, NoMemory>
     ensures { IfOk result (λ n. n ≡ count + 1) }
 {
@@ -122,8 +122,8 @@ impl Events {
         self.count
     }
 
-    /// Notes what happened last. Only a request that was sent takes memory. Want of memory changes nothing; more than
-    /// 18,446,744,073,709,551,615 events, or 4,294,967,295 bytes of requests, are said to be want of memory too.
+    /// Notes what happened last. Only a request that was sent takes memory. Out of memory, it changes nothing; more than
+    /// 18,446,744,073,709,551,615 events, or 4,294,967,295 bytes of requests, are answered as out of memory too.
     pub fn push(&mut self, happened: &Happened) -> Result<(), NoMemory>
         ensures ok { OnOk result (self.new ≡ self.old ++ happened.now ∷ []) }
         ensures err { OnErr result (self.new ≡ self.old) }

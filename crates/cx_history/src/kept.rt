@@ -33,7 +33,7 @@ impl Model for Kept {
     ghost invariant = { λ k. IsKept k.roles.items k.records };
 }
 
-// Puts a record behind the other pieces, by way of its bytes. Want of memory puts none.
+// Puts a record behind the other pieces, by way of its bytes. Out of memory, it puts none.
 fn put_record(
     alloc: Global,
     what: &Record,
@@ -106,7 +106,7 @@ impl Kept {
         Ok(KeptRecord { role, what })
     }
 
-    /// Notes a record that was kept last. Want of memory changes nothing.
+    /// Notes a record that was kept last. Out of memory, it changes nothing.
     pub fn push(&mut self, role: RoleId, what: &Record) -> Result<(), NoMemory>
         requires { IsTrue (fits what.now) }
         ensures ok { OnOk result (self.new ≡ self.old ++ record { role = role; what = what.now } ∷ []) }

@@ -100,7 +100,7 @@ impl Sent {
         read_datagrams(self.alloc, &self.pieces, first as usize)
     }
 
-    /// Notes a datagram that was sent last. Want of memory changes nothing.
+    /// Notes a datagram that was sent last. Out of memory, it changes nothing.
     pub fn push(&mut self, datagram: &Datagram) -> Result<(), NoMemory>
         ensures ok { OnOk result (self.new ≡ self.old ++ datagram.now ∷ []) }
         ensures err { OnErr result (self.new ≡ self.old) }
@@ -119,7 +119,7 @@ impl Sent {
         Ok(())
     }
 
-    /// Notes datagrams in the order of sending. After want of memory the first of them may be noted.
+    /// Notes datagrams in the order of sending. After it ran out of memory the first of them may be noted.
     pub fn append(&mut self, datagrams: &[Datagram]) -> Result<(), NoMemory>
         ensures ok { OnOk result (self.new ≡ self.old ++ datagrams.now) }
         ensures err { OnErr result (IsPrefix self.old self.new) }

@@ -66,7 +66,7 @@ fn read_piece(alloc: Global, piece: &[u8]) -> Result<Datagram, NoMemory>
     }
 }
 
-/// Puts a datagram behind the other pieces, by way of its bytes. Want of memory puts none.
+/// Puts a datagram behind the other pieces, by way of its bytes. Out of memory, it puts none.
 pub fn put_datagram(
     alloc: Global,
     datagram: &Datagram,

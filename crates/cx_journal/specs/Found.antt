@@ -18,7 +18,7 @@ pub record IsFound (k : Option Kind) (bytes : List ℕ) (found : Found) : Type 0
   pub gates : found.gates.items ≡ gates_from 0 (payloads found.records.items)
   pub gate : found.gate ≡ length (frames (payloads found.records.items))
 
--- an image breaks there, unless memory was wanting
+-- an image breaks there, unless memory ran out
 abbrev pub Breaks : Image → Stop → Type 0
 Breaks image (stop.Break at) = image ≡ Err at
 Breaks image stop.NoMemory = Unit {0}
@@ -39,7 +39,7 @@ IsFaultOf k bytes (fault.NotJournal at byte) = IsBreak k bytes at byte
 IsFaultOf k bytes fault.Failed = Unit {0}
 IsFaultOf k bytes fault.NoMemory = Unit {0}
 
--- the outside failed, or memory was wanting
+-- the outside failed, or memory ran out
 abbrev pub IsOutside : OpenFault → Type 0
 IsOutside (fault.NotJournal at byte) = ⊥
 IsOutside fault.Failed = Unit {0}

@@ -37,7 +37,7 @@ impl Model for Records {
     ghost invariant = { λ r. ArePieces r.bytes.items r.pieces.items };
 }
 
-// Puts the bytes of a record at the end of a buffer. Want of memory puts none.
+// Puts the bytes of a record at the end of a buffer. Out of memory, it puts none.
 fn put_piece(alloc: Global, what: &Record, bytes: &mut Vec<u8>) -> Result<Piece, NoMemory>
     requires { IsTrue (fits what.now) }
     ensures ok { IfOk result (λ piece. IsPut what.now bytes.old.items piece bytes.new.items) }
@@ -120,7 +120,7 @@ impl Records {
         read_pieces(self.alloc, &self.bytes, &self.pieces)
     }
 
-    /// Notes one more behind the others. Want of memory changes nothing.
+    /// Notes one more behind the others. Out of memory, it changes nothing.
     pub fn push(&mut self, what: &Record) -> Result<(), NoMemory>
         requires { IsTrue (fits what.now) }
         ensures ok { OnOk result (self.new ≡ self.old ++ what.now ∷ []) }

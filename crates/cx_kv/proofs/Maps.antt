@@ -194,7 +194,7 @@ IsRising-map_after map (App key more) h = appended (text_at key map)
     appended None = IsRising-with_text key more map h
     appended (Some old) = IsRising-with_text key (longer old more) map h
 
--- the order is kept by a step, and where memory is wanting
+-- the order is kept by a step, and when out of memory
 pub IsRising_either : {A E : Type 0} (result : Result A E) (old new : List Pair) (op : Op)
     → OnOk result (new ≡ map_after old op) → OnErr result (new ≡ old) → IsRising old → IsRising new
 IsRising_either (Ok a) old new op ok err h = subst IsRising (sym ok) (IsRising-map_after old op h)

@@ -78,7 +78,7 @@ impl Executed {
     }
 
     /// One command more, behind the others. It takes memory only for a command that no cluster has: of a client from 64 on, or with
-    /// number 0. Want of memory changes nothing.
+    /// number 0. Out of memory, it changes nothing.
     pub fn push(&mut self, command: &Command) -> Result<(), NoMemory>
         ensures ok { OnOk result (self.new ≡ self.old ++ command.now ∷ []) }
         ensures err { OnErr result (self.new ≡ self.old) }

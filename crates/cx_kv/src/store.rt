@@ -66,7 +66,7 @@ impl Store {
     }
 
     /// Writes the map at the end of a text: for each key in rising order a space, the key, `=` and the key's text. Where
-    /// memory is wanting, a part of it may be written.
+    /// memory ran out, a part of it may be written.
     pub fn print_into(&self, out: &mut Vec<u8>) -> Result<(), NoMemory>
         ensures ok { OnOk result (out.new.items ≡ out.old.items ++ map_text self.now) }
         ensures err { OnErr result (take (length out.old.items) out.new.items ≡ out.old.items) }

@@ -71,7 +71,7 @@ impl Known {
         }
     }
 
-    /// Notes a slot of the window. Want of memory changes nothing.
+    /// Notes a slot of the window. Out of memory, it changes nothing.
     #[tactic(auto, using(crate::proofs::Knows::same_noted))]
     pub fn note(&mut self, alloc: Global, slot: u64) -> Result<(), NoMemory>
         requires low { self.old.first ≤ slot }

@@ -127,7 +127,7 @@ impl Proposals {
         Ok(Some(slot))
     }
 
-    /// Notes that a slot below the next free one is chosen. Want of memory changes nothing.
+    /// Notes that a slot below the next free one is chosen. Out of memory, it changes nothing.
     pub fn note(&mut self, alloc: Global, slot: u64) -> Result<(), NoMemory>
         requires low { self.old.cw ≤ slot }
         requires high { slot < self.old.next }
@@ -177,7 +177,7 @@ impl Proposals {
         Ok(())
     }
 
-    /// Proposes each value that is not known to be chosen, at most 32 of them; want of memory may leave some sent.
+    /// Proposes each value that is not known to be chosen, at most 32 of them; out of memory, it may leave some sent.
     pub fn propose_open(
         &self,
         alloc: Global,

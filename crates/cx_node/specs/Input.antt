@@ -57,7 +57,7 @@ refused_of roles BadHeader = Some (refusal.BadInput 0)
 refused_of roles (Lines c spelled) =
     if list_all (λ (r : RoleId). names_role c r) roles then bad_line_of spelled.bad else Some refusal.BadWords
 
--- what was answered is what the input says, want of memory aside
+-- what was answered is what the input says, out of memory aside
 abbrev pub IsRefusal : Option Refusal → Refusal → Type 0
 IsRefusal said refusal.NoMemory = Unit {0}
 IsRefusal said refusal.ReadFault = ⊥
@@ -77,6 +77,6 @@ abbrev pub refusal_of_part : Option Refusal → Refusal
 refusal_of_part None = refusal.ReadFault
 refusal_of_part (Some why) = why
 
--- Where a read failed, an input is refused for what the whole lines of the bytes that were read say, or for that; or memory was wanting.
+-- Where a read failed, an input is refused for what the whole lines of the bytes that were read say, or for that; or memory ran out.
 abbrev pub FailsRead : List RoleId → Option (List ℕ) → Option (List ℕ) → Refusal → Type 0
 FailsRead roles left left_after why = (why ≡ refusal.NoMemory) ⊎ ((bytes : List ℕ) × Consumes left left_after bytes × (why ≡ refusal_of_part (refused_of roles (lines bytes))))

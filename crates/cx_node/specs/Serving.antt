@@ -168,18 +168,18 @@ pub record IsGood (roles : List RoleId) (old : Outside) : Type 0 where
   pub tells : old.tells ≡ true
   pub stores : (c : Cluster) (events : List Event) (role : RoleId) (at : ℕ) → Says roles old.left c events → IsBadAs c role (old.held role) at role.kind → ⊥
 
--- the run came to its end, or memory was wanting
+-- the run came to its end, or memory ran out
 abbrev pub EndsWell : Status → Type 0
 EndsWell status.Done = Unit {0}
 EndsWell status.Turns = Unit {0}
 EndsWell status.NoMemory = Unit {0}
 EndsWell other = ⊥
 
--- Where all is good and nothing fails, the run comes to its end, or memory is wanting.
+-- Where all is good and nothing fails, the run comes to its end, or memory ran out.
 abbrev pub Completes : List RoleId → Outside → Outside → Status → Type 0
 Completes roles old new s = NoFault old new → IsGood roles old → EndsWell s
 
--- Where the whole input is known and accepted and nothing fails, a store that is none of its role's is always told, or memory is wanting.
+-- Where the whole input is known and accepted and nothing fails, a store that is none of its role's is always told, or memory ran out.
 abbrev pub TellsBad : List RoleId → Outside → Outside → Status → Type 0
 TellsBad roles old new s =
     NoFault old new → old.tells ≡ true → (all : List ℕ) → old.left ≡ Some all → (c : Cluster) (events : List Event) (role : RoleId) (at : ℕ)

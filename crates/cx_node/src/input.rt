@@ -194,7 +194,7 @@ pub fn listen<S: Source>(
     ensures read_failed { (S.faults source.new ≡ S.faults source.old) ⊎ IfErr result (FailsRead roles.now (S.left source.old) (S.left source.new)) }
     ensures later { S.faults source.old ≤ S.faults source.new }
 
-    // Where no read failed, the answer is what the whole input says, or want of memory.
+    // Where no read failed, the answer is what the whole input says, or that memory ran out.
     ensures complete { (Rises (S.faults source.old) (S.faults source.new) → ⊥) → IfSome (S.left source.old) (λ all. IfErr result (IsRefusal (refused_of roles.now (input_of all)))) }
 {
     match read_all(alloc, source, LIMIT) {

@@ -311,7 +311,7 @@ impl<K: Keeper> Seat<K> {
     }
 
     /// The role does what it is asked: its state, its record, what it sends and the line that it prints are exactly those of the
-    /// definition. `Failed` comes only where its keeper's append failed, and then, as for want of memory, a front of that was done.
+    /// definition. `Failed` comes only where its keeper's append failed, and then, as when out of memory, a front of that was done.
     #[tactic(auto, unfolding(crate::specs::Hosted::does))]
     pub fn act(
         &mut self,

@@ -60,7 +60,7 @@ fn send_one<L: Link>(
     Ok(())
 }
 
-/// Asks the link to send these datagrams, in order, each as its bytes. One that the link loses is lost. For want of memory the
+/// Asks the link to send these datagrams, in order, each as its bytes. One that the link loses is lost. Out of memory, the
 /// first ones were sent.
 pub fn send_all<L: Link>(
     alloc: Global,

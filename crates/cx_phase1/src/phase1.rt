@@ -87,7 +87,7 @@ impl Phase1 {
     }
 
     /// An acceptor promises, and tells what it voted from the slot `cw` on: votes of rising slots of the window of 32 slots
-    /// from there on. Want of memory leaves all as it was, and so do the answers `Same` and `Unasked`,
+    /// from there on. Out of memory, it leaves all as it was, and so do the answers `Same` and `Unasked`,
     /// of which the latter takes none.
     pub fn answer(&mut self, acceptor: u16, cw: u64, votes: &Votes) -> Result<Told, NoMemory>
         requires cw { IsTrue (field.mark.fits cw) }

@@ -97,8 +97,8 @@ impl Pieces {
         }
     }
 
-    /// One piece more, behind the others. Want of memory changes nothing; more than 4,294,967,295 bytes in all are said to be
-    /// want of memory too.
+    /// One piece more, behind the others. Out of memory, it changes nothing; more than 4,294,967,295 bytes in all are answered
+    /// as out of memory too.
     pub fn push(&mut self, piece: &[u8]) -> Result<(), NoMemory>
         ensures ok { OnOk result (self.new ≡ self.old ++ piece.now ∷ []) }
         ensures err { OnErr result (self.new ≡ self.old) }

@@ -126,7 +126,7 @@ impl Reading {
         matched::rows_whole(&self.told, &self.counted)
     }
 
-    /// The read with one more matchmaker counted. This one stays, so that want of memory changes nothing.
+    /// The read with one more matchmaker counted. This one stays, so that running out of memory changes nothing.
     pub fn with_answer(&self, alloc: Global, answer: MatchAnswer) -> Result<Reading, NoMemory>
         requires { IsTrue (field.round0.fits answer.watermark) }
         ensures { IfOk result (λ more. more ≡ record self.now { told = self.now.told ++ answer ∷ [] }) }
@@ -136,7 +136,7 @@ impl Reading {
         Ok(more)
     }
 
-    /// The read with one more acceptor counted. This one stays, so that want of memory changes nothing.
+    /// The read with one more acceptor counted. This one stays, so that running out of memory changes nothing.
     pub fn with_ack(&self, alloc: Global, ack: Acked) -> Result<Reading, NoMemory>
         requires acceptor { ack.acceptor < 64 }
         requires mark { IsTrue (field.mark.fits ack.mark) }

@@ -56,7 +56,7 @@ pub record Generated (seed count : ℕ) (out out_after : Option (List ℕ)) (wri
   -- A write failed: the count rose, and a part of the text was written.
   pub write_fault : s ≡ status.WriteFault → Rises writes writes_after
   pub write_fault_out : s ≡ status.WriteFault → AppendsPart out out_after (gen_text seed count)
-  -- Memory was wanting: nothing was written.
+  -- Out of memory: nothing was written.
   pub no_memory_out : s ≡ status.NoMemory → Keeps out out_after
   -- A failed write is always told.
   pub writes_stay : (s ≡ status.WriteFault → ⊥) → writes_after ≡ writes
@@ -74,6 +74,6 @@ ComesOfGen status.Turns = ⊥
 ComesOfGen status.NoMemory = Unit {0}
 ComesOfGen (status.BadStore role at) = ⊥
 
--- Without a fault of the sink the answer is Done, or memory was wanting.
+-- Without a fault of the sink the answer is Done, or memory ran out.
 abbrev pub GenCompletes : ℕ → ℕ → Status → Type 0
 GenCompletes writes writes_after s = (Rises writes writes_after → ⊥) → (s ≡ status.Done) ⊎ (s ≡ status.NoMemory)

@@ -79,7 +79,7 @@ pub record Replayed (left left_after : Option (List ℕ)) (reads reads_after : �
   -- A write failed: the count rose, and a part of the text was written.
   pub write_fault : s ≡ status.WriteFault → Rises writes writes_after
   pub write_fault_out : s ≡ status.WriteFault → IfSome left (λ all. AppendsPart out out_after (text_of (input_of all)))
-  -- Memory was wanting: a part of the text was written.
+  -- Out of memory: a part of the text was written.
   pub no_memory_out : s ≡ status.NoMemory → IfSome left (λ all. AppendsPart out out_after (text_of (input_of all)))
   -- A failed write is always told.
   pub writes_stay : (s ≡ status.WriteFault → ⊥) → writes_after ≡ writes
@@ -102,7 +102,7 @@ abbrev pub answer_of : Option ℕ → Status
 answer_of None = status.Done
 answer_of (Some line) = status.BadInput line
 
--- Without a fault of source or sink a replay ends as its input says, or memory was wanting.
+-- Without a fault of source or sink a replay ends as its input says, or memory ran out.
 abbrev pub Completes : Option (List ℕ) → ℕ → ℕ → ℕ → ℕ → Status → Type 0
 Completes left reads reads_after writes writes_after s =
     IfSome left (λ all. (Rises reads reads_after → ⊥) → (Rises writes writes_after → ⊥) → (s ≡ answer_of (bad_line (input_of all))) ⊎ (s ≡ status.NoMemory))

@@ -38,8 +38,8 @@ fn gen_into(alloc: Global, seed: u64, count: u64, text: &mut Vec<u8>) -> Result<
 
 /// Runs so many generated events of a seed over the generator's cluster, and writes the short summary of the run.
 ///
-/// After a failed write a part of the text was written, and for want of memory nothing. Without a fault of the sink the
-/// answer is `Done`, or want of memory. The run is lawful.
+/// After a failed write a part of the text was written, and when out of memory nothing. Without a fault of the sink the
+/// answer is `Done`, or that memory ran out. The run is lawful.
 pub fn run_gen<W: Sink>(alloc: Global, seed: u64, count: u64, out: &mut W) -> Status
     ensures comes { ComesOfGen result }
     ensures generated { Generated seed count (W.taken out.old) (W.taken out.new) (W.faults out.old) (W.faults out.new) result }

@@ -127,7 +127,7 @@ with_answer_holds p a (b ∷ notes) new h =
       | inr f ↦ rw f (and_from (p b) (list_all p (with_answer a notes)) h'.0 (with_answer_holds p a notes new h'.1))
     ]
 
--- the notes fit behind a new answer that fits, and where memory was wanting
+-- the notes fit behind a new answer that fits, and when out of memory
 pub notes_fit : {E : Type 0} (result : Result (Unit {0}) E) (a : Answered) (old new : List Answered) → OnOk result (new ≡ with_answer a old) → OnErr result (new ≡ old)
     → answered.fits a ≡ true → list_all (λ (x : Answered). answered.fits x) old ≡ true → list_all (λ (x : Answered). answered.fits x) new ≡ true
 notes_fit (Ok u) a old new ok err fine fit = rw ok (with_answer_holds (λ (x : Answered). answered.fits x) a old fine fit)

@@ -92,7 +92,7 @@ impl Replica {
     }
 
     /// What executing the next values leaves; what they are answered is sent, and then what the reads are answered that waited
-    /// for no more. Nothing is sent where memory is wanting.
+    /// for no more. Nothing is sent when out of memory.
     #[tactic(auto, using(crate::proofs::Values::mark_fits))]
     fn executed(&self, values: &[Value], out: &mut Outbox) -> Result<Machine, NoMemory>
         requires empty { out.old.list ≡ [] }

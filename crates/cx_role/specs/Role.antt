@@ -32,7 +32,7 @@ pub record Replies {D V : Type 0} (rules : Rules D V) (before : Running D V) (ou
   pub state : after ≡ running_after rules before outcome
   pub sends : sent ≡ outcome.sends
 
--- no append was asked for, or one was refused for want of memory
+-- no append was asked for, or one was refused when out of memory
 abbrev pub Refuses : {K : Type 0} → Appending K → K → K → Type 0
 Refuses append_gives old new = (new ≡ old) ⊎ ((r : Record) × append_gives old r (Err NoMemory) new)
 

@@ -39,7 +39,7 @@ impl Outbox {
         }
     }
 
-    /// Makes room for so many pushes, or nothing changes for want of memory. A step sends at most 512.
+    /// Makes room for so many pushes, or nothing changes when out of memory. A step sends at most 512.
     pub fn room(&mut self, n: usize) -> Result<(), NoMemory>
         requires { length self.old.list + n ≤ 512 }
         ensures list { self.new.list ≡ self.old.list }

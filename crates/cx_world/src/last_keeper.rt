@@ -99,7 +99,7 @@ impl LastKeeper {
         self.cut = cut;
     }
 
-    // The record is the last one. Want of memory changes nothing.
+    // The record is the last one. Out of memory, it changes nothing.
     fn note(&mut self, what: &Record) -> Result<(), NoMemory>
         requires { IsTrue (fits what.now) }
         ensures ok { OnOk result (self.new ≡ record self.old { kept = self.old.kept ++ what.now ∷ [] }) }

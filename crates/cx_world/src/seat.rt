@@ -26,7 +26,7 @@ use std::marker::Model;
 pub struct Seat<R: Role> {
     cluster: Cluster,
     me: RoleId,
-    // None after want of memory alone.
+    // None after it ran out of memory alone.
     role: Option<R>,
     runs: bool,
     // The record that a cut append kept, of which the role doesn't know yet.

@@ -120,7 +120,7 @@ impl World {
     }
 
     /// One event: the new world is the model's step of the old one, and the effect tells what the step did. What is promised of
-    /// runs holds of the events so far. After want of memory the world is spent, and its histories begin with those from before.
+    /// runs holds of the events so far. After it ran out of memory the world is spent, and its histories begin with those from before.
     #[tactic(auto, unfolding(cx_model::specs::World::step))]
     pub fn step(&mut self, event: &Event) -> Result<Effect, NoMemory>
         requires fresh { self.old.spent ≡ false }
@@ -159,7 +159,7 @@ impl World {
         })
     }
 
-    /// Whether a step was cut off for want of memory. It takes no memory.
+    /// Whether a step was cut off when out of memory. It takes no memory.
     pub fn spent(&self) -> bool
         ensures { result ≡ self.now.spent }
     {
