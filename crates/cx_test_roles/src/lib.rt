@@ -22,5 +22,3 @@ mod phase1_tests;
 mod proxy_tests;
 #[cfg(test)]
 mod reader_tests;
-#[cfg(test)]
-mod replica_tests;
