@@ -71,6 +71,7 @@ const SUMMARY: &[u8] = b"chosen 1\n0 client:0 1 put a 1 acts\nreplica:0 held 1 a
 const HEADER_LINES: usize = 11;
 
 // The numbers of the reads and of the writes that fail.
+#[derive(Drop)]
 struct Failing {
     reads: Vec<u64>,
     writes: Vec<u64>,
