@@ -3,7 +3,6 @@
 ghost use Rattle.std.specs.Prelude.{◌≡◌, IsTrue};
 ghost use Rattle.cx_keeper.specs.Keeper.{all_fit};
 
-use crate::failing::unhex;
 use cx_acceptor::Acceptor;
 use cx_base::{Cluster, Cut, Kind, NoMemory, RoleId, Why};
 use cx_keeper::{Keeper, MemKeeper};
@@ -101,4 +100,29 @@ fn a_vote_is_kept_or_lost(rt: HostRuntime) -> Result<(), Fail> {
         assert_eq!(rt; bench.sent()?.as_slice(), vote.as_slice());
     }
     Ok(())
+}
+
+fn digit(letter: u8) -> u8 {
+    match letter {
+        b'0'..=b'9' => letter - b'0',
+        b'a'..=b'f' => letter - b'a' + 10,
+        _ => 0,
+    }
+}
+
+// The bytes that hexadecimal digits spell; line feeds are skipped.
+fn unhex(alloc: Global, digits: &[u8]) -> Result<Vec<u8>, Fail> {
+    let mut bytes = Vec::new(alloc);
+    let mut high = None;
+    for letter in digits {
+        match (*letter, high) {
+            (b'\n', _) => {}
+            (letter, None) => high = Some(digit(letter)),
+            (letter, Some(first)) => {
+                bytes.push((first << 4) | digit(letter))?;
+                high = None;
+            }
+        }
+    }
+    Ok(bytes)
 }

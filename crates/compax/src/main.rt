@@ -8,14 +8,6 @@
 
 #[cfg(test)]
 mod append_tests;
-#[cfg(test)]
-mod crash_tests;
-#[cfg(test)]
-mod failing;
-#[cfg(test)]
-mod fault_tests;
-#[cfg(test)]
-mod foreign_tests;
 mod line;
 mod roles;
 mod top;
