@@ -1,4 +1,4 @@
-//! The fields of messages and records, read from the front of bytes. Each call takes its field's bytes off the reader, or answers
+//! The fields of messages and records, read from the start of bytes. Each call takes its field's bytes off the reader, or answers
 //! how many bytes are left from the first bad field on: `Bad` where a value is out of its range, `Cut` where a number or a round
 //! takes more bytes than there are. The formats are this project's own.
 
@@ -16,7 +16,7 @@ use crate::lists::{AnsweredItems, CommandItems, EntryItems, MemberItems, ValueIt
 use crate::parts::{Answers, Entries, LogValues, Token, Votes};
 use crate::reader::Reader;
 use cx_base::{
-    Command, Commands, Few, Grid, MEMBERS, Name, Op, Reply, Round, Text, Value, is_name_byte,
+    Command, Commands, Few, Grid, MEMBERS, Name, Op, Reply, Round, SLOTS, Text, Value, is_name_byte,
 };
 use std::alloc::Global;
 
@@ -27,7 +27,7 @@ pub fn slot_from(reader: &mut Reader<'_>) -> Result<u64, ReadFault>
 {
     let left = reader.left();
     let slot = reader.u64()?;
-    if slot >= 1 << 40 {
+    if slot >= SLOTS {
         return Err(ReadFault::Bad { left });
     }
     Ok(slot)
@@ -40,7 +40,7 @@ pub fn mark_from(reader: &mut Reader<'_>) -> Result<u64, ReadFault>
 {
     let left = reader.left();
     let mark = reader.u64()?;
-    if mark > 1 << 40 {
+    if mark > SLOTS {
         return Err(ReadFault::Bad { left });
     }
     Ok(mark)
@@ -53,7 +53,7 @@ pub fn at_from(reader: &mut Reader<'_>) -> Result<u64, ReadFault>
 {
     let left = reader.left();
     let at = reader.u64()?;
-    if at < 1 || at > 1 << 40 {
+    if at < 1 || at > SLOTS {
         return Err(ReadFault::Bad { left });
     }
     Ok(at)

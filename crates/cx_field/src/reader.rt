@@ -1,4 +1,4 @@
-//! Numbers from the front of bytes, the highest byte first.
+//! Numbers from the start of bytes, the highest byte first.
 
 ghost use Rattle.std.specs.Prelude.{◌≡◌, ◌∷◌, ◌≤◌, ◌<◌, ◌^◌, length, drop, take, IfOk};
 ghost use Rattle.cx_wire.specs.Format as wire;

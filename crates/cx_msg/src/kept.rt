@@ -19,7 +19,7 @@ pub enum Record {
         cw: u64,
         value: Value,
     },
-    /// An acceptor is told that enough replicas hold so many slots.
+    /// An acceptor learns that enough replicas hold `mark` slots.
     Water {
         round: Round,
         mark: u64,

@@ -95,7 +95,7 @@ pub enum Msg {
         at: u64,
         reply: Reply,
     },
-    /// The replica holds so many slots.
+    /// The replica holds `mark` slots.
     Held {
         mark: u64,
     },
@@ -103,12 +103,12 @@ pub enum Msg {
     Fetch {
         mark: u64,
     },
-    /// Tells an acceptor that enough replicas hold so many slots.
+    /// Informs an acceptor that enough replicas hold `mark` slots.
     Inform {
         round: Round,
         mark: u64,
     },
-    /// The acceptor knows that enough replicas hold so many slots.
+    /// The acceptor knows that enough replicas hold `mark` slots.
     Informed {
         round: Round,
         mark: u64,
@@ -149,13 +149,13 @@ pub enum Msg {
         watermark: Round,
         mark: u64,
     },
-    /// Asks a replica for a key's text, once it holds so many slots.
+    /// Asks a replica for a key's text, once it holds `mark` slots.
     Read {
         token: Token,
         mark: u64,
         key: Key,
     },
-    /// A key's text where the replica holds so many slots, or that it has none.
+    /// A key's text where the replica holds `mark` slots, or that it has none.
     ReadAnswer {
         seq: u64,
         mark: u64,

@@ -1,9 +1,10 @@
 //! How many roles of a kind a cluster has.
 
 ghost use Rattle.std.specs.Prelude.{◌≡◌, ◌≤◌};
-ghost use Rattle.cx_script.specs.Names.{count_of};
+ghost use Rattle.cx_base.specs.Cluster.{count_of};
 
-use cx_base::{Cluster, Kind};
+use crate::cluster::Cluster;
+use crate::role::Kind;
 
 /// The count of a kind of role; there are 2f + 1 matchmakers (JSys 2021).
 pub fn count_of(cluster: &Cluster, kind: Kind) -> u16
