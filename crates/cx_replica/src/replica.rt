@@ -11,7 +11,7 @@ ghost use Rattle.cx_msg.specs.Records.{fits as record_fits};
 
 use crate::machine::Machine;
 use crate::sending::{ask_next, tell_held};
-use cx_base::{Cluster, NoMemory, Order, RoleId, Value, Why};
+use cx_base::{Cluster, NoMemory, Order, RoleId, SLOTS, Value, Why};
 use cx_keeper::Keeper;
 use cx_model::Deferred;
 use cx_msg::{Datagram, Msg, Record};
@@ -128,9 +128,6 @@ impl Replica {
         })
     }
 }
-
-/// How many slots there are.
-const SLOTS: u64 = 1 << 40;
 
 // Whether the clients of all commands of values are in the cluster.
 fn names_values(cluster: &Cluster, values: &[Value]) -> bool
