@@ -12,7 +12,7 @@ ghost use Rattle.toml.specs.View.{table_view, view};
 
 use crate::fault::{ClusterFault, UnknownKey};
 use crate::key::{ClusterKey, is_key};
-use cx_base::Cluster;
+use cx_base::{ACCEPTORS, BATCH, CLIENTS, Cluster, MAX_F, PROXIES, ROLES};
 use std::alloc::Global;
 use toml::{Table, Value};
 
@@ -68,16 +68,16 @@ fn port(table: &Table) -> Result<Option<u16>, ClusterFault>
 fn cluster_of(table: &Table) -> Result<Cluster, ClusterFault>
     ensures { result ≡ cluster_at (table_view table.now) }
 {
-    let f = number(table, ClusterKey::F, 0, 3)?;
-    let leaders = number(table, ClusterKey::Leaders, 1, 8)?;
-    let proxies = number(table, ClusterKey::Proxies, 1, 16)?;
-    let acceptors = number(table, ClusterKey::Acceptors, 1, 64)?;
-    let replicas = number(table, ClusterKey::Replicas, f + 1, 8)?;
-    let batchers = number(table, ClusterKey::Batchers, 1, 8)?;
-    let unbatchers = number(table, ClusterKey::Unbatchers, 1, 8)?;
-    let readers = number(table, ClusterKey::Readers, 1, 8)?;
-    let clients = number(table, ClusterKey::Clients, 1, 64)?;
-    let batch = number(table, ClusterKey::Batch, 1, 8)?;
+    let f = number(table, ClusterKey::F, 0, MAX_F)?;
+    let leaders = number(table, ClusterKey::Leaders, 1, ROLES)?;
+    let proxies = number(table, ClusterKey::Proxies, 1, PROXIES)?;
+    let acceptors = number(table, ClusterKey::Acceptors, 1, ACCEPTORS)?;
+    let replicas = number(table, ClusterKey::Replicas, f + 1, ROLES)?;
+    let batchers = number(table, ClusterKey::Batchers, 1, ROLES)?;
+    let unbatchers = number(table, ClusterKey::Unbatchers, 1, ROLES)?;
+    let readers = number(table, ClusterKey::Readers, 1, ROLES)?;
+    let clients = number(table, ClusterKey::Clients, 1, CLIENTS as u16)?;
+    let batch = number(table, ClusterKey::Batch, 1, BATCH as u16)?;
     let base_port = port(table)?;
     Ok(Cluster {
         f: f as u8,
