@@ -1,7 +1,7 @@
 use Rattle.std.proofs.Common.{sym, ◌∙◌, ap, Some}
 use Rattle.cx_base.specs.declared.command.Pair.{Pair}
 use Rattle.cx_kv.proofs.Maps.{text_at-held, text_at-free, without_key-held, without_key-free}
-use Rattle.cx_kv.proofs.pairs.remove.Goals as goal
+use Rattle.cx_kv.proofs.pairs.remove_from.Goals as goal
 
 pub returns-in-Ok-clause-text : goal.returns-in-Ok-clause-text
 returns-in-Ok-clause-text c =

@@ -1,6 +1,6 @@
 use Rattle.std.proofs.Common.{sym}
 use Rattle.cx_kv.proofs.Maps.{text_at-held, text_at-free}
-use Rattle.cx_kv.proofs.pairs.get.Goals as goal
+use Rattle.cx_kv.proofs.pairs.text_in.Goals as goal
 
 pub returns-in-Ok : goal.returns-in-Ok
 returns-in-Ok c =
