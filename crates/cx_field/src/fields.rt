@@ -159,13 +159,28 @@ pub fn name_from<const N: usize>(reader: &mut Reader<'_>) -> Result<Name<N>, Rea
     Ok(Name::new(name))
 }
 
-// The bytes of a name.
+// Whether all bytes are a name's. Each is looked at, whatever the others are, so that many are tested at once.
+fn are_name_bytes(bytes: &[u8]) -> bool
+    ensures { result ≡ list_all is_name_byte bytes.now }
+{
+    let mut all = true;
+    for byte in bytes {
+        all &= is_name_byte(*byte);
+    }
+    all
+}
+
+// The bytes of a name. Where they are refused, the letters one by one tell where the fault lies.
 fn name_bytes_from<'a>(count: usize, reader: &mut Reader<'a>) -> Result<&'a [u8], ReadFault>
     ensures read { Gives (λ x. x.now) result (wire.each_read (λ _. field.name_byte) [] count reader.old) reader.new }
     ensures len { IfOk result (λ x. length x.now ≡ count) }
     ensures names { IfOk result (λ x. IsTrue (list_all is_name_byte x.now)) }
 {
     let bytes = reader.bytes();
+    if bytes.len() >= count && are_name_bytes(&bytes[..count]) {
+        reader.skip(count);
+        return Ok(&bytes[..count]);
+    }
     for _ in 0..count {
         name_byte_from(reader)?;
     }

@@ -46,7 +46,7 @@ where
     ensures read { Gives (λ v. v.items) result (each_read (I.format items.now) [] count reader.old) reader.new }
     ensures len { IfOk result (λ v. vec_len v ≡ count) }
 {
-    let mut list = Vec::new(alloc);
+    let mut list = Vec::with_capacity(alloc, count)?;
     for _ in 0..count {
         let item = items.next_from(alloc, list.as_slice(), reader)?;
         list.push(item)?;

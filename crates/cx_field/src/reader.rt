@@ -44,6 +44,14 @@ impl<'a> Reader<'a> {
         self.rest
     }
 
+    /// Passes over so many bytes.
+    pub fn skip(&mut self, count: usize)
+        requires { count ≤ length self.old }
+        ensures { self.new ≡ drop count self.old }
+    {
+        self.rest = &self.rest[count..];
+    }
+
     /// The number in one byte; `Cut` with how many are left where there are fewer.
     #[tactic(auto, unfolding(cx_wire::specs::Format::u8))]
     pub fn u8(&mut self) -> Result<u8, ReadFault>
