@@ -9,6 +9,7 @@ Schedules of SIZE lines after the header:
     changes     puts, with four acceptors; after each fourth the leader changes its grid and retires the round before
     ticks       a proxy leader ticks that waits for nothing
     keys        puts of long values, each to a key of its own, in an order that is not theirs
+    batches     the same with short values, by 64 clients at once in batches of eight: a key in less than three lines
     folds       puts of 64 clients in turn; after each twentieth the replica crashes and is opened again
     wide        f = 3, a grid of 4x4 among 64 acceptors, batches of eight: 64 puts at once are carried to their answers, and so on
     lagging     f = 1: of twenty puts one replica hears nothing, then it asks the other for each value, and so on
@@ -134,6 +135,17 @@ def keys():
     yield from led()
     for at in itertools.count():
         yield from carried(3 + 10 * at, f"write client:0 {at + 1} batcher:0 put key-{at * 7919 % 100003} {'v' * 60}")
+
+
+def batches():
+    """Each turn has 121 datagrams: 64 Submit, 8 Batch, 8 Propose, 8 Phase2A, 8 Phase2B, 8 times Chosen and ChosenIn, 8 Results, Held."""
+    yield from led()
+    for turn in itertools.count():
+        n = 3 + 121 * turn
+        for at in range(64):
+            yield f"write client:{at} {turn + 1} batcher:0 put key-{(64 * turn + at) * 7919 % 100003} v{at % 10}"
+        yield from delivered(*range(n, n + 96), *range(n + 96, n + 112, 2))
+        yield from ["tick replica:0", *delivered(n + 120)]
 
 
 def restarted(role):
@@ -264,6 +276,7 @@ SCHEDULES = {
     "changes": lambda size: cut(size, changes(), acceptors=4),
     "ticks": lambda size: cut(size, ticks()),
     "keys": lambda size: cut(size, keys()),
+    "batches": lambda size: cut(size, batches(), clients=64, batch=8),
     "folds": lambda size: cut(size, folds(), clients=64),
     "wide": lambda size: cut(size, wide(), **WIDE),
     "lagging": lambda size: cut(size, lagging(), f=1, replicas=2),
