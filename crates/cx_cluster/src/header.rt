@@ -16,6 +16,10 @@ use cx_base::{ACCEPTORS, BATCH, CLIENTS, Cluster, MAX_F, PROXIES, ROLES};
 use std::alloc::Global;
 use toml::{Table, Value};
 
+// The counts of a header have 16 bits.
+const MAX_CLIENTS: u16 = CLIENTS as u16;
+const MAX_BATCH: u16 = BATCH as u16;
+
 /// A number, where it is from `low` to `high`.
 fn number_within(key: ClusterKey, number: i64, low: u16, high: u16) -> Result<u16, ClusterFault>
     ensures { IsNumber result (ranged key low high number) }
@@ -76,8 +80,8 @@ fn cluster_of(table: &Table) -> Result<Cluster, ClusterFault>
     let batchers = number(table, ClusterKey::Batchers, 1, ROLES)?;
     let unbatchers = number(table, ClusterKey::Unbatchers, 1, ROLES)?;
     let readers = number(table, ClusterKey::Readers, 1, ROLES)?;
-    let clients = number(table, ClusterKey::Clients, 1, CLIENTS as u16)?;
-    let batch = number(table, ClusterKey::Batch, 1, BATCH as u16)?;
+    let clients = number(table, ClusterKey::Clients, 1, MAX_CLIENTS)?;
+    let batch = number(table, ClusterKey::Batch, 1, MAX_BATCH)?;
     let base_port = port(table)?;
     Ok(Cluster {
         f: f as u8,

@@ -1,6 +1,5 @@
 -- What a leader proposed, as contracts see it.
-use Rattle.std.specs.Prelude.{◌≡◌, ◌≤◌, ◌<◌, ◌+◌, ◌-◌, ◌^◌, ℕ, Bool, true, false, not, nat_le, max, map, filter, List, [], ◌∷◌, ◌++◌, All, Option, None, Some, IsTrue, if◌then◌else◌}
-use Rattle.std.specs.List.{list_all}
+use Rattle.std.specs.Prelude.{◌≡◌, ◌≤◌, ◌<◌, ◌+◌, ◌-◌, ◌^◌, ℕ, Bool, true, false, nat_le, max, map, filter, List, [], ◌∷◌, ◌++◌, All, Option, None, Some, IsTrue, if◌then◌else◌}
 use Rattle.cx_base.specs.declared.command.Placed.{Placed}
 use Rattle.cx_base.specs.declared.command.Value.{Value}
 use Rattle.cx_base.specs.Grid.{is_in}
