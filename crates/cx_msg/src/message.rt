@@ -3,6 +3,8 @@
 ghost use Rattle.std.specs.Prelude.{◌≡◌};
 ghost use Rattle.cx_msg.specs.Names.{name_of_message};
 
+use crate::names::name_of_kind;
+use crate::put_bodies::kind_of;
 use cx_base::{Command, Commands, Grid, Key, Reply, Round, Text, Value};
 use cx_field::{Answers, Entries, Token, Votes};
 
@@ -168,36 +170,6 @@ impl Msg {
     pub fn name(&self) -> &'static str
         ensures { result.now ≡ name_of_message self.now }
     {
-        match self {
-            Msg::Submit { .. } => "Submit",
-            Msg::Batch { .. } => "Batch",
-            Msg::Leads { .. } => "Leads",
-            Msg::MatchA { .. } => "MatchA",
-            Msg::MatchB { .. } => "MatchB",
-            Msg::MatchNack { .. } => "MatchNack",
-            Msg::Phase1A { .. } => "Phase1A",
-            Msg::Phase1B { .. } => "Phase1B",
-            Msg::Nack { .. } => "Nack",
-            Msg::Propose { .. } => "Propose",
-            Msg::Phase2A { .. } => "Phase2A",
-            Msg::Phase2B { .. } => "Phase2B",
-            Msg::Chosen { .. } => "Chosen",
-            Msg::ChosenIn { .. } => "ChosenIn",
-            Msg::Results { .. } => "Results",
-            Msg::Answer { .. } => "Answer",
-            Msg::Held { .. } => "Held",
-            Msg::Fetch { .. } => "Fetch",
-            Msg::Inform { .. } => "Inform",
-            Msg::Informed { .. } => "Informed",
-            Msg::GarbageA { .. } => "GarbageA",
-            Msg::GarbageB { .. } => "GarbageB",
-            Msg::ReadReq { .. } => "ReadReq",
-            Msg::MatchRead { .. } => "MatchRead",
-            Msg::MatchReadAck { .. } => "MatchReadAck",
-            Msg::PreRead { .. } => "PreRead",
-            Msg::PreReadAck { .. } => "PreReadAck",
-            Msg::Read { .. } => "Read",
-            Msg::ReadAnswer { .. } => "ReadAnswer",
-        }
+        name_of_kind(kind_of(self))
     }
 }
