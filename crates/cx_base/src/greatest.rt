@@ -9,7 +9,7 @@ use std::marker::Model;
 pub const CLIENTS: usize = 64;
 
 /// The greatest number that each client of a cluster has used, 0 where it has used none.
-#[derive(Debug, Drop)]
+#[derive(Drop)]
 pub struct Greatest {
     numbers: [u64; CLIENTS],
 }

@@ -11,7 +11,7 @@ use cx_edge::{Lines, Next, Source};
 use cx_script::MAX_HEADER_LENGTH;
 
 /// What reading a header came to.
-#[derive(Clone, Copy, Debug, PartialEq, Eq)]
+#[derive(Clone, Copy)]
 pub enum HeaderEnd {
     /// The line that ends it was read.
     Whole,
