@@ -40,7 +40,7 @@ pub enum Heard {
 }
 
 /// Why an input is refused.
-#[derive(Clone, Copy, Debug)]
+#[derive(Clone, Copy, Debug, PartialEq, Eq)]
 pub enum Refusal {
     NoMemory,
     /// A read failed.
