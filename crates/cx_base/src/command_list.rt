@@ -12,7 +12,7 @@ use std::marker::Model;
 
 /// Commands in their order. Beside them are their clients' greatest numbers: a command with a greater one acts, and no other
 /// command has to be looked at.
-#[derive(Debug, Drop)]
+#[derive(Drop)]
 pub struct CommandList {
     commands: Vec<Command>,
     greatest: Greatest,

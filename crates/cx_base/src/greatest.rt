@@ -7,7 +7,7 @@ use crate::limits::CLIENTS;
 use std::marker::Model;
 
 /// The greatest number that each client of a cluster has used, 0 where it has used none.
-#[derive(Debug, Drop)]
+#[derive(Drop)]
 pub struct Greatest {
     numbers: [u64; CLIENTS],
 }

@@ -11,7 +11,7 @@ use cx_model::Stage;
 use std::marker::Model;
 
 /// How far a leader is in retiring the rounds below its own. Nothing here takes memory.
-#[derive(Debug, Drop)]
+#[derive(Drop)]
 pub struct Collector {
     grid: Grid,
     f: u8,

@@ -6,7 +6,7 @@ use cx_base::{
 use std::alloc::Global;
 
 /// A round that a matchmaker recorded, and its grid (JSys 2021).
-#[derive(Clone, Copy, Debug, PartialEq, Eq)]
+#[derive(Clone, Copy)]
 pub struct Entry {
     pub round: Round,
     pub grid: Grid,
@@ -19,7 +19,7 @@ impl Duplicate for Entry {
 }
 
 /// A value that an acceptor voted for in a round and a slot. Slots are below 2^40.
-#[derive(Debug, Drop)]
+#[derive(Drop)]
 pub struct Vote {
     pub round: Round,
     pub slot: u64,
@@ -37,7 +37,7 @@ impl Duplicate for Vote {
 }
 
 /// A read of a client: the client, and its number, which is 1 or more.
-#[derive(Clone, Copy, Debug, PartialEq, Eq)]
+#[derive(Clone, Copy, PartialEq, Eq)]
 pub struct Token {
     pub client: u16,
     pub seq: u64,

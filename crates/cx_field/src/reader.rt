@@ -9,7 +9,7 @@ use cx_wire::{take_u8, take_u16, take_u32, take_u64};
 use std::marker::Model;
 
 /// The bytes that are left.
-#[derive(Debug, Drop)]
+#[derive(Drop)]
 pub struct Reader<'a> {
     rest: &'a [u8],
 }

@@ -11,7 +11,7 @@ use std::alloc::Global;
 use std::marker::Model;
 
 /// A map from keys to texts, which contracts see as the list of its pairs in the rising order of their keys.
-#[derive(Debug, Drop)]
+#[derive(Drop)]
 pub struct Store {
     map: Pairs,
 }

@@ -10,7 +10,7 @@ use cx_field::{Answers, Entries, Token, Votes};
 
 /// What a datagram says. Rounds are real ones, but for a watermark, which may be none; slots are below 2^40; `cw` and
 /// `mark` are numbers of slots, at most 2^40; a client's numbers are 1 or more.
-#[derive(Debug, Drop)]
+#[derive(Drop)]
 pub enum Msg {
     /// A client's command.
     Submit {

@@ -8,7 +8,7 @@ use std::marker::Model;
 
 /// The chosen watermark and the next free slot of a window of 32 slots from the watermark on; slots end at 2^40 (VLDB 2021;
 /// the window and the end are this project's own).
-#[derive(Clone, Copy, Debug)]
+#[derive(Clone, Copy)]
 pub struct Slots {
     cw: u64,
     next: u64,

@@ -10,7 +10,7 @@ use cx_base::{MAX_HEADER_LENGTH, NoMemory};
 use cx_edge::{Lines, Next, Source};
 
 /// What reading a header came to.
-#[derive(Clone, Copy, Debug, PartialEq, Eq)]
+#[derive(Clone, Copy)]
 pub enum HeaderEnd {
     /// The line that ends it was read.
     Whole,

@@ -19,7 +19,7 @@ use cx_world::World;
 use std::alloc::Global;
 
 /// What running an event came to.
-#[derive(Clone, Copy, Debug, PartialEq, Eq)]
+#[derive(Clone, Copy)]
 pub enum RunEnd {
     Done,
     WriteFault,

@@ -165,7 +165,7 @@ fn event(made: u64, sent: u64, a: u64, b: u64, c: u64, d: u64) -> Event
 
 /// A generator of events: deliveries for two thirds, then requests, ticks, orders, crashes and restarts (this project's own
 /// mixture).
-#[derive(Debug, Drop)]
+#[derive(Drop)]
 pub struct Gen {
     x: u64,
     made: u64,

@@ -13,7 +13,7 @@ use std::marker::Model;
 const LINE_FEED: u8 = b'\n';
 
 /// What was read of a schedule: the events up to the first bad line and its number, or all events.
-#[derive(Debug, Drop)]
+#[derive(Drop)]
 pub struct Schedule {
     events: Vec<Event>,
     bad: Option<u64>,
