@@ -13,7 +13,7 @@ use std::marker::Model;
 
 /// A map from keys to texts, with room that was taken beforehand. Contracts see the list of its pairs in the rising order of
 /// their keys, and for how many more keys there is room.
-#[derive(Debug, Drop)]
+#[derive(Drop)]
 pub struct Pairs {
     list: Vec<Pair>,
     spare: usize,
