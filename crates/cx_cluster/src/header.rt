@@ -18,6 +18,7 @@ use toml::{Table, Value};
 
 // The counts of a header have 16 bits.
 const MAX_CLIENTS: u16 = CLIENTS as u16;
+
 const MAX_BATCH: u16 = BATCH as u16;
 
 /// A number, where it is from `low` to `high`.
