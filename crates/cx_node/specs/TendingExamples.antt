@@ -6,7 +6,8 @@ use Rattle.cx_base.specs.Role.{role}
 use Rattle.cx_model.specs.Examples.{one_of_each}
 use Rattle.cx_msg.specs.Letter.{letter}
 use Rattle.cx_msg.specs.declared.message.Msg.TheVariants as msg
-use Rattle.cx_node.specs.Hosted.{Hosted, ReplicaAt, stays}
+use Rattle.cx_node.specs.Hosted.{Hosted, ReplicaAt}
+use Rattle.cx_node.specs.Run.{stays}
 use Rattle.cx_node.specs.Tending.{Care, asks_again, collected, counted, first_leader, is_beat, is_time, leader_tended, no_care, reported, tend_ordered, untended}
 
 -- so many takes gave nothing
