@@ -1,5 +1,5 @@
 -- A part of a run that was done or stopped, with what came before it, and behind it.
-use Rattle.std.proofs.Common.{◌≡◌, ℕ, List, [], ◌∷◌, ◌++◌, Option, None, Some, option_map, Result, Ok, Err, refl, sym, ap, ap₂, ◌∙◌, subst}
+use Rattle.std.proofs.Common.{◌≡◌, ℕ, List, [], ◌∷◌, ◌++◌, Option, None, option_map, Result, Ok, Err, refl, sym, ap₂, ◌∙◌, subst}
 use Rattle.std.proofs.KnownBytes.{Appends-nil}
 use Rattle.std.proofs.lemmas.Grind.{flat_map-append}
 use Rattle.cx_base.specs.Faults.{Rises}
@@ -8,7 +8,7 @@ use Rattle.cx_edge.specs.Link.{LinkHistory, with_taken}
 use Rattle.cx_role.specs.Role.{Appending}
 use Rattle.cx_node.specs.declared.guest.Guest.{Guest}
 use Rattle.cx_node.specs.declared.node.Stop.{Stop}
-use Rattle.cx_node.specs.declared.node.Stop.TheVariants.{LinkFault, NoMemory, StoreFault, WriteFault}
+use Rattle.cx_node.specs.declared.node.Stop.TheVariants.{LinkFault, NoMemory, WriteFault}
 use Rattle.cx_node.specs.Action.{Action, HasTaken, Took, bound_by, taken_by}
 use Rattle.cx_node.specs.Acts.{Acts, Blames, Failures}
 use Rattle.cx_node.specs.Doing.{Linked, Scene, scene}

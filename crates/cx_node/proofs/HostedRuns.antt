@@ -30,7 +30,7 @@ use Rattle.cx_node.specs.Node.{IsEnd, IsUnderway, Runs, RunsPart}
 use Rattle.cx_node.specs.Opening.{AreOpened, IsBadAs, IsFirstBad, is_durable}
 use Rattle.cx_node.specs.Ports.{bind_of}
 use Rattle.cx_node.specs.Tending.{node_run}
-use Rattle.cx_node.specs.Serving.{Did, Outside, hosts, told_to, whole_run}
+use Rattle.cx_node.specs.Serving.{Did, Outside, hosts, told_to}
 use Rattle.cx_node.proofs.Asked.{binds_kept, binds_printed, linked_binds, linked_nothing, linked_then}
 use Rattle.cx_node.proofs.ClosedStores.{ran_still, ran_stores, stops_rises, stops_still, stops_stores, told_whole, unhosted}
 use Rattle.cx_node.proofs.Grown.{before, behind}

@@ -1,5 +1,5 @@
 -- What a journal tells behind appends, and why one failed.
-use Rattle.std.proofs.Common.{◌≡◌, ◌≤◌, ◌⊎◌, ℕ, zero, suc, arith, Bool, true, List, [], ◌∷◌, ◌++◌, take, Option, None, Some, Result, Ok, Err, refl, sym, ap, ◌∙◌, subst, inl, inr, append_assoc, append-nil, is_some}
+use Rattle.std.proofs.Common.{◌≡◌, ◌≤◌, ◌⊎◌, ℕ, zero, suc, arith, Bool, true, List, [], ◌∷◌, ◌++◌, take, Option, Some, Result, Ok, Err, refl, sym, ap, ◌∙◌, subst, inl, inr, append_assoc, append-nil, is_some}
 use Rattle.std.specs.Prelude.{slice_get}
 use Rattle.cx_base.specs.Faults.{Rises}
 use Rattle.cx_keeper.specs.declared.keeper.KeepFault.{KeepFault}

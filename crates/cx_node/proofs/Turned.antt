@@ -10,7 +10,7 @@ use Rattle.cx_node.specs.declared.node.Stop.{Stop}
 use Rattle.cx_node.specs.declared.node.Stop.TheVariants.{NoMemory}
 use Rattle.cx_node.specs.Acts.{Acts, ActsLong, ActsOnce}
 use Rattle.cx_node.specs.Doing.{Scene}
-use Rattle.cx_node.specs.Guest.{AreReady, hosted_in}
+use Rattle.cx_node.specs.Guest.{hosted_in}
 use Rattle.cx_node.specs.Hosted.{Hosted}
 use Rattle.cx_node.specs.Node.{IsUnderway, RunsPart, Takes}
 use Rattle.cx_node.specs.Run.{Moved, stays, all_do, all_finished, then_do, turn, turns_from}

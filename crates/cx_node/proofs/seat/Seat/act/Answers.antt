@@ -4,7 +4,6 @@ use Rattle.cx_model.specs.World.{records_of}
 use Rattle.cx_node.specs.declared.guest.Guest.{Guest}
 use Rattle.cx_node.specs.Guest.{FailsIn, hosted_of, keeper_of, who}
 use Rattle.cx_node.specs.Hosted.{Step, does, given}
-use Rattle.cx_node.specs.Seat.{named}
 use Rattle.cx_node.proofs.Acted.{given_is, sends_are, text_is}
 use Rattle.cx_node.proofs.Named.{is_shown, keeper_named, named_itself, own_name}
 use Rattle.cx_node.proofs.seat.Seat.act.Goals as goal
