@@ -36,12 +36,12 @@ answered_so roles tend c events turns old new s says reads host = record {
   bad_words = λ e. absurd (did status.BadWords e);
   bad_input = λ line e. absurd (did (status.BadInput line) e);
   read_fault = λ e. absurd (did status.ReadFault e);
-  link_fault = λ e. let h = did status.LinkFault e in (h.1, (c, events, h.0.0, h.0.1, says, reads, h.0.2));
-  write_fault = λ e. let h = did status.WriteFault e in (h.1, (c, events, h.0.0, h.0.1, says, reads, h.0.2));
-  store_fault = λ role e. let h = did (status.StoreFault role) e in (h.1, (c, events, h.0.0, h.0.1, says, reads, h.0.2));
-  bad_store = λ role at e. let h = did (status.BadStore role at) e in (c, events, h.0.0, h.0.1, says, reads, h.0.2);
+  link_fault = λ e. let h = did status.LinkFault e in (h.1, (c, events, h.0.0, h.0.1, says, reads, h.0.2, h.0.3));
+  write_fault = λ e. let h = did status.WriteFault e in (h.1, (c, events, h.0.0, h.0.1, says, reads, h.0.2, h.0.3));
+  store_fault = λ role e. let h = did (status.StoreFault role) e in (h.1, (c, events, h.0.0, h.0.1, says, reads, h.0.2, h.0.3));
+  bad_store = λ role at e. let h = did (status.BadStore role at) e in (c, events, h.0.0, h.0.1, says, reads, h.0.2, h.0.3);
   bad_place = λ role at e t. let h = did (status.BadStore role at) e in (c, events, says, h.1 t);
-  no_memory = λ e. let h = did status.NoMemory e in inr (c, events, h.0, h.1, says, reads, h.2);
+  no_memory = λ e. let h = did status.NoMemory e in inr (c, events, h.0, h.1, says, reads, h.2, h.3);
   heard = inl reads.1;
   written = host.written;
   linked = host.linked;
@@ -144,7 +144,7 @@ completes_so roles tend turns old new s is whole good = go s refl
     go status.LinkFault e = absurd (whole.links (is.link_fault e).0)
     go status.WriteFault e = absurd (whole.writes (is.write_fault e).0)
     go (status.StoreFault role) e = absurd (whole.stores role (is.store_fault role e).0)
-    go (status.BadStore role at) e = let p = is.bad_place role at e good.tells in absurd (good.stores p.0 p.1 role at p.2 p.3.bad)
+    go (status.BadStore role at) e = let p = is.bad_place role at e good.tells in absurd (good.stores p.0 p.1 p.3.place role at p.2 p.3.here p.3.bad)
 
 -- ---- stores that are none of their roles'
 

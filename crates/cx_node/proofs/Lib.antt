@@ -6,7 +6,6 @@ pub mod Grown
 pub mod Asked
 pub mod Done
 pub mod Acted
-pub mod Stepped
 pub mod Seated
 pub mod Turned
 pub mod Grids

@@ -30,11 +30,11 @@ use Rattle.cx_node.specs.declared.standing.Standing.{Standing}
 use Rattle.cx_node.specs.Acts.{Acts, Receives, come_of, read_as}
 use Rattle.cx_node.specs.Doing.{Scene, scene}
 use Rattle.cx_node.specs.Guest.{AreReady, hosted_in, hosted_of}
-use Rattle.cx_node.specs.Hosted.{Hosted, Moved, stays}
-use Rattle.cx_node.specs.Run.{at_place, does_at, is_client, ordered, place_of, then_do}
+use Rattle.cx_node.specs.Hosted.{Hosted}
+use Rattle.cx_node.specs.Run.{Moved, stays, took, at_place, does_at, is_client, ordered, place_of, then_do}
 use Rattle.cx_node.specs.Tending.{Care, Tended, all_completed, asks_again, at_or_none, beat, beat_over, clients_noted, clients_tended, collected, completed, completed_by, counted, decoded_heeded, first_leader, first_tick, flushed, gets, heeded, held_by, held_of, hosted_as, is_beat, is_of, is_overtaken, is_so, kind_ticks, leader_asked, leader_cared, leader_of, leader_tended, next_pass, others_tick, passes, reported, standing_of, tend_comes, tend_ordered, tended_turn, those_tick, turn_ended, with_care, within, without_care}
 use Rattle.cx_node.specs.Tends.{TendsOnce, is_leader_so, tended}
-use Rattle.cx_node.proofs.Actions.{Done, acts_before, acts_none, acts_nothing, acts_then, acts_took, no_link_of_store, no_memory_of_store}
+use Rattle.cx_node.proofs.Actions.{Done, acts_before, acts_cut, acts_none, acts_nothing, acts_then, acts_took}
 use Rattle.cx_node.proofs.Seated.{hosted_at}
 
 -- ---- who is hosted
@@ -91,25 +91,35 @@ read_nothing : (r : Result Letter WireFault) → read_as r ≡ come.Nothing → 
 read_nothing (Ok l) is = cc
 read_nothing (Err fault) is = cc
 
-letter_heeded : (what : Option (List ℕ)) (hs : List Hosted) (d : Letter) → come_of what ≡ come.Letter d → (tend_comes what hs ≡ heeded d hs) × (is_some what ≡ true)
+letter_heeded : (what : Option (List ℕ)) (hs : List Hosted) (d : Letter) → come_of what ≡ come.Letter d → (tend_comes what hs ≡ took what (heeded d hs)) × (is_some what ≡ true)
 unfolding tend_comes
 letter_heeded None hs d is = cc
-letter_heeded (Some bytes) hs d is = (read_heeded (decoded bytes) hs d is, refl)
+letter_heeded (Some bytes) hs d is = (ap (took (Some bytes)) (read_heeded (decoded bytes) hs d is), refl)
 
-foreign_heeded : (what : Option (List ℕ)) (hs : List Hosted) → come_of what ≡ come.Foreign → (tend_comes what hs ≡ stays hs) × (is_some what ≡ true)
+foreign_heeded : (what : Option (List ℕ)) (hs : List Hosted) → come_of what ≡ come.Foreign → (tend_comes what hs ≡ took what (stays hs)) × (is_some what ≡ true)
 unfolding tend_comes
 foreign_heeded None hs is = cc
-foreign_heeded (Some bytes) hs is = (read_foreign (decoded bytes) hs is, refl)
+foreign_heeded (Some bytes) hs is = (ap (took (Some bytes)) (read_foreign (decoded bytes) hs is), refl)
 
-nothing_heeded : (what : Option (List ℕ)) (hs : List Hosted) → come_of what ≡ come.Nothing → (tend_comes what hs ≡ stays hs) × (is_some what ≡ false)
+nothing_heeded : (what : Option (List ℕ)) (hs : List Hosted) → come_of what ≡ come.Nothing → (tend_comes what hs ≡ took what (stays hs)) × (is_some what ≡ false)
 unfolding tend_comes
 nothing_heeded None hs is = (refl, refl)
 nothing_heeded (Some bytes) hs is = absurd (read_nothing (decoded bytes) is)
 
+-- whatever a take gave, what comes of it comes behind it
+abbrev what_heeded : Option (List ℕ) → List Hosted → Moved (List Hosted)
+what_heeded None hs = stays hs
+what_heeded (Some bytes) hs = decoded_heeded (decoded bytes) hs
+
+all_heeded : (what : Option (List ℕ)) (hs : List Hosted) → tend_comes what hs ≡ took what (what_heeded what hs)
+unfolding tend_comes
+all_heeded None hs = refl
+all_heeded (Some bytes) hs = refl
+
 -- ---- acts
 
 then_stays : (m : Moved (List Hosted)) → then_do m (λ hs. stays hs) ≡ m
-then_stays m = λ i. record { next = m.next; kept = append-nil m.kept i; sends = append-nil m.sends i; text = append-nil m.text i }
+then_stays m = λ i. record { next = m.next; actions = append-nil m.actions i }
 
 abbrev clients_pass : Care → List Hosted → Moved Tended
 clients_pass x hs = if passes (count_by is_client hs) (all_completed hs) x then next_pass (tended x hs) else stays (tended x hs)
@@ -203,7 +213,7 @@ module _ {K : Type 0} (gives : Appending K) (c : Cluster) where
   pub then_stops : (m : Moved (List Hosted)) (a b : Scene K) → Acts gives c [] m (Ok tt) a b → Acts gives c [] m (Err NoMemory) a b
   then_stops m a b p =
       subst (λ (x : Moved (List Hosted)). Acts gives c [] x (Err NoMemory) a b) (then_stays m)
-      (acts_then gives c [] [] m (λ hs. stays hs) (Err NoMemory) a b b p (acts_none gives c [] (stays (hosted_in b.guests)) NoMemory b no_memory_of_store))
+      (acts_then gives c [] [] m (λ hs. stays hs) (Err NoMemory) a b b p (acts_none gives c [] (stays (hosted_in b.guests)) b))
 
   pub gets_some : (o : Option Order) (x : Order) (who : RoleId) (r : Done) (a b : Scene K) → o ≡ Some x → who ≡ role kind.Leader 0
       → Acts gives c [] (at_place (place_of who (hosted_in a.guests)) (Give (input.Order x)) (hosted_in a.guests)) r a b → Acts gives c [] (gets o (hosted_in a.guests)) r a b
@@ -317,7 +327,7 @@ module _ {K : Type 0} (gives : Appending K) (c : Cluster) where
       let is = letter_heeded what hs d got.2 in (
         what,
         subst (λ (m : Moved (List Hosted)). Acts gives c (what ∷ []) m r (scene gs link out) b) (sym is.0)
-            (acts_then gives c (what ∷ []) [] (stays hs) (λ after. heeded d after) r (scene gs link out) (scene gs mid out) b (acts_took gives c what gs link mid out got.1 ready) p),
+            (acts_then gives c (what ∷ []) [] (took what (stays hs)) (λ after. heeded d after) r (scene gs link out) (scene gs mid out) b (acts_took gives c what gs link mid out got.1 ready) p),
         sym is.1,
       )
 
@@ -348,13 +358,15 @@ module _ {K : Type 0} (gives : Appending K) (c : Cluster) where
   took_fault gs link mid out LinkFault ready got = (
     None,
     subst (λ k. Acts gives c (None ∷ []) (tend_comes None (hosted_in gs)) (Err LinkFault) (scene gs link out) (scene gs k out)) (sym got)
-        (acts_none gives c (None ∷ []) (tend_comes None (hosted_in gs)) LinkFault (scene gs link out) no_link_of_store),
+        (subst (λ (m : Moved (List Hosted)). Acts gives c (None ∷ []) m (Err LinkFault) (scene gs link out) (scene gs link out)) (sym (all_heeded None (hosted_in gs)))
+        (acts_cut gives c (None ∷ []) (stays (hosted_in gs)) (scene gs link out))),
   )
   took_fault gs link mid out NoMemory ready got =
       let what = got.0 in (
         what,
-        acts_then gives c (what ∷ []) [] (stays (hosted_in gs)) (λ after. tend_comes what after) (Err NoMemory) (scene gs link out) (scene gs mid out) (scene gs mid out)
-            (acts_took gives c what gs link mid out got.1 ready) (acts_none gives c [] (tend_comes what (hosted_in gs)) NoMemory (scene gs mid out) no_memory_of_store),
+        subst (λ (m : Moved (List Hosted)). Acts gives c (what ∷ []) m (Err NoMemory) (scene gs link out) (scene gs mid out)) (sym (all_heeded what (hosted_in gs)))
+            (acts_then gives c (what ∷ []) [] (took what (stays (hosted_in gs))) (λ after. what_heeded what after) (Err NoMemory) (scene gs link out) (scene gs mid out) (scene gs mid out)
+            (acts_took gives c what gs link mid out got.1 ready) (acts_none gives c [] (what_heeded what (hosted_in gs)) (scene gs mid out))),
       )
   took_fault gs link mid out WriteFault ready got = absurd got
   took_fault gs link mid out (StoreFault role) ready got = absurd got

@@ -1,37 +1,31 @@
 -- Turns, one after the other, and the end of a run.
 use Rattle.std.proofs.Common.{◌≡◌, ◌⊎◌, ◌<◌, ℕ, suc, ◌+◌, false, List, [], ◌∷◌, ◌++◌, length, length-append, take, take_at, arith, Option, None, Some, Result, Ok, Err, refl, sym, ap, ◌∙◌, subst, append_assoc, append-nil, add-zero, inl, inr}
 use Rattle.std.proofs.lemmas.List.{take-append-le}
-use Rattle.std.specs.Prelude.{OnErr, OnOk}
+use Rattle.std.specs.Prelude.{IfErr, OnOk}
 use Rattle.cx_base.specs.declared.cluster.Cluster.{Cluster}
 use Rattle.cx_role.specs.Role.{Appending}
 use Rattle.cx_node.specs.declared.doing.Doing.TheVariants.{Begin}
 use Rattle.cx_node.specs.declared.node.RunEnd.{RunEnd}
 use Rattle.cx_node.specs.declared.node.Stop.{Stop}
 use Rattle.cx_node.specs.declared.node.Stop.TheVariants.{NoMemory}
-use Rattle.cx_node.specs.Acts.{Acts, ActsLong, ActsOnce, Ends, fails_by}
+use Rattle.cx_node.specs.Acts.{Acts, ActsLong, ActsOnce}
 use Rattle.cx_node.specs.Doing.{Scene}
-use Rattle.cx_node.specs.Guest.{AreReady, hosted_in}
-use Rattle.cx_node.specs.Hosted.{Hosted, Moved, stays}
-use Rattle.cx_node.specs.Node.{RunsPart, Takes}
-use Rattle.cx_node.specs.Run.{all_do, all_finished, then_do, turn, turns_from}
+use Rattle.cx_node.specs.Guest.{hosted_in}
+use Rattle.cx_node.specs.Hosted.{Hosted}
+use Rattle.cx_node.specs.Node.{IsUnderway, RunsPart, Takes}
+use Rattle.cx_node.specs.Run.{Moved, stays, all_do, all_finished, then_do, turn, turns_from}
 use Rattle.cx_node.specs.Tending.{Care, Tended, any_turn, first_care, no_care, node_run, within, without_care}
 use Rattle.cx_node.specs.Tends.{TendsOnce, tended}
-use Rattle.cx_node.proofs.Actions.{acts_before, acts_none, acts_nothing, acts_then, error_or, no_memory_of_store}
-use Rattle.cx_node.proofs.Done.{does_part_as}
+use Rattle.cx_node.proofs.Actions.{acts_before, acts_none, acts_nothing, acts_then}
 
 abbrev with_next : {S T : Type 0} → Moved S → Moved T → Moved T
 with_next m n = then_do m (λ s. n)
 
 with_next_again : {S : Type 0} (m n o : Moved S) → with_next m (with_next n o) ≡ with_next (with_next m n) o
-with_next_again m n o = λ i. record {
-  next = o.next;
-  kept = sym (append_assoc m.kept n.kept o.kept) i;
-  sends = sym (append_assoc m.sends n.sends o.sends) i;
-  text = sym (append_assoc m.text n.text o.text) i;
-}
+with_next_again m n o = λ i. record { next = o.next; actions = sym (append_assoc m.actions n.actions o.actions) i }
 
 then_stays : {S : Type 0} (m : Moved S) → then_do m (λ s. stays s) ≡ m
-then_stays m = λ i. record { next = m.next; kept = append-nil m.kept i; sends = append-nil m.sends i; text = append-nil m.text i }
+then_stays m = λ i. record { next = m.next; actions = append-nil m.actions i }
 
 -- one turn more
 turns_more : {S : Type 0} (step : ℕ → Option (List ℕ) → S → Moved S) (n : ℕ) (ts : Takes) (what : Option (List ℕ)) (s : S) → turns_from step n (ts ++ what ∷ []) s ≡ then_do (turns_from step n ts s) (λ after. step (n + length ts) what after)
@@ -92,12 +86,12 @@ care_more tend c ts what hs =
     ap (λ (m : Moved Tended). m.next.care) (whole_more tend c ts what hs)
     ∙ ap (λ (m : Moved (List Hosted)). (any_turn tend c (length ts + 1) what (tended (care_after tend c ts hs) m.next)).next.care) (sym (run_is tend c ts hs))
 
-pub no_end : (tend : Option ℕ) (c : Cluster) (limit : ℕ) (hs : List Hosted) → Ends tend c limit hs []
+pub no_end : (tend : Option ℕ) (c : Cluster) (limit : ℕ) (hs : List Hosted) → IsUnderway tend c limit hs []
 no_end tend c limit hs = record { most = omega arith; not_before = λ k short. let none : ⊥ = omega (arith, short) in absurd none }
 
 -- another turn was made, since the run wasn't at its end
 ends_more : (tend : Option ℕ) (c : Cluster) (limit : ℕ) (hs : List Hosted) (ts : Takes) (what : Option (List ℕ)) → length ts < limit → all_finished ((node_run tend c ts hs).next) ≡ false
-    → Ends tend c limit hs ts → Ends tend c limit hs (ts ++ what ∷ [])
+    → IsUnderway tend c limit hs ts → IsUnderway tend c limit hs (ts ++ what ∷ [])
 ends_more tend c limit hs ts what more not_yet e =
     record {
       most = omega (arith, length-append ts (what ∷ []), more);
@@ -115,7 +109,7 @@ module _ {K : Type 0} (gives : Appending K) (tend : Option ℕ) (c : Cluster) (l
   -- a run with so many turns was made, and this is counted after it
   abbrev pub Underway : ℕ → Scene K → Scene K → Care → Type 0
   Underway made a b k =
-      (ts : Takes) × Acts gives c ts (node_run tend c ts (hosted_in a.guests)) (Ok tt) a b × Ends tend c limit (hosted_in a.guests) ts × (length ts ≡ made) × (k ≡ care_after tend c ts (hosted_in a.guests))
+      (ts : Takes) × Acts gives c ts (node_run tend c ts (hosted_in a.guests)) (Ok tt) a b × IsUnderway tend c limit (hosted_in a.guests) ts × (length ts ≡ made) × (k ≡ care_after tend c ts (hosted_in a.guests))
 
   pub begun_underway : (a b : Scene K) (k : Care) → k ≡ first_care tend (hosted_in a.guests) → Acts gives c [] (all_do Begin (hosted_in a.guests)) (Ok tt) a b → Underway 0 a b k
   begun_underway a b k first p =
@@ -141,11 +135,11 @@ module _ {K : Type 0} (gives : Appending K) (tend : Option ℕ) (c : Cluster) (l
   pub never_begun : (a : Scene K) → ActsLong gives tend c limit (Err NoMemory) a a
   never_begun a =
       let hs = hosted_in a.guests in
-      ([], acts_none gives c [] (node_run tend c [] hs) NoMemory a no_memory_of_store, no_end tend c limit hs, tt)
+      ([], acts_none gives c [] (node_run tend c [] hs) a, no_end tend c limit hs, tt)
 
   turned : (n : ℕ) (r : Result (Unit {0}) Stop) (a b d : Scene K) (k j : Care) → n < limit → all_finished (hosted_in b.guests) ≡ false
       → (u : Underway n a b k) (t : TendsOnce gives c (λ what. any_turn tend c (n + 1) what (tended k (hosted_in b.guests))) r b d j)
-      → Acts gives c (u.0 ++ t.0 ∷ []) (node_run tend c (u.0 ++ t.0 ∷ []) (hosted_in a.guests)) r a d × Ends tend c limit (hosted_in a.guests) (u.0 ++ t.0 ∷ [])
+      → Acts gives c (u.0 ++ t.0 ∷ []) (node_run tend c (u.0 ++ t.0 ∷ []) (hosted_in a.guests)) r a d × IsUnderway tend c limit (hosted_in a.guests) (u.0 ++ t.0 ∷ [])
   turned n r a b d k j more not_yet u t =
       let hs = hosted_in a.guests in
       let ts = u.0 in
@@ -177,10 +171,5 @@ module _ {K : Type 0} (gives : Appending K) (tend : Option ℕ) (c : Cluster) (l
   stopped_turn n e a b d k j more not_yet u t = let p = turned n (Err e) a b d k j more not_yet u t in (u.0 ++ t.0 ∷ [], p.0, p.1, tt)
 
   -- what is said of the turns, under the answer of the whole run
-  pub run_stops : (e : Stop) (r : Result RunEnd Stop) (a b : Scene K) → r ≡ Err e → ActsLong gives tend c limit (Err e) a b → OnErr r (RunsPart gives (fails_by r) tend c limit a b)
-  run_stops e r a b is p =
-      let ts = p.0 in
-      let front = p.1.part in
-      let m = node_run tend c ts (hosted_in a.guests) in
-      subst (λ (x : Result RunEnd Stop). OnErr x (RunsPart gives (fails_by x) tend c limit a b)) (sym is)
-      (ts, front.0, p.2.most, does_part_as gives (fails_by {T = Unit {0}} (Err e)) (fails_by {T = RunEnd} (Err e)) (λ role f. ap Err (ap (error_or e) f)) c (take front.0 ts) m a b front.1)
+  pub run_stops : (e : Stop) (r : Result RunEnd Stop) (a b : Scene K) → r ≡ Err e → ActsLong gives tend c limit (Err e) a b → IfErr r (λ x. RunsPart gives x tend c limit a b)
+  run_stops e r a b is p = subst (λ (o : Result RunEnd Stop). IfErr o (λ x. RunsPart gives x tend c limit a b)) (sym is) (p.0, p.2, p.1.part)

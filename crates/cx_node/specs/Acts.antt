@@ -1,8 +1,7 @@
--- What a part of a node's run came to: it was done whole, or a front of it was done and something failed.
-use Rattle.std.specs.Prelude.{◌≡◌, ◌⊎◌, ◌≤◌, ◌<◌, ℕ, true, false, List, [], ◌∷◌, length, map, take, Option, None, Some, option_map, Result, Ok, Err, OnOk, OnErr}
+-- What a part of a node's run came to: it was done whole, or the first of its actions were done and something failed.
+use Rattle.std.specs.Prelude.{◌≡◌, ◌⊎◌, ℕ, true, List, [], ◌∷◌, length, Option, None, Some, option_map, Result, Ok, Err, IfErr, OnOk}
 use Rattle.cx_base.specs.Faults.{Rises}
 use Rattle.cx_base.specs.declared.cluster.Cluster.{Cluster}
-use Rattle.cx_base.specs.declared.role.RoleId.{RoleId}
 use Rattle.cx_edge.specs.Link.{LinkHistory, with_taken}
 use Rattle.cx_msg.specs.Decoding.{decoded}
 use Rattle.cx_msg.specs.Letter.{Letter}
@@ -12,11 +11,12 @@ use Rattle.cx_node.specs.declared.come.Come.{Come}
 use Rattle.cx_node.specs.declared.come.Come.TheVariants as come
 use Rattle.cx_node.specs.declared.node.Stop.{Stop}
 use Rattle.cx_node.specs.declared.node.Stop.TheVariants.{LinkFault, NoMemory, StoreFault, WriteFault}
-use Rattle.cx_node.specs.Doing.{Does, DoesPart, Scene, StoreFails}
-use Rattle.cx_node.specs.Guest.{AreReady, hosted_in, who}
-use Rattle.cx_node.specs.Hosted.{Hosted, Moved}
-use Rattle.cx_node.specs.Node.{Takes}
-use Rattle.cx_node.specs.Run.{all_finished}
+use Rattle.cx_node.specs.Action.{HasTaken}
+use Rattle.cx_node.specs.Doing.{DidPart, Does, Scene}
+use Rattle.cx_node.specs.Guest.{AreReady, hosted_in}
+use Rattle.cx_node.specs.Hosted.{Hosted}
+use Rattle.cx_node.specs.Node.{IsUnderway, Takes}
+use Rattle.cx_node.specs.Run.{Moved, all_finished}
 use Rattle.cx_node.specs.Tending.{node_run}
 
 -- how often the link and the output have failed
@@ -34,31 +34,21 @@ pub record Blames (result : Result (Unit {0}) Stop) (old new : Failures) : Type 
   pub linked : result ≡ Err LinkFault → Rises old.link new.link
   pub unlinked : (result ≡ Err LinkFault → ⊥) → new.link ≡ old.link
 
--- the store of this role is what failed
-abbrev pub fails_by : {T : Type 0} → Result T Stop → RoleId → Type 0
-fails_by result role = result ≡ Err (StoreFault role)
-
--- What was to be done is done, and all roles may go on; or a front of it is done, with the first of these takes.
+-- What is to be done is done, with these takes, and all roles may go on; or the first of its actions are done, and then it stopped.
 pub record Acts {K : Type 0} (gives : Appending K) (c : Cluster) (takes : Takes) (m : Moved (List Hosted)) (result : Result (Unit {0}) Stop) (old new : Scene K) : Type 0 where
-  pub done : OnOk result (Does gives c takes m old new)
+  pub done : OnOk result (Does gives c m old new)
+  pub taken : OnOk result (HasTaken takes m.actions)
   pub ready : OnOk result (AreReady c new.guests)
-  pub names : OnOk result (map who new.guests ≡ map who old.guests)
-  pub part : OnErr result ((made : ℕ) × DoesPart gives (fails_by result) c (take made takes) m old new)
-  pub store : (role : RoleId) → result ≡ Err (StoreFault role) → StoreFails gives m.kept role old.guests new.guests
+  pub part : IfErr result (λ e. DidPart gives c m.actions e old new)
 
 -- the same with what one take gave
 abbrev pub ActsOnce : {K : Type 0} → Appending K → Cluster → (Option (List ℕ) → Moved (List Hosted)) → Result (Unit {0}) Stop → Scene K → Scene K → Type 0
 ActsOnce gives c f result old new = (what : Option (List ℕ)) × Acts gives c (what ∷ []) (f what) result old new
 
--- whether a run has come to its end behind these takes, and to none before
-pub record Ends (tend : Option ℕ) (c : Cluster) (limit : ℕ) (hs : List Hosted) (takes : Takes) : Type 0 where
-  pub most : length takes ≤ limit
-  pub not_before : (k : ℕ) → k < length takes → all_finished ((node_run tend c (take k takes) hs).next) ≡ false
-
--- the turns of a run were made to its end, or a front of them
+-- the turns of a run were made to its end, or a part of them
 abbrev pub ActsLong : {K : Type 0} → Appending K → Option ℕ → Cluster → ℕ → Result (Unit {0}) Stop → Scene K → Scene K → Type 0
 ActsLong gives tend c limit result old new =
-    (takes : Takes) × Acts gives c takes (node_run tend c takes (hosted_in old.guests)) result old new × Ends tend c limit (hosted_in old.guests) takes
+    (takes : Takes) × Acts gives c takes (node_run tend c takes (hosted_in old.guests)) result old new × IsUnderway tend c limit (hosted_in old.guests) takes
     × OnOk result ((all_finished ((node_run tend c takes (hosted_in old.guests)).next) ≡ true) ⊎ (length takes ≡ limit))
 
 -- what a take gave: nothing, bytes that are no datagram, or one

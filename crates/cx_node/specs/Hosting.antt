@@ -1,5 +1,5 @@
 -- What binding, running and giving back come to, behind an input that was accepted.
-use Rattle.std.specs.Prelude.{◌≡◌, ◌≤◌, ℕ, Bool, true, List, ◌++◌, map, Option, Some, Result, Ok, Err, IfOk, OnOk, OnErr, slice_get}
+use Rattle.std.specs.Prelude.{◌≡◌, ◌≤◌, ℕ, Bool, true, List, ◌++◌, Option, Some, Result, Ok, Err, IfOk, IfErr, slice_get}
 use Rattle.cx_base.specs.declared.cluster.Cluster.{Cluster}
 use Rattle.cx_base.specs.declared.event.Event.{Event}
 use Rattle.cx_base.specs.declared.role.RoleId.{RoleId}
@@ -17,10 +17,9 @@ use Rattle.cx_node.specs.declared.node.Stop.{Stop}
 use Rattle.cx_node.specs.declared.node.Stop.TheVariants as stop
 use Rattle.cx_node.specs.declared.opening.OpenStop.{OpenStop}
 use Rattle.cx_node.specs.declared.opening.OpenStop.TheVariants as open_stop
-use Rattle.cx_node.specs.Acts.{fails_by}
 use Rattle.cx_node.specs.Doing.{Scene}
 use Rattle.cx_node.specs.Guest.{keeper_of, who}
-use Rattle.cx_node.specs.Node.{IsEnd, RunFails, Runs, RunsPart, Takes}
+use Rattle.cx_node.specs.Node.{IsEnd, IsUnderway, Runs, RunsPart, Takes}
 use Rattle.cx_node.specs.Opening.{IsBadAs, IsFirstBad}
 use Rattle.cx_node.specs.Serving.{Outside, Served, ServedPart, hosts}
 
@@ -64,12 +63,10 @@ pub record GivesBack {D : Type 0} (seen : D → Option (List ℕ)) (disk_faults 
       → faults_after role ≡ faults role
   pub later : (role : RoleId) → faults role ≤ faults_after role
 
--- Hosted roles ran to this answer: the whole run was made, and no name has changed; or a front of it, and what failed has a cause.
+-- Hosted roles ran to this answer: the whole run was made, or the first of its actions were done, and what failed has a cause.
 pub record Ran {K : Type 0} (gives : Appending K) (tend : Option ℕ) (c : Cluster) (turns : ℕ) (answer : Result RunEnd Stop) (old new : Scene K) (links links_after writes writes_after : ℕ) : Type 0 where
   pub done : IfOk answer (λ e. Runs gives tend c turns e old new)
-  pub names : OnOk answer (map who new.guests ≡ map who old.guests)
-  pub part : OnErr answer (RunsPart gives (fails_by answer) tend c turns old new)
-  pub store : (role : RoleId) → answer ≡ Err (stop.StoreFault role) → RunFails gives tend c role old.guests new.guests
+  pub part : IfErr answer (λ e. RunsPart gives e tend c turns old new)
   pub written : answer ≡ Err stop.WriteFault → Rises writes writes_after
   pub unwritten : (answer ≡ Err stop.WriteFault → ⊥) → writes_after ≡ writes
   pub linked : answer ≡ Err stop.LinkFault → Rises links links_after
@@ -80,19 +77,20 @@ abbrev pub HostEnds : List RoleId → Option ℕ → Cluster → List Event → 
 HostEnds roles tend c events turns e old new =
     (told : RoleId → List Record) × (takes : Takes) × Served roles tend c events told takes old new × IsEnd tend c turns (hosts c events told roles) takes e
 
--- a front of it was made
-abbrev pub HostEndsEarly : List RoleId → Option ℕ → Cluster → List Event → Outside → Outside → Type 0
-HostEndsEarly roles tend c events old new = (told : RoleId → List Record) × (takes : Takes) × ServedPart roles tend c events told takes old new
+-- the first of its actions were done
+abbrev pub HostEndsEarly : List RoleId → Option ℕ → Cluster → List Event → ℕ → Outside → Outside → Type 0
+HostEndsEarly roles tend c events turns old new =
+    (told : RoleId → List Record) × (takes : Takes) × ServedPart roles tend c events told takes old new × IsUnderway tend c turns (hosts c events told roles) takes
 
 -- what was done, and why, for each answer; hosting reads nothing
 abbrev pub HostDid : List RoleId → Option ℕ → Cluster → List Event → ℕ → Outside → Outside → Status → Type 0
 HostDid roles tend c events turns old new status.Done = HostEnds roles tend c events turns end.Done old new
 HostDid roles tend c events turns old new status.Turns = HostEnds roles tend c events turns end.Turns old new
-HostDid roles tend c events turns old new status.LinkFault = HostEndsEarly roles tend c events old new × Rises old.links new.links
-HostDid roles tend c events turns old new status.WriteFault = HostEndsEarly roles tend c events old new × Rises old.writes new.writes
-HostDid roles tend c events turns old new (status.StoreFault role) = HostEndsEarly roles tend c events old new × Rises (old.stores role) (new.stores role)
-HostDid roles tend c events turns old new (status.BadStore role at) = HostEndsEarly roles tend c events old new × (old.tells ≡ true → IsFirstBad roles c old.held role at)
-HostDid roles tend c events turns old new status.NoMemory = HostEndsEarly roles tend c events old new
+HostDid roles tend c events turns old new status.LinkFault = HostEndsEarly roles tend c events turns old new × Rises old.links new.links
+HostDid roles tend c events turns old new status.WriteFault = HostEndsEarly roles tend c events turns old new × Rises old.writes new.writes
+HostDid roles tend c events turns old new (status.StoreFault role) = HostEndsEarly roles tend c events turns old new × Rises (old.stores role) (new.stores role)
+HostDid roles tend c events turns old new (status.BadStore role at) = HostEndsEarly roles tend c events turns old new × (old.tells ≡ true → IsFirstBad roles c old.held role at)
+HostDid roles tend c events turns old new status.NoMemory = HostEndsEarly roles tend c events turns old new
 HostDid roles tend c events turns old new other = ⊥
 
 -- the roles ran

@@ -1,5 +1,6 @@
 pub mod Hosted
 pub mod Ports
+pub mod Action
 pub mod Run
 pub mod Tending
 pub mod TendingExamples

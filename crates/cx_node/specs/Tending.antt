@@ -19,8 +19,8 @@ use Rattle.cx_msg.specs.declared.input.Input.TheVariants as input
 use Rattle.cx_node.specs.declared.doing.Doing.{Doing}
 use Rattle.cx_node.specs.declared.doing.Doing.TheVariants.{Begin, Give}
 use Rattle.cx_node.specs.declared.standing.Standing.{Standing}
-use Rattle.cx_node.specs.Hosted.{Hosted, ClientAt, LeaderAt, Moved, ReplicaAt, name_of, stays}
-use Rattle.cx_node.specs.Run.{all_do, at_place, does_at, grid_of, is_client, ordered, place_of, then_do, turn, turns_from, untended_run}
+use Rattle.cx_node.specs.Hosted.{Hosted, ClientAt, LeaderAt, ReplicaAt, name_of}
+use Rattle.cx_node.specs.Run.{Moved, all_do, at_place, does_at, grid_of, is_client, ordered, place_of, stays, then_do, took, turn, turns_from, untended_run}
 
 -- What a tended node has counted. Counts of turns and beats stop at 2 ^ 32 - 1.
 pub record Care : Type 0 where
@@ -52,11 +52,11 @@ one_more n = min (n + 1) 4294967295
 
 -- what the hosted roles did, beside these counts
 abbrev pub with_care : Care → Moved (List Hosted) → Moved Tended
-with_care k m = record { next = record { care = k; hosted = m.next }; kept = m.kept; sends = m.sends; text = m.text }
+with_care k m = record { next = record { care = k; hosted = m.next }; actions = m.actions }
 
 -- what the hosted roles did alone
 abbrev pub without_care : Moved Tended → Moved (List Hosted)
-without_care m = record { next = m.next.hosted; kept = m.kept; sends = m.sends; text = m.text }
+without_care m = record { next = m.next.hosted; actions = m.actions }
 
 -- the hosted roles do something, and nothing is counted
 abbrev pub within : (List Hosted → Moved (List Hosted)) → Tended → Moved Tended
@@ -158,8 +158,8 @@ decoded_heeded (Ok d) hs = heeded d hs
 
 -- what a take gave comes to its role; bytes that are no datagram change no role
 unfoldable pub tend_comes : Option (List ℕ) → List Hosted → Moved (List Hosted)
-tend_comes None hs = stays hs
-tend_comes (Some bytes) hs = decoded_heeded (decoded bytes) hs
+tend_comes None hs = took None (stays hs)
+tend_comes (Some bytes) hs = took (Some bytes) (decoded_heeded (decoded bytes) hs)
 
 -- batchers tick where something came before, and nothing now
 unfoldable pub flushed : Care → Bool → List Hosted → Moved (List Hosted)

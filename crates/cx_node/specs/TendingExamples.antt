@@ -6,7 +6,9 @@ use Rattle.cx_base.specs.Role.{role}
 use Rattle.cx_model.specs.Examples.{one_of_each}
 use Rattle.cx_msg.specs.Letter.{letter}
 use Rattle.cx_msg.specs.declared.message.Msg.TheVariants as msg
-use Rattle.cx_node.specs.Hosted.{Hosted, ReplicaAt, stays}
+use Rattle.cx_node.specs.Action.{sent_in}
+use Rattle.cx_node.specs.Hosted.{Hosted, ReplicaAt}
+use Rattle.cx_node.specs.Run.{stays}
 use Rattle.cx_node.specs.Tending.{Care, asks_again, collected, counted, first_leader, is_beat, is_time, leader_tended, no_care, reported, tend_ordered, untended}
 
 -- so many takes gave nothing
@@ -38,9 +40,9 @@ replica_with n =
 
 -- a replica reports each further multiple of 8 slots
 pub record Reports : Type 0 where
-  pub at_8 : (reported (role Replica 0) 7 (replica_with 8 ∷ [])).sends ≡ letter (role Replica 0) (role Leader 0) (msg.Held 8) ∷ []
-  pub at_15 : (reported (role Replica 0) 8 (replica_with 15 ∷ [])).sends ≡ []
-  pub at_17 : (reported (role Replica 0) 15 (replica_with 17 ∷ [])).sends ≡ letter (role Replica 0) (role Leader 0) (msg.Held 17) ∷ []
+  pub at_8 : sent_in ((reported (role Replica 0) 7 (replica_with 8 ∷ [])).actions) ≡ letter (role Replica 0) (role Leader 0) (msg.Held 8) ∷ []
+  pub at_15 : sent_in ((reported (role Replica 0) 8 (replica_with 15 ∷ [])).actions) ≡ []
+  pub at_17 : sent_in ((reported (role Replica 0) 15 (replica_with 17 ∷ [])).actions) ≡ letter (role Replica 0) (role Leader 0) (msg.Held 17) ∷ []
 
 -- where leader 0 isn't hosted it gets no order
 pub record NoLeader : Type 0 where

@@ -10,8 +10,8 @@ use Rattle.cx_node.specs.declared.whom.Whom.{Whom}
 use Rattle.cx_node.specs.declared.whom.Whom.TheVariants.{Kind, Others, Overtaken}
 use Rattle.cx_node.specs.Acts.{Acts}
 use Rattle.cx_node.specs.Doing.{Scene}
-use Rattle.cx_node.specs.Hosted.{Hosted, Moved}
-use Rattle.cx_node.specs.Run.{is_client}
+use Rattle.cx_node.specs.Hosted.{Hosted}
+use Rattle.cx_node.specs.Run.{Moved, is_client}
 use Rattle.cx_node.specs.Tending.{Care, Tended, is_of, is_overtaken, without_care}
 
 -- these roles, with these counts

@@ -1,14 +1,13 @@
 //! The node: its hosted roles, and how it runs.
 
-ghost use Rattle.std.specs.Prelude.{◌≡◌, ◌≤◌, ◌<◌, [], length, map, IfOk, IfErr, OnOk, OnErr, Err};
+ghost use Rattle.std.specs.Prelude.{◌≡◌, ◌≤◌, ◌<◌, [], length, IfOk, IfErr, Err};
 ghost use Rattle.std.specs.List.{list_all, list_any};
-ghost use Rattle.cx_base.specs.declared.role.RoleId.{RoleId};
 ghost use Rattle.cx_base.specs.Faults.{Rises};
 ghost use Rattle.cx_node.specs.declared.node.Stop.TheVariants as stop;
-ghost use Rattle.cx_node.specs.Acts.{ActsLong, Blames, fails_by, failures};
+ghost use Rattle.cx_node.specs.Acts.{ActsLong, Blames, failures};
 ghost use Rattle.cx_node.specs.Doing.{scene};
-ghost use Rattle.cx_node.specs.Guest.{AreReady, hosted_in, hosted_of, who};
-ghost use Rattle.cx_node.specs.Node.{RunFails, Runs, RunsPart};
+ghost use Rattle.cx_node.specs.Guest.{AreReady, hosted_in, hosted_of};
+ghost use Rattle.cx_node.specs.Node.{Runs, RunsPart};
 ghost use Rattle.cx_node.specs.Run.{all_finished, has_finished, is_client};
 ghost use Rattle.cx_node.specs.Tending.{first_care};
 
@@ -160,8 +159,8 @@ impl<K: Keeper + Drop> Node<K> {
     /// Runs so many turns, or until all hosted clients have finished: clients send their first requests, and each turn has three
     /// parts. An idle leader 0 is ordered to lead (at turn 1 and at each that 4,096 divides), one datagram is taken of the link, and all
     /// roles tick (at each turn that 64 divides). A node that tends its roles has them tick, and orders leader 0, by what it counts, with at
-    /// most so many turns from one beat to the next. What each role keeps, what is sent and what is printed are exactly the run's, or a
-    /// front of it where something failed.
+    /// most so many turns from one beat to the next. What is taken, kept, sent and printed are exactly the run's actions, or the first of them
+    /// where something failed.
     pub fn run<L: Link, W: Sink>(
         &mut self,
         turns: u32,
@@ -171,13 +170,11 @@ impl<K: Keeper + Drop> Node<K> {
     ) -> Result<RunEnd, Stop>
         requires ready { AreReady self.old.cluster self.old.guests }
         ensures done { IfOk result (λ end. Runs K.append_gives tend self.old.cluster turns end (scene self.old.guests (L.told link.old) (W.taken out.old)) (scene self.new.guests (L.told link.new) (W.taken out.new))) }
-        ensures part { OnErr result (RunsPart K.append_gives (fails_by result) tend self.old.cluster turns (scene self.old.guests (L.told link.old) (W.taken out.old)) (scene self.new.guests (L.told link.new) (W.taken out.new))) }
-        ensures store { (role : RoleId) → result ≡ Err (stop.StoreFault role) → RunFails K.append_gives tend self.old.cluster role self.old.guests self.new.guests }
+        ensures part { IfErr result (λ e. RunsPart K.append_gives e tend self.old.cluster turns (scene self.old.guests (L.told link.old) (W.taken out.old)) (scene self.new.guests (L.told link.new) (W.taken out.new))) }
         ensures written { result ≡ Err stop.WriteFault → Rises (W.faults out.old) (W.faults out.new) }
         ensures unwritten { (result ≡ Err stop.WriteFault → ⊥) → W.faults out.new ≡ W.faults out.old }
         ensures linked { result ≡ Err stop.LinkFault → Rises (L.faults link.old) (L.faults link.new) }
         ensures unlinked { (result ≡ Err stop.LinkFault → ⊥) → L.faults link.new ≡ L.faults link.old }
-        ensures names { OnOk result (map who self.new.guests ≡ map who self.old.guests) }
         ensures cluster { self.new.cluster ≡ self.old.cluster }
     {
         let hosts_client = self.has_client();

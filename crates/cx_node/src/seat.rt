@@ -6,10 +6,10 @@ ghost use Rattle.std.specs.Option.{option_map};
 ghost use Rattle.cx_leader.specs.Tending.{can_collect, is_new};
 ghost use Rattle.cx_model.specs.Rules.{outcome_of, running_after};
 ghost use Rattle.cx_model.specs.World.{kept_by, records_of};
-ghost use Rattle.cx_node.specs.Guest.{Appended, AppendedPart, Fails, GrowsPart, GuestFails, GuestGrows, GuestGrowsPart, hosted_of, keeper_of, who};
+ghost use Rattle.cx_role.specs.Role.{Refuses};
+ghost use Rattle.cx_node.specs.Guest.{Appended, Fails, FailsIn, GuestGrows, Rests, hosted_of, keeper_of, who};
 ghost use Rattle.cx_node.specs.Hosted.{ClientAt, begun, client_given, does, given, is_idle_leader, is_live};
 ghost use Rattle.cx_node.specs.Run.{has_finished, is_client};
-ghost use Rattle.cx_node.specs.Seat.{FailsIn};
 ghost use Rattle.cx_node.specs.Tending.{completed, held_of, is_of, leader_of, standing_of};
 ghost use Rattle.cx_node.specs.Tends.{is_leader_so};
 
@@ -55,7 +55,7 @@ fn step<R: Role, K: Keeper>(
     ensures state { OnOk result (R.state role.new ≡ running_after R.rules (R.state role.old) (outcome_of R.rules (R.state role.old) input.now)) }
     ensures kept { OnOk result (Appended K.append_gives (records_of (R.state role.old).me (kept_by (R.state role.old).me (outcome_of R.rules (R.state role.old) input.now).kept)) keeper.old keeper.new) }
     ensures sends { OnOk result (out.new.list ≡ (outcome_of R.rules (R.state role.old) input.now).sends) }
-    ensures part { OnErr result (AppendedPart K.append_gives (IsErrOf result StepFault.Failed) (records_of (R.state role.old).me (kept_by (R.state role.old).me (outcome_of R.rules (R.state role.old) input.now).kept)) keeper.old keeper.new) }
+    ensures rests { IsErrOf result StepFault.NoMemory → Refuses K.append_gives keeper.old keeper.new }
     ensures failed { IsErrOf result StepFault.Failed → Fails K.append_gives (slice_get (records_of (R.state role.old).me (kept_by (R.state role.old).me (outcome_of R.rules (R.state role.old) input.now).kept)) 0) keeper.old keeper.new }
 
     // A role that can take no step any more may have another name.
@@ -157,7 +157,7 @@ fn give<K: Keeper>(
     ensures kept { OnOk result (GuestGrows K.append_gives (given (hosted_of guest.old) input.now).kept guest.old guest.new) }
     ensures sends { OnOk result (out.new.list ≡ (given (hosted_of guest.old) input.now).sends) }
     ensures text { OnOk result (text.new.items ≡ (given (hosted_of guest.old) input.now).text) }
-    ensures part { OnErr result (GrowsPart K.append_gives (IsErrOf result StepFault.Failed) (records_of (who guest.old) (given (hosted_of guest.old) input.now).kept) (keeper_of guest.old) (keeper_of guest.new)) }
+    ensures rests { IsErrOf result StepFault.NoMemory → Rests K.append_gives (keeper_of guest.old) (keeper_of guest.new) }
     ensures failed { IsErrOf result StepFault.Failed → FailsIn K.append_gives (slice_get (records_of (who guest.old) (given (hosted_of guest.old) input.now).kept) 0) (keeper_of guest.old) (keeper_of guest.new) }
     ensures name { OnOk result (who guest.new ≡ who guest.old) }
     ensures live { OnOk result (IsTrue (is_live (hosted_of guest.new))) }
@@ -311,7 +311,7 @@ impl<K: Keeper> Seat<K> {
     }
 
     /// The role does what it is asked: its state, its record, what it sends and the line that it prints are exactly those of the
-    /// definition. `Failed` comes only where its keeper's append failed, and then, as when out of memory, a front of that was done.
+    /// definition. `Failed` comes only where its keeper's append of that record failed; then, and out of memory, nothing may be sent.
     #[tactic(auto, unfolding(crate::specs::Hosted::does))]
     pub fn act(
         &mut self,
@@ -326,8 +326,8 @@ impl<K: Keeper> Seat<K> {
         ensures kept { OnOk result (GuestGrows K.append_gives (does (hosted_of self.old) what.now).kept self.old self.new) }
         ensures sends { OnOk result (out.new.list ≡ (does (hosted_of self.old) what.now).sends) }
         ensures text { OnOk result (text.new.items ≡ (does (hosted_of self.old) what.now).text) }
-        ensures part { OnErr result (GuestGrowsPart K.append_gives (IsErrOf result StepFault.Failed) (does (hosted_of self.old) what.now).kept self.old self.new) }
-        ensures failed { IsErrOf result StepFault.Failed → GuestFails K.append_gives (does (hosted_of self.old) what.now).kept self.old self.new }
+        ensures rests { IsErrOf result StepFault.NoMemory → Rests K.append_gives (keeper_of self.old) (keeper_of self.new) }
+        ensures failed { IsErrOf result StepFault.Failed → FailsIn K.append_gives (slice_get (records_of (who self.old) (does (hosted_of self.old) what.now).kept) 0) (keeper_of self.old) (keeper_of self.new) }
         ensures name { who self.new ≡ who self.old }
         ensures live { OnOk result (IsTrue (is_live (hosted_of self.new))) }
     {

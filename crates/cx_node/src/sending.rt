@@ -47,7 +47,7 @@ fn send_one<L: Link>(
     bytes: &mut Vec<u8>,
     link: &mut L,
 ) -> Result<(), NoMemory>
-    ensures sent { OnOk result (Asks cluster.now [] (letter.now ∷ []) (L.told link.old) (L.told link.new)) }
+    ensures sent { OnOk result (Asks cluster.now (letter.now ∷ []) (L.told link.old) (L.told link.new)) }
     ensures nothing { OnErr result (L.told link.new ≡ L.told link.old) }
     ensures still { L.faults link.new ≡ L.faults link.old }
 {
@@ -69,8 +69,8 @@ pub fn send_all<L: Link>(
     bytes: &mut Vec<u8>,
     link: &mut L,
 ) -> Result<(), NoMemory>
-    ensures sent { OnOk result (Asks cluster.now [] letters.now (L.told link.old) (L.told link.new)) }
-    ensures part { OnErr result (AsksPart cluster.now [] letters.now (L.told link.old) (L.told link.new)) }
+    ensures sent { OnOk result (Asks cluster.now letters.now (L.told link.old) (L.told link.new)) }
+    ensures part { OnErr result (AsksPart cluster.now letters.now (L.told link.old) (L.told link.new)) }
     ensures still { L.faults link.new ≡ L.faults link.old }
 {
     for letter in letters {

@@ -10,8 +10,7 @@ ghost use Rattle.cx_msg.specs.declared.input.Input.TheVariants as input;
 ghost use Rattle.cx_node.specs.Acts.{Acts, Blames, failures};
 ghost use Rattle.cx_node.specs.Doing.{scene};
 ghost use Rattle.cx_node.specs.Guest.{AreReady, hosted_in, hosted_of};
-ghost use Rattle.cx_node.specs.Hosted.{stays};
-ghost use Rattle.cx_node.specs.Run.{does_at, is_client};
+ghost use Rattle.cx_node.specs.Run.{does_at, is_client, stays};
 ghost use Rattle.cx_node.specs.Tending.{beat, clients_tended, collected, completed, first_leader, flushed, gets, heeded, held_by, is_so, leader_asked, leader_cared, leader_tended, next_pass, reported, standing_of, tend_comes, tend_ordered, tended_turn, those_tick, turn_ended, without_care};
 ghost use Rattle.cx_node.specs.Tends.{TendsOnce, done_of, is_leader_so, is_meant, tended};
 

@@ -31,7 +31,7 @@ pub returns-in-Err-clause-answered : goal.returns-in-Err-clause-answered
 returns-in-Err-clause-answered g c =
     let heard = c.in-Err.ensures in
     refused_so c.args.roles.now c.args.tend c.args.turns _ _ c.in-Err.refusal c.refused.result c.refused.ensures
-    (record { link = refl; links = refl; out = refl; writes = refl; held = λ me. refl; stores = λ me. refl })
+    (record { link = refl; links = refl; out = refl; writes = refl; tells = refl; held = λ me. refl; stores = λ me. refl })
     (λ e. heard.bad_words (err_is e)) (λ line e. heard.bad_input line (err_is e)) (λ e. heard.read_fault (err_is e)) heard.read_failed
 
 pub returns-in-Err-clause-complete : goal.returns-in-Err-clause-complete

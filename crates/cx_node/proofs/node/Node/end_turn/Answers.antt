@@ -1,7 +1,7 @@
 use Rattle.std.proofs.Common.{Ok, refl, sym, ◌∙◌}
+use Rattle.cx_node.specs.Run.{stays}
 use Rattle.cx_node.specs.Doing.{scene}
 use Rattle.cx_node.specs.Guest.{hosted_in}
-use Rattle.cx_node.specs.Hosted.{stays}
 use Rattle.cx_node.specs.Tending.{beat, turn_ended}
 use Rattle.cx_node.specs.Tends.{tended}
 use Rattle.cx_node.proofs.Actions.{acts_nothing}

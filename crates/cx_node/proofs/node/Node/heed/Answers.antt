@@ -3,10 +3,10 @@ use Rattle.std.proofs.lemmas.Result.{err_from_is_err_and}
 use Rattle.cx_base.specs.Role.{role, same_role}
 use Rattle.cx_base.specs.declared.cluster.Cluster.{Cluster}
 use Rattle.cx_base.specs.declared.role.Kind.TheVariants as kind
+use Rattle.cx_node.specs.Run.{stays}
 use Rattle.cx_node.specs.Acts.{Acts}
 use Rattle.cx_node.specs.Doing.{scene}
 use Rattle.cx_node.specs.Guest.{hosted_in}
-use Rattle.cx_node.specs.Hosted.{stays}
 use Rattle.cx_node.specs.Tending.{collected, held_by, reported}
 use Rattle.cx_node.proofs.Tended.{heed_collect, heed_report, heed_take}
 use Rattle.cx_node.proofs.node.Node.heed.Goals as goal

@@ -3,9 +3,8 @@ use Rattle.std.specs.Prelude.{filter, sum_by}
 use Rattle.cx_base.specs.declared.role.Kind.TheVariants as kind
 use Rattle.cx_node.specs.Doing.{scene}
 use Rattle.cx_node.specs.Guest.{hosted_in, hosted_of}
-use Rattle.cx_node.specs.Hosted.{stays}
 use Rattle.cx_node.specs.Node.{NodeState}
-use Rattle.cx_node.specs.Run.{is_client}
+use Rattle.cx_node.specs.Run.{is_client, stays}
 use Rattle.cx_node.specs.Tending.{clients_tended, completed, is_of, kind_ticks, next_pass, those_tick, within}
 use Rattle.cx_node.specs.Tends.{tended}
 use Rattle.cx_node.specs.declared.guest.Guest.{Guest}

@@ -6,8 +6,7 @@ use Rattle.cx_msg.specs.declared.input.Input.TheVariants as input
 use Rattle.cx_node.specs.Acts.{Acts, failures}
 use Rattle.cx_node.specs.Doing.{scene}
 use Rattle.cx_node.specs.Guest.{hosted_in, hosted_of}
-use Rattle.cx_node.specs.Hosted.{stays}
-use Rattle.cx_node.specs.Run.{does_at}
+use Rattle.cx_node.specs.Run.{does_at, stays}
 use Rattle.cx_node.specs.Tending.{first_tick, is_so}
 use Rattle.cx_node.specs.Tends.{is_meant}
 use Rattle.cx_node.specs.declared.doing.Doing.TheVariants.{Give}
