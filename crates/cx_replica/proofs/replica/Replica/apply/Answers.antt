@@ -1,8 +1,10 @@
-use Rattle.std.proofs.Common.{◌≡◌, ◌+◌, ◌≤◌, true, rules, sym, subst, length, List, ◌++◌, refl}
+use Rattle.std.proofs.Common.{◌≡◌, ◌+◌, ◌≤◌, true, rules, sym, subst, length, List, ◌++◌, refl, ◌∙◌}
 use Rattle.cx_base.specs.declared.command.Value.{Value}
 use Rattle.cx_replica.specs.Sound.{are_own, are_own_early, are_reads}
-use Rattle.cx_model.specs.Replica.{machine_from, machine_of, still_deferred}
-use Rattle.cx_replica.proofs.Reading.{answered_behind}
+use Rattle.cx_base.specs.Log.{ready_values}
+use Rattle.cx_model.specs.Replica.{ReplicaDurable, ReplicaVolatile, apply, machine_from, replica_rules, still_deferred}
+use Rattle.cx_model.specs.Rules.{Running, running_after}
+use Rattle.cx_replica.proofs.Reading.{sent_behind, state_behind}
 use Rattle.cx_replica.proofs.Rows.{own_fits, ready_own, sound_more, still_few, still_own, still_reads}
 use Rattle.cx_replica.proofs.Values.{mark_fits, values_fit}
 use Rattle.cx_replica.proofs.replica.Replica.apply.Given.{Over}
@@ -61,14 +63,22 @@ returns-clause-ok g c =
     let i = c.self.inside in
     let log = i.log.list in
     let vs = c.in_ok-values.values in
-    let m = c.execute_values.new.self.left in
-    let held : c.held-held.result + length c.as_slice-count.result.now ≡ length log + length vs = rw (c.held-held.ensures.held, c.ready.ensures.list, c.as_slice-count.ensures.items) refl in
-    let ran : m ≡ machine_from (length log) (machine_of log) vs =
-    rw (c.execute_values.ensures.machine, c.make_room.ensures.left, c.held-held.ensures.held, c.ready.ensures.list, c.as_slice.ensures.items, c.into_values-values.ensures, c.self.invariant.machine) refl in
-    let answered = answered_behind i.me log vs m (c.held-held.result + length c.as_slice-count.result.now) i.deferred.items ran held in
+    let at : c.held-held.result ≡ length log = rw (c.held-held.ensures.held, c.ready.ensures.list) refl in
+    let count : c.held-held.result + length c.as_slice-count.result.now ≡ length log + length vs = rw (at, c.as_slice-count.ensures.items) refl in
+    let ready : vs ≡ ready_values (length log) i.log.early c.args.value.now = c.in_ok-values.ensures.values in
+    let new : c.put.new.self.list ≡ log ++ c.into_values-values.result = rw (c.put.ensures.list, c.ready.ensures.list) refl in
     record {
       why = refl;
       kept = search rules;
-      state = search rules;
-      sends = rw (← c.self.view_is, c.answer_reads.ensures, c.deref.ensures.value, answered, c.execute_values.ensures.sends, c.room.ensures.list, c.requires.empty, c.make_room.ensures.left, c.held-held.ensures.held, c.ready.ensures.list, c.as_slice.ensures.items, c.into_values-values.ensures, c.in_ok-values.ensures.values, c.self.invariant.machine) refl;
+      state = subst (λ (s : Running ReplicaDurable ReplicaVolatile).
+          record { cluster = i.cluster; me = i.me; live = i.live; durable = record { log = c.put.new.self.list }; volatile = record { early = c.put.new.self.early; deferred = c.drop_answered.new.deferred.items } }
+          ≡ running_after replica_rules s (apply s.cluster s.me s.durable s.volatile (ready_values (length s.durable.log) s.volatile.early c.args.value.now))) c.self.view_is
+          (state_behind i.cluster i.me i.live log c.put.new.self.list _ vs c.into_values-values.result i.log.early c.ready.new.self.early c.put.new.self.early i.deferred.items
+          c.drop_answered.new.deferred.items c.held.result new c.into_values-values.ensures ready c.put.ensures.early c.ready.ensures.early c.drop_answered.ensures c.held.ensures.held);
+      sends = subst (λ (s : Running ReplicaDurable ReplicaVolatile). c.answer_reads.new.out.list
+          ≡ (apply s.cluster s.me s.durable s.volatile (ready_values (length s.durable.log) s.volatile.early c.args.value.now)).sends) c.self.view_is
+          (sent_behind i.cluster i.me log _ vs c.as_slice.result.now i.machine.left c.make_room.new.self.left c.execute_values.new.self.left c.held-held.result
+          (c.held-held.result + length c.as_slice-count.result.now) i.deferred.items c.deref.result.now c.room.new.self.list c.execute_values.new.out.list c.answer_reads.new.out.list
+          c.self.invariant.machine c.make_room.ensures.left at (c.as_slice.ensures.items ∙ c.into_values-values.ensures) ready c.deref.ensures.value c.execute_values.ensures.machine count
+          (c.room.ensures.list ∙ c.requires.empty) c.execute_values.ensures.sends c.answer_reads.ensures);
     }
