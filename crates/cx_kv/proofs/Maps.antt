@@ -11,7 +11,7 @@ use Rattle.cx_kv.specs.Rising.{IsBeforeAll, IsRising}
 use Rattle.cx_kv.proofs.Keys.{is_less-back, is_less-ne, is_less-trans, is_less-other, same_bytes, bytes_ne}
 
 -- a key before all comes before each
-IsBeforeAll-at : (key : List ℕ) (map : List Pair) (j : ℕ) (d : Pair) → IsBeforeAll key map → j < length map → is_less key (get_or map j d).key ≡ true
+pub IsBeforeAll-at : (key : List ℕ) (map : List Pair) (j : ℕ) (d : Pair) → IsBeforeAll key map → j < length map → is_less key (get_or map j d).key ≡ true
 IsBeforeAll-at key [] j d h l = absurd (omega arith)
 IsBeforeAll-at key (p ∷ map) zero d h l = h.0
 IsBeforeAll-at key (p ∷ map) (suc j) d h l = IsBeforeAll-at key map j d h.1 (omega arith)

@@ -60,7 +60,7 @@ impl Store {
         ensures err { OnErr result (out.new.items ≡ out.old.items) }
     {
         let length = out.len();
-        let printed = print_pairs(self.map.as_slice(), out);
+        let printed = print_pairs(&self.map, out);
         undo_part(printed, out, length)
     }
 }
@@ -76,12 +76,12 @@ fn print_pair(pair: &Pair, out: &mut Vec<u8>) -> Result<(), NoMemory>
     Ok(())
 }
 
-fn print_pairs(pairs: &[Pair], out: &mut Vec<u8>) -> Result<(), NoMemory>
-    ensures ok { OnOk result (out.new.items ≡ out.old.items ++ map_text pairs.now) }
+fn print_pairs(map: &Pairs, out: &mut Vec<u8>) -> Result<(), NoMemory>
+    ensures ok { OnOk result (out.new.items ≡ out.old.items ++ map_text map.now.pairs) }
     ensures err { OnErr result (take (length out.old.items) out.new.items ≡ out.old.items) }
 {
-    for pair in pairs {
-        print_pair(pair, out)?;
+    for place in 0..map.len() {
+        print_pair(map.at(place), out)?;
     }
     Ok(())
 }

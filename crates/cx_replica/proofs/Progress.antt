@@ -29,10 +29,10 @@ pub record IsAmong (slot : ℕ) (first : Machine) (all : List Value) (now : Mach
   pub room : 8 * length all ≤ now.spare + 8 * index
 
 -- the same, with what was sent on the way
-pub record HasSent (c : Cluster) (me : RoleId) (slot : ℕ) (first : Machine) (all : List Value) (before : Outgoing) (now : MachineState) (rooms : ℕ) (out : Outgoing) (index : ℕ) : Type 0 where
+pub record HasSent (c : Cluster) (me : RoleId) (slot : ℕ) (first : Machine) (all : List Value) (before : Outgoing) (now : MachineState) (vacant : ℕ) (out : Outgoing) (index : ℕ) : Type 0 where
   pub machine : machine_from (slot + index) now.left (drop index all) ≡ machine_from slot first all
   pub sends : out.list ++ results_from c me (slot + index) now.left (drop index all) ≡ before.list ++ results_from c me slot first all
   pub room : 8 * length all ≤ now.spare + 8 * index
-  pub rooms : length all ≤ rooms + index
+  pub rooms : length all ≤ vacant + index
   pub spare : length all ≤ out.spare + index
   pub grown : before.spare ≤ out.spare + index

@@ -90,17 +90,17 @@ impl Replica {
         let held = held + count as u64;
         answer_reads(self.me, held, &self.machine, &self.deferred, out);
         self.log.put(values);
-        drop_answered(&mut self.deferred, held);
+        drop_answered(&mut self.deferred, self.log.held());
         Ok(Why::Applied)
     }
 }
 
 // The values of a record that holds values, given back without taking memory.
-fn into_values(record: Record) -> LogValues
-    requires { is_log record ≡ true }
-    ensures { result ≡ values_of record }
+fn into_values(what: Record) -> LogValues
+    requires { is_log what ≡ true }
+    ensures { result ≡ values_of what }
 {
-    match record {
+    match what {
         Record::Log { values } => values,
         Record::Promise { .. } => unreachable!(),
         Record::Vote { .. } => unreachable!(),

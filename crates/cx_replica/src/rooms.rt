@@ -40,7 +40,6 @@ impl Rooms {
     }
 
     /// Room for the answers of one value. It takes no memory.
-    #[tactic(auto, using(crate::proofs::Vacant::rooms_less))]
     pub fn take(&mut self) -> Vec<Answered>
         requires { 0 < self.old }
         ensures empty { result.items ≡ [] }
