@@ -1,5 +1,5 @@
 -- One more request that was sent, and the numbers of each client's own.
-use Rattle.std.proofs.Common.{◌≡◌, ◌==◌, ◌<◌, ◌≤◌, ◌++◌, ◌∷◌, ◌∙◌, [], ℕ, suc, Bool, true, false, List, Option, Some, None, All, map, length, get_or, slice_get, ap, sym, subst, refl, arith, inl, inr, eqb-true}
+use Rattle.std.proofs.Common.{◌≡◌, ◌==◌, ◌<◌, ◌≤◌, ◌++◌, ◌∷◌, ◌∙◌, [], ℕ, suc, Bool, true, false, List, Option, Some, None, All, map, length, get_or, slice_get, Result, Ok, Err, OnOk, OnErr, ap, sym, subst, refl, arith, inl, inr, eqb-true}
 use Rattle.std.proofs.lemmas.Bool.{cases_Bool}
 use Rattle.std.proofs.lemmas.Bool.Decides.{nat_tests}
 use Rattle.std.proofs.lemmas.List.{length-append, map-append}
@@ -109,3 +109,21 @@ index_none so c =
       own = record { theirs = λ i n e. cc; rising = λ i j n m less e f. cc };
       covers = record { from = λ i n e. cc; all = λ j n e theirs. cc };
     }
+
+-- after a request that comes last of its client, or out of memory
+pub after_last : {A E : Type 0} (result : Result A E) (requests after : List Noted) (m : Noted) (clients others : List (List ℕ)) (in_order : Bool)
+    → OnOk result (IsOneMore m.token.client (length requests) clients others) → OnOk result (after ≡ requests ++ m ∷ [])
+    → OnErr result (SameNumbers clients others) → OnErr result (after ≡ requests)
+    → IsStanding requests clients in_order m Last → IsIndex requests clients in_order → IsIndex after others in_order
+after_last (Ok u) requests after m clients others in_order more is same left stands index =
+    subst (λ rs. IsIndex rs others in_order) (sym is) (index_last requests m clients others in_order stands more index)
+after_last (Err e) requests after m clients others in_order more is same left stands index =
+    subst (λ rs. IsIndex rs others in_order) (sym left) (index_same requests clients others in_order same index)
+
+-- after a repeat, or out of memory
+pub after_repeat : {A E : Type 0} (result : Result A E) (requests after : List Noted) (m : Noted) (clients : List (List ℕ)) (in_order : Bool)
+    → OnOk result (after ≡ requests ++ m ∷ []) → OnErr result (after ≡ requests)
+    → IsStanding requests clients in_order m Repeat → IsIndex requests clients in_order → IsIndex after clients in_order
+after_repeat (Ok u) requests after m clients in_order is left stands index =
+    subst (λ rs. IsIndex rs clients in_order) (sym is) (index_repeat requests m clients in_order stands index)
+after_repeat (Err e) requests after m clients in_order is left stands index = subst (λ rs. IsIndex rs clients in_order) (sym left) index

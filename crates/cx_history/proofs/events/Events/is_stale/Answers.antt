@@ -16,3 +16,9 @@ returns c =
     rw (← c.self.view_is) (c.is_stale_by.ensures ∙ ap (is_stale_among token asks) (c.of-own.ensures ∙ ap (requests_at inside.requests) c.of.ensures)
     ∙ same_stale token asks (requests_at inside.requests numbers) inside.requests client.covers
     ∙ ap (is_stale_among token asks) c.self.invariant.requests_are ∙ sym (stale_same token c.args.event.now inside.told.items))
+
+pub returns-then-not-self : goal.returns-then-not-self
+returns-then-not-self c =
+    let token = c.args.token in
+    let asks = asked c.args.event.now in
+    rw (← c.self.view_is) (c.is_stale.ensures ∙ ap (is_stale_among token asks) c.self.invariant.requests_are ∙ sym (stale_same token c.args.event.now c.self.inside.told.items))
