@@ -52,6 +52,11 @@ class WorkloadsTest(unittest.TestCase):
         self.assertEqual({client for client, _ in trace.answers}, {"client:0"})
         self.assertEqual([len(pair.partition("=")[2]) for pair in trace.held["replica:0"]], [60] * 70)
 
+    def test_batches(self) -> None:
+        trace = Trace("batches", LED + 2 * 170)
+        self.has(trace, sent=128, batched=16, proposed=16, chosen=16, applied=16, unbatched=0, resent=2, held=7 * 16 + 2)
+        self.assertEqual(len(trace.held["replica:0"]), 128)
+
     def test_reads(self) -> None:
         trace = Trace("reads", LED + 3 * (10 + 9 * 7))
         self.has(trace, applied=3, unbatched=3, answered=27)

@@ -9,6 +9,7 @@ Schedules of SIZE lines after the header:
     changes     puts, with four acceptors; after each fourth the leader changes its grid and retires the round before
     ticks       a proxy leader ticks that waits for nothing
     keys        puts of long values, each to a key of its own, in an order that is not theirs
+    batches     the same with short values, by 64 clients at once in batches of eight: a key in less than three lines
     folds       puts of 64 clients in turn; after each twentieth the replica crashes and is opened again
     wide        f = 3, a grid of 4x4 among 64 acceptors, batches of eight: 64 puts at once are carried to their answers, and so on
     lagging     f = 1: of twenty puts one replica hears nothing, then it asks the other for each value, and so on
@@ -30,6 +31,7 @@ Journals of a cluster of one of each role in which the first SIZE slots are chos
 
     leader, matchmaker, acceptor, replica
     informed    of an acceptor that has no votes, and was told that they are chosen
+    long-votes  of an acceptor whose votes are for eight commands of the greatest size each
     longest     of a replica whose log has them in records of 32 values, with eight commands of the greatest size each
 """
 import itertools
@@ -134,6 +136,17 @@ def keys():
     yield from led()
     for at in itertools.count():
         yield from carried(3 + 10 * at, f"write client:0 {at + 1} batcher:0 put key-{at * 7919 % 100003} {'v' * 60}")
+
+
+def batches():
+    """Each turn has 121 datagrams: 64 Submit, 8 Batch, 8 Propose, 8 Phase2A, 8 Phase2B, 8 times Chosen and ChosenIn, 8 Results, Held."""
+    yield from led()
+    for turn in itertools.count():
+        n = 3 + 121 * turn
+        for at in range(64):
+            yield f"write client:{at} {turn + 1} batcher:0 put key-{(64 * turn + at) * 7919 % 100003} v{at % 10}"
+        yield from delivered(*range(n, n + 96), *range(n + 96, n + 112, 2))
+        yield from ["tick replica:0", *delivered(n + 120)]
 
 
 def restarted(role):
@@ -264,6 +277,7 @@ SCHEDULES = {
     "changes": lambda size: cut(size, changes(), acceptors=4),
     "ticks": lambda size: cut(size, ticks()),
     "keys": lambda size: cut(size, keys()),
+    "batches": lambda size: cut(size, batches(), clients=64, batch=8),
     "folds": lambda size: cut(size, folds(), clients=64),
     "wide": lambda size: cut(size, wide(), **WIDE),
     "lagging": lambda size: cut(size, lagging(), f=1, replicas=2),
@@ -310,10 +324,10 @@ def journal(records):
     return b"".join(b"\1" + struct.pack(">I", len(record)) + record for record in records) + b"\0"
 
 
-def votes(size):
+def votes(size, voted=value_at):
     """The votes of the first round. With each goes what the acceptor is told: how many slots are chosen and held."""
     for slot in range(size):
-        yield b"\2" + ROUND + struct.pack(">QQ", slot, slot - slot % 16) + value_at(slot)
+        yield b"\2" + ROUND + struct.pack(">QQ", slot, slot - slot % 16) + voted(slot)
 
 
 def long_records(size):
@@ -328,6 +342,7 @@ JOURNALS = {
     "acceptor": votes,
     "replica": lambda size: (b"\7\1" + value_at(slot) for slot in range(size)),
     "informed": lambda size: [b"\3" + ROUND + struct.pack(">Q", size)],
+    "long-votes": lambda size: votes(size, long_value_at),
     "longest": long_records,
 }
 

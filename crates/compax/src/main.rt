@@ -6,8 +6,6 @@
 //! says.
 #![tactic(auto)]
 
-#[cfg(test)]
-mod append_tests;
 mod line;
 mod roles;
 mod top;

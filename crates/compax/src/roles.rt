@@ -26,7 +26,7 @@ const KINDS: [Kind; 9] = [
 ];
 
 /// Roles of which none stands twice, in the order in which they were named.
-#[derive(Debug, Drop)]
+#[derive(Drop)]
 pub struct Roles {
     list: Vec<RoleId>,
 }

@@ -14,7 +14,7 @@ use clap::{Arg, ArgMatches, Command, value_parser};
 use std::alloc::{AllocError, Global};
 
 /// What a command line asks for.
-#[derive(Debug, Drop)]
+#[derive(Drop)]
 pub enum Invocation {
     /// To replay a schedule: `replay`.
     Replay,

@@ -15,7 +15,7 @@ use cx_msg::{Record, informed, pre_read_ack};
 use cx_role::{Outbox, StepFault, keep};
 
 impl Acceptor {
-    /// A leader that retires earlier rounds tells how many slots enough replicas hold; what is kept of it is the greatest
+    /// A leader that retires earlier rounds informs how many slots enough replicas hold; what is kept of it is the greatest
     /// number, and its round as a promise (this project's own).
     pub(crate) fn inform<K: Keeper>(
         &mut self,

@@ -16,7 +16,7 @@ use cx_msg::{Record, nack, phase1b};
 use cx_role::{Outbox, StepFault, keep};
 
 impl Acceptor {
-    /// A leader asks to promise its round, and for the votes from the watermark on; they are told once the promise is kept
+    /// A leader asks to promise its round, and for the votes from the watermark on; they are reported once the promise is kept
     /// (VLDB 2021).
     pub(crate) fn phase1a<K: Keeper>(
         &mut self,
@@ -65,7 +65,7 @@ impl Acceptor {
         Ok(Why::Nack)
     }
 
-    // The votes as they are told.
+    // The votes as they are reported.
     fn told_votes(&self) -> Result<Votes, NoMemory>
         ensures votes { IfOk result (λ votes. votes ≡ self.now.durable.votes) }
         ensures fit { IfOk result (λ votes. IsTrue ((field.votes self.now.durable.cw).fits votes)) }

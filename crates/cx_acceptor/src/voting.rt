@@ -17,8 +17,8 @@ use cx_msg::{Record, phase2b};
 use cx_role::{Outbox, StepFault, keep};
 
 impl Acceptor {
-    /// A proxy leader asks for a vote: in a round below the promised one the round's leader is told, else the vote is kept
-    /// before it is told, once for each round and slot (VLDB 2021).
+    /// A proxy leader asks for a vote: in a round below the promised one the round's leader is warned, else the vote is kept
+    /// before it is sent, once for each round and slot (VLDB 2021).
     pub(crate) fn phase2a<K: Keeper>(
         &mut self,
         keeper: &mut K,

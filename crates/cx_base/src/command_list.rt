@@ -1,4 +1,4 @@
-//! Commands in their order, and which act behind them.
+//! Commands in their order, and which act after them.
 
 ghost use Rattle.std.specs.Prelude.{◌≡◌, ◌++◌, ◌∷◌, [], OnErr, OnOk};
 ghost use Rattle.cx_base.specs.Fold.{acts};
@@ -10,9 +10,9 @@ use crate::memory::NoMemory;
 use std::alloc::Global;
 use std::marker::Model;
 
-/// Commands in their order. Beside them stand their clients' greatest numbers: a command with a greater one acts, and no other
+/// Commands in their order. Beside them are their clients' greatest numbers: a command with a greater one acts, and no other
 /// command has to be looked at.
-#[derive(Debug, Drop)]
+#[derive(Drop)]
 pub struct CommandList {
     commands: Vec<Command>,
     greatest: Greatest,
@@ -50,14 +50,14 @@ impl CommandList {
         }
     }
 
-    /// Whether a command acts behind these, as `acts` tells. It takes no memory.
+    /// Whether a command acts after these, as `acts` says. It takes no memory.
     pub fn acts(&self, command: &Command) -> bool
         ensures { result ≡ acts self.now command.now }
     {
         self.greatest.is_above(command.client, command.seq) || acts(&self.commands, command)
     }
 
-    /// One command more, behind the others. Out of memory, it changes nothing.
+    /// One command more, after the others. Out of memory, it changes nothing.
     pub fn push(&mut self, command: &Command) -> Result<(), NoMemory>
         ensures ok { OnOk result (self.new ≡ self.old ++ command.now ∷ []) }
         ensures err { OnErr result (self.new ≡ self.old) }

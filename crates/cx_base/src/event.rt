@@ -68,7 +68,7 @@ pub enum Event {
 }
 
 /// An event of the history, with what it came to.
-#[derive(Clone, Copy, Debug, PartialEq, Eq)]
+#[derive(Clone, Copy)]
 pub struct Happened {
     pub event: Event,
     pub why: Why,

@@ -9,6 +9,7 @@
 mod cluster;
 mod command;
 mod command_list;
+mod count;
 mod event;
 mod faults;
 mod few;
@@ -16,6 +17,7 @@ mod fold;
 mod greatest;
 mod grid;
 mod grid_fault;
+mod limits;
 mod memory;
 mod name;
 mod role;
@@ -27,13 +29,19 @@ mod why;
 pub use cluster::Cluster;
 pub use command::{Answered, Command, Commands, Op, Pair, Placed, Reply, Value, Values};
 pub use command_list::CommandList;
+pub use count::count_of;
 pub use event::{Cut, Event, Happened, Order};
 pub use faults::Faults;
 pub use few::{Few, Series, copy_all};
 pub use fold::acts;
-pub use greatest::{CLIENTS, Greatest};
-pub use grid::{Grid, MEMBERS};
+pub use greatest::Greatest;
+pub use grid::Grid;
 pub use grid_fault::GridFault;
+pub use limits::{
+    ACCEPTORS, BATCH, CLIENTS, ENTRIES, IDS, KEY_LENGTH, MAX_DATAGRAM_LENGTH, MAX_F,
+    MAX_HEADER_LENGTH, MAX_LINE_LENGTH, MAX_LINES, MAX_RECORD_LENGTH, MAX_SENDS, MEMBERS, PROXIES,
+    READS, ROLES, ROUNDS, SLOTS, TEXT_LENGTH, WINDOW, WINDOW_LENGTH,
+};
 pub use memory::{Duplicate, NoMemory};
 pub use name::{Key, Name, Text, is_name_byte};
 pub use role::{Kind, RoleId};

@@ -14,7 +14,7 @@ pub enum Why {
     Answered,
     /// The values in order were kept and executed.
     Applied,
-    /// What was asked was told.
+    /// What was asked was answered.
     Asked,
     /// The next question went out.
     Asking,
@@ -26,7 +26,7 @@ pub enum Why {
     Collected,
     /// The matchmakers were asked to forget earlier rounds.
     Collecting,
-    /// The answer counts, and more are wanted.
+    /// The answer counts, and more are needed.
     Counted,
     /// The role stopped.
     Crashed,
@@ -52,7 +52,7 @@ pub enum Why {
     Idle,
     /// The watermark was kept.
     Informed,
-    /// The grid is told the watermark.
+    /// The watermark is sent to the grid.
     Informing,
     /// The role crashed in its append, and the record is kept.
     Kept,

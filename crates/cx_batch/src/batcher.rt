@@ -16,7 +16,7 @@ use cx_role::{Outbox, Role, StepFault, WakeFault, is_for};
 use std::alloc::Global;
 use std::marker::Model;
 
-/// Gathers commands, and sends them together to the leader of the greatest round that it was told.
+/// Gathers commands, and sends them together to the leader of the greatest round that it knows.
 #[derive(Drop)]
 pub struct Batcher {
     alloc: Global,
@@ -74,7 +74,7 @@ impl Batcher {
         Ok(Why::Batched)
     }
 
-    // A leader tells that it leads.
+    // A leader announces that it leads.
     fn told(&mut self, round: Round) -> Why
         ensures { Replies batcher_rules self.old (leads_row self.old.volatile round) result self.new [] }
     {

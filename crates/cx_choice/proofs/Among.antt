@@ -31,7 +31,7 @@ pub elsewhere : (values : List (Bor Value)) (rounds : List (OfRound Shape)) (vot
     → is_among values v ≡ (is_among values v || is_whole rounds votes s v j t u)
 elsewhere values rounds votes s j t u v e = rw e (sym (or_no (is_among values v)))
 
--- nor does one for a value that stands among the others
+-- nor does one for a value that is among the others
 pub among : (values : List (Bor Value)) (rounds : List (OfRound Shape)) (votes : List KeptRecord) (s : ℕ) (j : Round) (t : ℕ) (u v : Value) → is_among values u ≡ true
     → is_among values v ≡ (is_among values v || is_whole rounds votes s v j t u)
 among values rounds votes s j t u v e =

@@ -102,6 +102,6 @@ first_of_votes history s (k ∷ ks) =
       | inr left ↦ rw left (first_of_votes history s ks ∙ sym (no_vote_elsewhere history s k.what _ left))
     ]
 
--- the first of a slot's votes for a value chosen there tells what is chosen there
+-- the first of a slot's votes for a value chosen there says what is chosen there
 pub chosen_by_votes : (history : List KeptRecord) (s : ℕ) → first_chosen history s (votes_of s history) ≡ chosen_at history s
 chosen_by_votes history s = first_of_votes history s history

@@ -1,4 +1,4 @@
--- Votes that stand with their rounds.
+-- Votes that are listed with their rounds.
 use Rattle.std.proofs.Common.{◌≡◌, ◌<◌, ◌+◌, ◌++◌, ◌&&◌, ◌∷◌, ◌∙◌, [], ℕ, Bool, true, false, Bor, List, append_assoc, drop, get_or, length, nat_lt, refl, inl, inr, ap, sym, arith}
 use Rattle.std.proofs.lemmas.Bool.{cases_Bool}
 use Rattle.std.proofs.lemmas.Bool.Decides.{nat_tests}
@@ -24,7 +24,7 @@ use Rattle.cx_choice.specs.OfRound.{IsByRound, of_round}
 use Rattle.cx_choice.specs.Sorted.{AreCast, IsCast, casts_in, round_in}
 use Rattle.cx_choice.specs.declared.of_round.OfRound.{OfRound}
 
--- one vote more stands with its round
+-- one vote more is listed with its round
 pub next_cast : (casts new : List (OfRound (Bor KeptRecord))) (one : OfRound (Bor KeptRecord)) (votes : List KeptRecord) (i : ℕ) → i < length votes
     → one.item.now ≡ get_or votes i one.item.now → new ≡ casts ++ one ∷ [] → casts_in casts ++ drop i votes ≡ votes → casts_in new ++ drop (i + 1) votes ≡ votes
 next_cast casts new one votes i there is more so_far =
@@ -59,7 +59,7 @@ and_none : (a b : Bool) → b ≡ false → (a && b) ≡ false
 and_none true b e = e
 and_none false b e = refl
 
--- whether an acceptor has a vote of a round is told by those of the round
+-- whether an acceptor has a vote of a round is known from those of the round
 of_this : (i j : Round) (casts : List (OfRound (Bor KeptRecord))) (a s : ℕ) (v : Value) → same_round i j ≡ true → All IsCast casts
     → has_vote (casts_in (of_round j casts)) a i s v ≡ has_vote (casts_in casts) a i s v
 of_this i j [] a s v same cast = refl

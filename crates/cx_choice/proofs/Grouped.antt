@@ -1,4 +1,4 @@
--- In the order of their rounds, those of one round stand together.
+-- In the order of their rounds, those of one round are together.
 use Rattle.std.proofs.Common.{◌≡◌, ◌<◌, ◌≤◌, ◌+◌, ◌-◌, ◌∷◌, [], ℕ, zero, suc, Bool, true, false, List, drop, filter, get_or, length, not, take, nat_lt, ap, refl, sym, inl, inr, ◌∙◌, arith}
 use Rattle.std.proofs.lemmas.Bool.{cases_Bool}
 use Rattle.std.proofs.lemmas.Bool.Decides.{nat_tests}

@@ -1,4 +1,4 @@
--- Which of a slot's votes is the first for a value that is chosen there, and where its record stands.
+-- Which of a slot's votes is the first for a value that is chosen there, and where its record is.
 use Rattle.std.proofs.Common.{◌≡◌, ◌<◌, ◌≤◌, ◌+◌, ℕ, zero, suc, Bool, true, false, List, [], ◌∷◌, Option, None, Some, length, map, get_or, slice_get, nat_lt, ap, sym, refl, inl, inr, ◌∙◌, arith}
 use Rattle.std.proofs.lemmas.Bool.{cases_Bool}
 use Rattle.std.proofs.lemmas.Bool.Decides.{nat_tests}

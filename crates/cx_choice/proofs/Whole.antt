@@ -61,7 +61,7 @@ first_all : (p : ℕ → Bool) (g : Shape) (b : ℕ) (rows : ℕ) → rows ≡ g
 first_all p g b zero is more e = cc
 first_all p g b (suc rows) is more e = (both _ _ e).0
 
--- a vote that stands for one of an acceptor is a vote of its round
+-- a vote that is listed for one of an acceptor is a vote of its round
 vote_parts : (rounds : List (OfRound Shape)) (votes : List KeptRecord) (i : Round) (s : ℕ) (v : Value) (what : Record) → is_vote i s v what ≡ true
     → ((j : Round) → same_round i j ≡ true → is_enough rounds votes s j v ≡ true) → is_whole_vote rounds votes s v what ≡ true
 vote_parts rounds votes i s v (kept.Promise j) e enough = cc

@@ -14,7 +14,7 @@ first_vote s n (k ∷ ks) = if is_vote_in s k.what then n + 1 else first_vote s 
 abbrev pub vote_from : ℕ → ℕ → List KeptRecord → ℕ
 vote_from s from history = first_vote s from (drop from history)
 
--- of the records from this number on: each slot's first vote, and behind each vote the next one in its slot
+-- of the records from this number on: each slot's first vote, and after each vote the next one in its slot
 pub record HaveVotes (votes : Votes) (history : List KeptRecord) (from : ℕ) : Type 0 where
   pub count : length votes.next.items ≡ length history
   pub first : (s : ℕ) → s < length history → get_or votes.first.items s 0 ≡ vote_from s from history

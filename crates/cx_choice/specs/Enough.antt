@@ -1,4 +1,4 @@
--- Votes whose round has enough votes for their value, by which a choice is told vote by vote.
+-- Votes whose round has enough votes for their value, by which a choice is found vote by vote.
 use Rattle.std.specs.Prelude.{◌≡◌, ◌==◌, ◌&&◌, ℕ, Bool, false, List}
 use denote.Ref.{Bor}
 use Rattle.std.specs.List.{list_any}

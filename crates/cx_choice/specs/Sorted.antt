@@ -40,11 +40,11 @@ abbrev pub round_in : Record → Round
 round_in (kept.Vote j s cw v) = j
 round_in other = no_round
 
--- a vote stands with its own round
+-- a vote is listed with its own round
 abbrev pub IsCast : OfRound (Bor KeptRecord) → Type 0
 IsCast one = one.round ≡ round_in one.item.now.what
 
--- the votes that stand with their rounds
+-- the votes that are listed with their rounds
 abbrev pub casts_in : List (OfRound (Bor KeptRecord)) → List KeptRecord
 casts_in casts = map (λ (one : OfRound (Bor KeptRecord)). one.item.now) casts
 

@@ -52,7 +52,7 @@ fn put(votes: &mut Votes, number: u32, one: KeptRecord) -> Result<(), NoMemory>
     Ok(())
 }
 
-// No vote is known of so many records.
+// No vote is known of `count` records.
 fn no_votes(alloc: Global, count: usize) -> Result<Votes, NoMemory>
     ensures first { IfOk result (λ votes. (s : ℕ) → get_or votes.first.items s 0 ≡ 0) }
     ensures count { IfOk result (λ votes. length votes.next.items ≡ count) }

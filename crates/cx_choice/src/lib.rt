@@ -1,4 +1,4 @@
-//! The values that are chosen, told from the kept votes and rounds alone.
+//! The values that are chosen, from the kept votes and rounds alone.
 //!
 //! Its theorem is the contract of `chosen_prefix`: it gives the values chosen in slot 0, 1 and so on, up to the first slot
 //! without one, as the model has them.

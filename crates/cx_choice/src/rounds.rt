@@ -10,7 +10,7 @@ use cx_history::Kept;
 use cx_msg::{KeptRecord, Record};
 use std::alloc::Global;
 
-// Puts the round of a record and its grid behind others, if it is of a round's begin.
+// Puts the round of a record and its grid after others, if it is of a round's begin.
 fn add_round(rounds: &mut Vec<OfRound<Grid>>, what: &Record) -> Result<(), NoMemory>
     ensures { OnOk result (rounds.new.items ≡ rounds.old.items ++ begun_by what.now) }
 {

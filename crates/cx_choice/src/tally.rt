@@ -20,7 +20,7 @@ fn is_among(values: &[&Value], wanted: &Value) -> bool
     values.iter().any(|value| same_value(value, wanted))
 }
 
-// Puts the value of a vote behind others, if it is in this slot, its round has enough votes for it, and it isn't there yet.
+// Puts the value of a vote after others, if it is in this slot, its round has enough votes for it, and it isn't there yet.
 fn add_value<'a>(
     rounds: &[OfRound<Grid>],
     votes: &[OfRound<&KeptRecord>],

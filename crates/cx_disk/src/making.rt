@@ -8,7 +8,7 @@ use cx_base::{Faults, NoMemory};
 use std::alloc::Global;
 
 /// For how much a disk in memory has room.
-#[derive(Clone, Copy, Debug)]
+#[derive(Clone, Copy)]
 pub struct Room {
     /// The most bytes that it may hold at a time. It has room at least for those that it begins with.
     pub bytes: usize,

@@ -17,7 +17,7 @@ use std::marker::Model;
 const ROOM: usize = 20_480;
 
 /// What the next line of a source is.
-#[derive(Clone, Copy, Debug, PartialEq, Eq)]
+#[derive(Clone, Copy, PartialEq, Eq)]
 pub enum Next {
     /// A line with its line feed.
     Line,

@@ -20,7 +20,7 @@ pub struct Front {
 }
 
 /// How much a link in memory can note.
-#[derive(Clone, Copy, Debug)]
+#[derive(Clone, Copy)]
 pub struct LinkRoom {
     /// Binds that succeed.
     pub binds: usize,

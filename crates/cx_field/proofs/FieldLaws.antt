@@ -71,7 +71,7 @@ grid-exact =
     (λ cols _. times-exact (rows * cols) member member-exact)))
     (λ x _. refl) (λ g. refl)
 
-name_byte-exact : IsExact name_byte
+pub name_byte-exact : IsExact name_byte
 unfolding name_byte
 name_byte-exact = only-exact is_name_byte u8 u8-exact
 

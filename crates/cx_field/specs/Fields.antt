@@ -1,4 +1,4 @@
--- The fields of messages and records: what bytes stand for each, and which values each may have.
+-- The fields of messages and records: which bytes spell each, and which values each may have.
 use Rattle.std.specs.Prelude.{ℕ, ◌+◌, ◌-◌, ◌*◌, ◌^◌, Bool, true, ◌&&◌, ◌||◌, not, ◌==◌, nat_lt, nat_le, List, [], ◌∷◌, length, Option, Some, None, slice_get}
 use Rattle.std.specs.Option.{option_map_or}
 use Rattle.cx_base.specs.Name.{is_name_byte}
@@ -46,7 +46,7 @@ round = only (λ r. nat_le 1 r.r) (whole 10 round_fields)
 unfoldable pub round0 : Format Round
 round0 = only (λ r. nat_le 1 r.r || (r.r == 0 && r.id == 0 && r.s == 0)) (whole 10 round_fields)
 
--- a member of a grid, after others: none stands twice
+-- a member of a grid, after others: none is there twice
 unfoldable pub member : List ℕ → Format ℕ
 member before = only (λ id. not (is_in id before)) u16
 
@@ -61,7 +61,7 @@ grid = shaped (λ x. make_grid x.0 x.1.0 x.1.1) (λ g. (g.rows, (g.cols, g.membe
 unfoldable pub name_byte : Format ℕ
 name_byte = only is_name_byte u8
 
--- a key or a text of at most so many bytes
+-- a key or a text of at most n bytes
 unfoldable pub name : ℕ → Format (List ℕ)
 name limit = counted (only (λ n. nat_le 1 n && nat_le n limit) u8) (λ _. name_byte)
 

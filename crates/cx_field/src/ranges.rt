@@ -1,4 +1,4 @@
-//! What the types of fields say of their ranges. These calls do nothing when they run; they tell their caller.
+//! What the types of fields say of their ranges. These calls do nothing when they run; they give their caller a fact.
 
 ghost use Rattle.std.specs.Prelude.{◌≡◌, ◌<◌, ◌≤◌, ℕ, slice_index, IsTrue};
 ghost use Rattle.cx_base.specs.Grid.{IsGrid};

@@ -1,4 +1,4 @@
--- The announcement that is promised of one run, that of the events `es` over the cluster `c`: in which step a proxy leader tells that a value is
+-- The announcement that is promised of one run, that of the events `es` over the cluster `c`: in which step a proxy leader announces that a value is
 -- chosen, and whom. Nothing of it is proved here.
 use Rattle.std.specs.Prelude.{◌≡◌, ℕ, ◌<◌, true, map, List, [], ◌∷◌, ◌++◌}
 use Rattle.cx_base.specs.declared.cluster.Cluster.{Cluster}
@@ -26,13 +26,13 @@ pub record HasColumn (w : World) (es : List Event) (proxy : RoleId) (i : Round) 
   pub votes : (a : ℕ) → Member a (column_of g column)
       → (is_in a g.members ≡ true) × DeliversOneOf w es (letter (role kind.Acceptor a) proxy (msg.Phase2B i s))
 
--- every replica is told the value, and the leader of the round that the slot has one
+-- the value goes to every replica, and the leader of the round learns that the slot has one
 abbrev pub announcement : Cluster → RoleId → Round → ℕ → Value → List Letter
 announcement c proxy i s v =
     map (λ p. letter proxy (role kind.Replica p) (msg.Chosen s v)) (below c.replicas)
     ++ letter proxy (role kind.Leader i.id) (msg.ChosenIn i s) ∷ []
 
--- A proxy leader begins to ask for votes, and still asks after each of the events `since`. The event behind these with which, for the first
+-- A proxy leader begins to ask for votes, and still asks after each of the events `since`. The event after these with which, for the first
 -- time since it began, the votes of a whole column have reached it sends the announcement, and nothing else (VLDB 2021).
 abbrev pub Announced : Cluster → List Event → Type 0
 Announced c es =

@@ -1,4 +1,4 @@
--- Each step leaves what a role notes with the datagram that it came in; so it is in every run, and datagrams and records stand in this order.
+-- Each step leaves what a role notes with the datagram that it came in; so it is in every run, and datagrams and records are in this order.
 use Rattle.std.proofs.Common.{◌≡◌, ℕ, true, false, List, [], ◌++◌, reverse, Option, None, Some, ap, sym, subst, refl, inl, inr}
 use Rattle.cx_base.specs.declared.cluster.Cluster.{Cluster}
 use Rattle.cx_base.specs.declared.event.Event.{Event}

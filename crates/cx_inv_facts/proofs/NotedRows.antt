@@ -63,7 +63,7 @@ once_marked a (m ∷ ms) new once =
 not_in : (a : ℕ) (ms : List ℕ) → is_in a ms ≡ false → Member a ms → ⊥
 not_in a ms f m = true≢false (sym (Member-is_in a ms m) ∙ f)
 
--- what replicas told
+-- what replicas reported
 
 -- a greater number in one place reaches no less
 reach_more : (k : ℕ) (held : List ℕ) (p n : ℕ) → slice_index_or held p 0 ≤ n → reaching k held ≤ reaching k (slice_set held p n)
@@ -93,7 +93,7 @@ held_reached count held = elim (greatest_there (filter (λ n. nat_le count (reac
   | inr m ↦ inr (leb-true count (reaching (held_by count held) held) (Member-filter (λ n. nat_le count (reaching n held)) (held_by count held) held m).1)
 ]
 
--- what acceptors told
+-- what acceptors reported
 
 cw_told : (low : ℕ) (promises : List Promised) → (greatest_cw low promises ≡ low) ⊎ ((q : Promised) × Member q promises × (greatest_cw low promises ≡ q.cw))
 cw_told low [] = inl refl

@@ -1,4 +1,4 @@
--- Where what a running leader or proxy leader notes came from, and which record and which datagram stand in which order: beside what cx_model's
+-- Where what a running leader or proxy leader notes came from, and which record and which datagram come in which order: beside what cx_model's
 -- Facts say. Nothing of it is proved here.
 use Rattle.std.specs.Prelude.{◌≡◌, ◌⊎◌, ℕ, ◌≤◌, true, List, length, slice_get, Some}
 use Rattle.cx_base.specs.declared.cluster.Cluster.{Cluster}
@@ -60,7 +60,7 @@ pub record LeaderNotes (c : Cluster) (sent : List Letter) (me : RoleId) (i : Rou
   pub seen : (v.seen ≡ no_round) ⊎ IsNamed sent me v.seen
   -- each value that it proposed, but for what fills a slot in which nothing was voted for
   pub proposed : (p : Placed) → Member p v.proposed → (p.value ≡ Noop) ⊎ (IsReported sent me p ⊎ IsHandedIn sent me p.value)
-  -- its watermark: enough of the numbers that replicas told it reach that far, where no promise has it
+  -- its watermark: enough of the numbers that replicas reported reach that far, where no promise has it
   pub cw : (v.cw ≡ 0) ⊎ (IsPromised sent me v.cw ⊎ (enough c ≤ reaching v.cw v.held))
   -- whom it counts while it retires rounds, it counts once; and once they are retired, enough matchmakers answered that they forgot them
   pub once : AreOnce v.collection.counted

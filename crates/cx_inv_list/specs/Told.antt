@@ -48,7 +48,7 @@ log_in history p = (durable_of replica_rules (role kind.Replica p) history).log
 abbrev pub IsNoted : List KeptRecord → ℕ → ℕ → ℕ → Reply → Type 0
 IsNoted history client seq at reply = (p : ℕ) × IsRight (log_in history p) client seq at reply
 
--- a read's answer tells the text of its key in the map that so many values of this replica leave
+-- a read's answer has the text of its key in the map that the first n values of this replica leave
 pub record IsTold (q : Requests) (history : List KeptRecord) (replica : ℕ) (t : Token) (n : ℕ) (found : Option (List ℕ)) : Type 0 where
   pub key : List ℕ
   pub wanted : q.wanted t key

@@ -114,7 +114,7 @@ pub record IsPending (history : List KeptRecord) (sent : List Letter) (p : Pendi
 abbrev pub AreAsking : Cluster → ReaderVolatile → Type 0
 AreAsking c v = (r : Reading) → Member r v.reads → is_matched c r ≡ false → (a : Acked) → Member a r.acks → ⊥
 
--- What is known of a running role: what it counted, holds pending or was told came to it in datagrams, and what else its rows rest on.
+-- What is known of a running role: what it counted, holds pending or knows came to it in datagrams, and what else its rows rest on.
 abbrev pub InState : Cluster → List KeptRecord → List Letter → RoleId → State → Type 0
 InState c history sent me Down = Unit {0}
 InState c history sent me Plain = Unit {0}

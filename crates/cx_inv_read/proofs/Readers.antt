@@ -23,7 +23,8 @@ use Rattle.cx_model.specs.Facts.{ReaderWasTold}
 use Rattle.cx_model.specs.Matched.{enough, is_counted, greatest_watermark, live_entries, rows_whole}
 use Rattle.cx_model.specs.Matchmaker.{entry}
 use Rattle.cx_model.specs.Member.{Member}
-use Rattle.cx_model.specs.Names.{names, names_role, names_body, count_of}
+use Rattle.cx_base.specs.Cluster.{count_of}
+use Rattle.cx_model.specs.Names.{names, names_role, names_body}
 use Rattle.cx_model.specs.Outcome.{Outcome, by_test}
 use Rattle.cx_model.specs.Reader.{Reading, ReaderVolatile, reading, token, reading_of, is_matched, acked_by, greatest_mark, match_ack_row, pre_read_ack_row, reader_takes, reader_row}
 use Rattle.cx_inv_run.specs.Laws.{Lands}
@@ -63,7 +64,7 @@ module _ (c : Cluster) (asked : List KeptRecord) (sent0 : List Letter) (states0 
   abbrev Answers : List MatchAnswer → Type 0
   Answers told = (a : MatchAnswer) → Member a told → IsReadAnswer asked history (role kind.Matchmaker a.matchmaker) a.watermark a.entries
 
-  -- the greatest watermark told is none, or was raised
+  -- the greatest watermark reported is none, or was raised
   top_raised : (told : List MatchAnswer) → Answers told → IsRaised history (greatest_watermark told)
   top_raised told h = elim (top_told told) [
     | inl e ↦ inl e

@@ -102,11 +102,11 @@ IsElse t from to other = Unit {0}
 abbrev pub Unread : Token → List KeptRecord → List Letter → (RoleId → State) → Type 0
 Unread t history sent states = (d : Letter) → Member d sent → IsElse t d.from d.to d.msg
 
--- some replica kept so many values
+-- some replica kept n values
 abbrev pub IsWithin : List KeptRecord → ℕ → Type 0
 IsWithin history n = (p : RoleId) × (n ≤ length (durable_of replica_rules p history).log)
 
--- an answer tells no more values than some replica kept
+-- an answer reports no more values than some replica kept
 abbrev pub TellsWithin : List KeptRecord → Msg → Type 0
 TellsWithin history (msg.Results s answers) = (a : Answered) → Member a answers → IsWithin history a.at
 TellsWithin history (msg.Answer seq at reply) = IsWithin history at

@@ -28,7 +28,7 @@ pub record Lands {V : Type 0} (holds : Property) (kept : List KeptRecord) (sent 
   pub whole : holds (with_record me o.kept kept) (sent ++ o.sends) (set_state me (make o.volatile) states)
   pub cut : (r : Record) → o.kept ≡ Some r → holds (entry_by me r ∷ kept) sent (set_state me Down states)
 
--- The laws of a property over a cluster. `known` is another property that every moment is known to have, `Allowed` tells which requests go out.
+-- The laws of a property over a cluster. `known` is another property that every moment is known to have, `Allowed` says which requests go out.
 pub record Laws (c : Cluster) (Allowed : Event → Type 0) (known holds : Property) : Type 0 where
   -- only the state of each role counts
   pub same : (kept : List KeptRecord) (sent : List Letter) (states others : RoleId → State)

@@ -63,7 +63,7 @@ still_says c history sent ds from (msg.Informed i n) h = h
 still_says c history sent ds from (msg.GarbageA i g) h = h
 still_says c history sent ds from other h = tt
 
--- what a role was told, it was told
+-- what a role received stays received
 
 pub leader_told : (sent ds : List Letter) (me : RoleId) (i : Round) (v : LeaderVolatile) → LeaderWasTold sent me i v → LeaderWasTold (sent ++ ds) me i v
 leader_told sent ds me i v h = record {

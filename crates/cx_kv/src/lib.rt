@@ -1,12 +1,13 @@
 //! The key-value map of a replica, and what executing commands leaves in it.
 //!
-//! Its theorems are: `Store::apply` is one step of the fold of commands, with its reply; `execute`
-//! does those commands of a value that take effect after others, which `Executed` tells without
-//! holding all of these.
+//! Its theorems are: `Store::apply` is one step of the fold of commands, with its reply, and so is
+//! `Pairs::apply`, which can't fail, since room was taken beforehand; `execute` does those commands
+//! of a value that take effect after others, which `Executed` tells without holding all of these.
 #![tactic(auto)]
 
 mod acting;
 mod append;
+mod apply;
 mod folding;
 mod order;
 mod pairs;
@@ -14,4 +15,5 @@ mod store;
 
 pub use acting::Executed;
 pub use folding::execute;
+pub use pairs::Pairs;
 pub use store::Store;

@@ -1,11 +1,11 @@
 -- What a leader proposed, as contracts see it.
-use Rattle.std.specs.Prelude.{◌≡◌, ◌≤◌, ◌<◌, ◌+◌, ◌-◌, ◌^◌, ℕ, Bool, true, false, not, nat_le, max, map, filter, List, [], ◌∷◌, ◌++◌, All, Option, None, Some, IsTrue, if◌then◌else◌}
-use Rattle.std.specs.List.{list_all}
+use Rattle.std.specs.Prelude.{◌≡◌, ◌≤◌, ◌<◌, ◌+◌, ◌-◌, ◌^◌, ℕ, Bool, true, false, nat_le, max, map, filter, List, [], ◌∷◌, ◌++◌, All, Option, None, Some, IsTrue, if◌then◌else◌}
 use Rattle.cx_base.specs.declared.command.Placed.{Placed}
 use Rattle.cx_base.specs.declared.command.Value.{Value}
 use Rattle.cx_base.specs.Grid.{is_in}
 use Rattle.cx_base.specs.Lists.{numbers}
 use Rattle.cx_model.specs.declared.states.Plan.{Plan}
+use Rattle.cx_model.specs.Leader.{are_known, without_known}
 use Rattle.cx_model.specs.Plan.{placed_from}
 use Rattle.cx_field.specs.Fields as field
 use Rattle.cx_phase1.specs.Window.{IsWindow, is_used_up}
@@ -52,11 +52,11 @@ raised cw p =
 
 -- whether all that it proposed when its first phase was done is known to be chosen, or held
 abbrev pub is_settled : Proposing → Bool
-is_settled p = list_all (λ s. is_in s p.chosen) (numbers p.cw (p.end - p.cw))
+is_settled p = are_known p.chosen p.cw p.end
 
 -- the values that aren't known to be chosen
 abbrev pub open_values : Proposing → List Placed
-open_values p = filter (λ (x : Placed). not (is_in x.slot p.chosen)) p.proposed
+open_values p = without_known p.chosen p.proposed
 
 -- a slot that a leader with this watermark may propose at
 pub record IsSlot (cw s : ℕ) : Type 0 where

@@ -12,7 +12,7 @@ use Rattle.cx_model.specs.Matched.{enough}
 abbrev pub is_new : LeaderDurable → Bool
 is_new d = not (is_some d.own)
 
--- whether as many replicas as keep a slot for good have told it that they hold some
+-- whether as many replicas as keep a slot for good have reported to it that they hold some
 abbrev pub has_heard : Cluster → LeaderVolatile → Bool
 has_heard c v = nat_le (enough c) (length (filter (λ n. nat_lt 0 n) v.held))
 

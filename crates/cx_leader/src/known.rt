@@ -16,7 +16,7 @@ use std::marker::Model;
 #[derive(Drop)]
 pub struct Known {
     slots: Ring<u64, Itself>,
-    // A slot that is noted twice stands here twice.
+    // A slot that is noted twice is here twice.
     noted: Told<u64>,
 }
 
@@ -112,7 +112,7 @@ impl Known {
         self.slots.get(slot).is_some()
     }
 
-    /// Whether each of so many slots from the first on is known to be chosen. It takes no memory.
+    /// Whether each of `count` slots from the first on is known to be chosen. It takes no memory.
     #[tactic(auto, using(cx_grid::proofs::Crossing::numbers_more))]
     pub fn contains_all(&self, first: u64, count: u64) -> bool
         requires { first + count < 2 ^ 64 }

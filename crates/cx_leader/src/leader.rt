@@ -31,7 +31,7 @@ pub struct Leader {
     pub(crate) own: Option<Entry>,
     pub(crate) mode: Mode,
     pub(crate) seen: Round,
-    // The greatest number of slots that each replica told.
+    // The greatest number of slots that each replica reported.
     pub(crate) held: Vec<u64>,
     pub(crate) told: Vec<MatchAnswer>,
     // Who has promised, where acceptors are asked.

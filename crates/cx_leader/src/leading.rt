@@ -1,4 +1,4 @@
-//! What a leader that leads does: it proposes what its first phase told, gives each batch a slot, and notes which slots are
+//! What a leader that leads does: it proposes what its first phase reported, gives each batch a slot, and notes which slots are
 //! chosen (VLDB 2021).
 
 ghost use Rattle.std.specs.Prelude.{◌≡◌, [], Some, IsTrue, IfOk, OnErr, false};
@@ -11,13 +11,13 @@ use crate::Leader;
 use crate::proposals::Proposals;
 use crate::rounds::{is_same, round_of};
 use crate::sending::{proposal, tell_batchers};
-use cx_base::{Commands, Duplicate, NoMemory, Round, Value, Why};
+use cx_base::{Commands, Duplicate, NoMemory, Round, Value, WINDOW_LENGTH, Why};
 use cx_field::Entry;
 use cx_model::{Mode, Plan};
 use cx_role::Outbox;
 
 impl Leader {
-    /// Its first phase is done: it leads, proposes what the plan says, and tells the batchers.
+    /// Its first phase is done: it leads, proposes what the plan says, and announces it to the batchers.
     #[tactic(auto, using(crate::proofs::Proposed::open_planned))]
     pub(crate) fn finish(
         &mut self,
@@ -34,7 +34,7 @@ impl Leader {
         ensures sends { OnErr result (out.new.list ≡ []) }
     {
         let proposals = Proposals::planned(self.alloc, plan)?;
-        out.room(32 + usize::from(self.cluster.batchers))?;
+        out.room(WINDOW_LENGTH + usize::from(self.cluster.batchers))?;
         match proposals.propose_open(self.alloc, &self.cluster, self.index, own, out) {
             Ok(()) => {}
             Err(NoMemory) => {
@@ -77,7 +77,7 @@ impl Leader {
         }
     }
 
-    /// A proxy tells that a slot is chosen in this round.
+    /// A proxy reports that a slot is chosen in this round.
     pub(crate) fn chosen_in(&mut self, round: Round, slot: u64) -> Result<Why, NoMemory>
         ensures ok { IfOk result (λ why. Replies leader_rules self.old (chosen_in_row self.old.durable self.old.volatile round slot) why self.new []) }
         ensures no_memory { OnErr result (self.new ≡ self.old) }

@@ -15,7 +15,7 @@ use cx_msg::Record;
 use cx_role::WakeFault;
 use std::alloc::Global;
 
-/// No replica told anything.
+/// No replica reported anything.
 pub fn none_held(alloc: Global, replicas: u16) -> Result<Vec<u64>, NoMemory>
     ensures { IfOk result (λ held. held.items ≡ map (λ r. 0) (below replicas)) }
 {
@@ -26,7 +26,7 @@ pub fn none_held(alloc: Global, replicas: u16) -> Result<Vec<u64>, NoMemory>
     Ok(held)
 }
 
-/// The round that these records leave behind an earlier one, with its grid.
+/// The round that these records leave after an earlier one, with its grid.
 #[tactic(auto, unfolding(cx_msg::specs::Records::kept_record, cx_msg::specs::Records::round_grid))]
 pub fn last_begun(
     before: Option<Entry>,

@@ -1,4 +1,4 @@
-//! Who refuses a leader's round, and tells a greater one.
+//! Who refuses a leader's round, and reports a greater one.
 
 ghost use Rattle.std.specs.Prelude.{◌≡◌, []};
 ghost use Rattle.cx_model.specs.Leader.{nack_row, match_nack_row, leader_rules};
@@ -26,7 +26,7 @@ impl Leader {
         Why::Nacked
     }
 
-    /// A matchmaker does not record the round, and tells another one; where it has no room the leader goes on.
+    /// A matchmaker does not record the round, and reports another one; where it has no room the leader goes on.
     pub(crate) fn match_nack(&mut self, round: Round, reason: u8, other: Round) -> Why
         ensures { Replies leader_rules self.old (match_nack_row self.old.durable self.old.volatile round reason other) result self.new [] }
     {

@@ -6,7 +6,7 @@ ghost use Rattle.cx_leader.specs.Tending.{is_new, has_heard, can_collect, has_op
 use crate::Leader;
 use cx_model::{Mode, Stage};
 
-// How many replicas have told that they hold something.
+// How many replicas have reported that they hold something.
 fn heard(held: &[u64]) -> usize
     ensures { result ≡ length (filter (λ n. nat_lt 0 n) held.now) }
 {
@@ -21,7 +21,7 @@ impl Leader {
         self.own.is_none()
     }
 
-    /// Whether as many replicas as keep a slot for good have told it that they hold some.
+    /// Whether as many replicas as keep a slot for good have reported to it that they hold some.
     pub fn has_heard(&self) -> bool
         ensures { result ≡ has_heard self.now.cluster self.now.volatile }
     {

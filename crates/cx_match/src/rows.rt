@@ -9,7 +9,7 @@ ghost use Rattle.cx_role.specs.Role.{Replies, Steps, StaysAt, FailsAt, KeepsDura
 
 use crate::Matchmaker;
 use crate::entries::{earlier, has_entry, has_later, last_round, retire, told};
-use cx_base::{Grid, NoMemory, RoleId, Round, Why};
+use cx_base::{Grid, NoMemory, ROUNDS, RoleId, Round, Why};
 use cx_field::{Entry, Token};
 use cx_keeper::Keeper;
 use cx_msg::{Record, garbage_b, match_b, match_nack, match_read_ack};
@@ -55,7 +55,7 @@ impl Matchmaker {
             out.push(match_b(self.me.index, from.index, round, self.watermark, entries));
             return Ok(Why::Same);
         }
-        if self.entries.len() >= 16 {
+        if self.entries.len() >= ROUNDS {
             let last = last_round(&self.entries);
             out.room(1)?;
             out.push(match_nack(self.me.index, from.index, round, 2, last));

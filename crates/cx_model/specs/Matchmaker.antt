@@ -46,7 +46,7 @@ has_round i es = list_any (λ (e : Entry). same_round e.round i) es
 abbrev pub greatest : List Entry → Round
 greatest es = option_map_or (λ (e : Entry). e.round) (slice_get es (length es - 1)) no_round
 
--- a retiring round gets its own entry, in front of the later ones, where it has none
+-- a retiring round gets its own entry, before the later ones, where it has none
 abbrev pub with_own : Round → Shape → List Entry → List Entry
 with_own i g es = if has_round i es then es else entry i g ∷ es
 

@@ -37,7 +37,7 @@ pub fn one_put()
     ensures { OnePut }
 {}
 
-/// The acceptor is asked twice for one vote: it keeps one, and tells it again. The proxy leader, told twice, announces the
+/// The acceptor is asked twice for one vote: it keeps one, and reports it again. The proxy leader, which hears of it twice, announces the
 /// value once.
 pub fn repeats_change_nothing()
     ensures { RepeatsChangeNothing }
@@ -50,7 +50,7 @@ pub fn torn_append()
 {}
 
 /// The acceptor crashes inside its append and the vote is kept: nothing is sent, and the value is chosen though nobody
-/// knows it. Asked again when it is open, it tells its vote.
+/// knows it. Asked again when it is open, it reports its vote.
 pub fn kept_append()
     ensures { KeptAppend }
 {}
@@ -61,8 +61,8 @@ pub fn row_is_no_column()
     ensures { RowIsNoColumn }
 {}
 
-/// A leader begins a later round with a grid of its own: the matchmaker tells it the earlier round, that round's acceptor
-/// tells its vote, and the same value is chosen again. A vote of the earlier round that comes late counts no more.
+/// A leader begins a later round with a grid of its own: the matchmaker reports the earlier round, that round's acceptor
+/// reports its vote, and the same value is chosen again. A vote of the earlier round that comes late counts no more.
 pub fn later_round()
     ensures { LaterRound }
 {}
@@ -80,7 +80,7 @@ pub fn older_round_is_refused()
 {}
 
 /// The order to retire waits until all that the later round proposed at first is known to be chosen. Then a column of its
-/// grid is told how many slots are held, and enough matchmakers forget the earlier round.
+/// grid is informed how many slots are held, and enough matchmakers forget the earlier round.
 pub fn retire_earlier_rounds()
     ensures { RetireEarlierRounds }
 {}
@@ -119,7 +119,7 @@ pub fn stale_requests()
 {}
 
 /// Two earlier rounds have votes for two values in one slot, in grids without a common member. The next round asks both
-/// grids, waits for a row of each, and proposes the value of the greater round, whichever is told first.
+/// grids, waits for a row of each, and proposes the value of the greater round, whichever is reported first.
 pub fn greatest_round_is_proposed()
     ensures { GreatestRoundIsProposed }
 {}
@@ -143,7 +143,7 @@ pub fn old_answer_is_not_counted()
 {}
 
 /// What f + 1 replicas hold is never lost: the leader, the proxy leader and the acceptor forget such a slot, and the next
-/// round begins behind it. A replica that missed a value gets it from another one.
+/// round begins after it. A replica that missed a value gets it from another one.
 pub fn held_slots_are_forgotten()
     ensures { HeldSlotsAreForgotten }
 {}

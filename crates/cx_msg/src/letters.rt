@@ -282,7 +282,7 @@ pub fn answer(unbatcher: u16, client: u16, seq: u64, at: u64, reply: Reply) -> D
     Datagram::new(from, to, Msg::Answer { seq, at, reply })
 }
 
-/// A replica's word to a leader that it holds so many slots.
+/// A replica's word to a leader that it holds `mark` slots.
 #[tactic(auto, unfolding(cx_wire::specs::Format::u16))]
 pub fn held(replica: u16, leader: u16, mark: u64) -> Datagram
     requires mark { IsTrue (field.mark.fits mark) }
@@ -304,7 +304,7 @@ pub fn fetch(replica: u16, other: u16, mark: u64) -> Datagram
     Datagram::new(from, to, Msg::Fetch { mark })
 }
 
-/// A leader's word to an acceptor that enough replicas hold so many slots.
+/// A leader's word to an acceptor that enough replicas hold `mark` slots.
 #[tactic(auto, unfolding(crate::specs::Messages::round_mark, cx_wire::specs::Format::u16))]
 pub fn inform(leader: u16, acceptor: u16, round: Round, mark: u64) -> Datagram
     requires round { IsTrue (field.round.fits round) }

@@ -17,10 +17,12 @@ mod input;
 mod kept;
 mod letters;
 mod message;
+mod names;
 mod put_bodies;
 mod read_letters;
 mod records;
 mod roles;
+mod spelled;
 
 pub use broken::break_of_part;
 pub use datagram::Datagram;
@@ -39,3 +41,4 @@ pub use read_letters::{
     match_read, match_read_ack, pre_read, pre_read_ack, read, read_answer, read_req,
 };
 pub use records::{record_from, record_into};
+pub use spelled::{Spelled, short_into};

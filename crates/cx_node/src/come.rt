@@ -3,7 +3,7 @@
 use cx_msg::Datagram;
 
 /// Nothing was there, or bytes that are no datagram, or one.
-#[derive(Debug, Drop)]
+#[derive(Drop)]
 pub enum Come {
     Nothing,
     Foreign,

@@ -12,14 +12,11 @@ ghost use Rattle.cx_node.specs.declared.input.Heard.TheVariants.{Lines, Nothing}
 ghost use Rattle.cx_node.specs.declared.input.Refusal.TheVariants as refusal;
 ghost use Rattle.cx_node.specs.Input.{FailsRead, IsAnswer, IsRefusal, bad_line_of, behind, heard_of, input_of, lines, refused_of, with_port};
 
-use cx_base::{Cluster, NoMemory, RoleId};
+use cx_base::{Cluster, MAX_HEADER_LENGTH, MAX_LINE_LENGTH, NoMemory, RoleId};
 use cx_cluster::{ClusterFault, read};
 use cx_edge::{ReadAll, Source, read_all};
 use cx_role::names_role;
-use cx_script::{
-    MAX_HEADER_LENGTH, MAX_LINE_LENGTH, Schedule, counted, is_long_header, read_requests,
-    split_header,
-};
+use cx_script::{Schedule, counted, is_long_header, read_requests, split_header};
 use std::alloc::Global;
 
 // More bytes than an input has none of whose lines is bad.

@@ -15,8 +15,6 @@ mod doing;
 mod examples;
 mod guest;
 mod input;
-#[cfg(test)]
-mod input_tests;
 mod law;
 mod node;
 mod opening;

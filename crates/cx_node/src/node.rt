@@ -25,7 +25,7 @@ use std::marker::Model;
 pub const BUFFER: usize = 32_769;
 
 /// Why a run stopped before its end.
-#[derive(Clone, Copy, Debug, PartialEq, Eq)]
+#[derive(Clone, Copy)]
 pub enum Stop {
     NoMemory,
     /// The output failed.
@@ -45,7 +45,7 @@ impl From<NoMemory> for Stop {
 }
 
 /// How a whole run ended.
-#[derive(Clone, Copy, Debug, PartialEq, Eq)]
+#[derive(Clone, Copy)]
 pub enum RunEnd {
     /// All hosted clients have finished; or none is hosted, and all turns were made.
     Done,

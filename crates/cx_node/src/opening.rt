@@ -33,7 +33,7 @@ use cx_script::script;
 use std::alloc::Global;
 
 /// Why the hosted roles could not all be opened.
-#[derive(Clone, Copy, Debug, PartialEq, Eq)]
+#[derive(Clone, Copy)]
 pub enum OpenStop {
     NoMemory,
     /// The store of a role failed.

@@ -4,10 +4,10 @@ ghost use Rattle.std.specs.Prelude.{◌≡◌, [], ◌∷◌, OnOk, OnErr};
 ghost use Rattle.cx_node.specs.Doing.{Asks, AsksPart};
 ghost use Rattle.cx_node.specs.Ports.{before, port_of};
 
-use cx_base::{Cluster, Kind, NoMemory, RoleId};
+use cx_base::{Cluster, Kind, NoMemory, RoleId, count_of};
 use cx_edge::Link;
 use cx_msg::{Datagram, encode_into};
-use cx_role::{count_of, names_role};
+use cx_role::names_role;
 use std::alloc::Global;
 
 // How many roles stand before those of a kind.

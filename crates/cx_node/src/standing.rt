@@ -2,7 +2,7 @@
 
 /// How a leader stands: whether it may be ordered to lead, its chosen watermark, whether it gave away a slot that too few replicas
 /// hold, whether its ticks can do no more for such slots, and whether an order to collect would begin.
-#[derive(Clone, Copy, Debug, PartialEq, Eq)]
+#[derive(Clone, Copy)]
 pub struct Standing {
     pub may_lead: bool,
     pub watermark: u64,

@@ -3,7 +3,7 @@
 use cx_base::Kind;
 
 /// Those that are meant to tick.
-#[derive(Clone, Copy, Debug)]
+#[derive(Clone, Copy)]
 pub enum Whom {
     /// All of a kind.
     Kind { kind: Kind },

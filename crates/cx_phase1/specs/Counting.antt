@@ -8,7 +8,7 @@ use Rattle.cx_model.specs.Plan.{promised_by, has_promised}
 use Rattle.cx_phase1.specs.declared.told.Told.{Told}
 use Rattle.cx_phase1.specs.declared.told.Told.TheVariants.{Whole, Counted, Same, Unasked}
 
--- the entries of earlier rounds that aren't retired, and the acceptors that were counted, with what they told
+-- the entries of earlier rounds that aren't retired, and the acceptors that were counted, with what they reported
 pub record Counting : Type 0 where
   pub live : List Entry
   pub promises : List Promised

@@ -5,7 +5,7 @@
 pub enum Told {
     /// It counts, and each live grid now has a whole row.
     Whole,
-    /// It counts, and more are wanted.
+    /// It counts, and more are needed.
     Counted,
     /// The acceptor was counted before.
     Same,

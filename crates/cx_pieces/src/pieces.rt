@@ -97,7 +97,7 @@ impl Pieces {
         }
     }
 
-    /// One piece more, behind the others. Out of memory, it changes nothing; more than 4,294,967,295 bytes in all are answered
+    /// One piece more, after the others. Out of memory, it changes nothing; more than 4,294,967,295 bytes in all are answered
     /// as out of memory too.
     pub fn push(&mut self, piece: &[u8]) -> Result<(), NoMemory>
         ensures ok { OnOk result (self.new ≡ self.old ++ piece.now ∷ []) }

@@ -2,7 +2,7 @@
 
 ghost use Rattle.std.specs.Prelude.{◌≡◌, ◌++◌, IfOk, IsTrue, OnOk};
 ghost use Rattle.std.specs.List.{list_all};
-ghost use Rattle.cx_base.specs.Asked.{takes_event};
+ghost use Rattle.cx_base.specs.Asked.{is_valid_event};
 ghost use Rattle.cx_cluster.specs.Reading.{header_cluster};
 ghost use Rattle.cx_model.specs.World.{run, start};
 ghost use Rattle.cx_replay.specs.Input.{behind, input_of};
@@ -33,7 +33,7 @@ fn run_text(
     events: &[Event],
     summed: bool,
 ) -> Result<Vec<u8>, NoMemory>
-    requires { IsTrue (list_all takes_event events.now) }
+    requires { IsTrue (list_all is_valid_event events.now) }
     ensures { IfOk result (λ text. text.items ≡ trace (start cluster) events.now ++ ending summed (run cluster events.now)) }
 {
     let mut world = World::new(alloc, cluster)?;

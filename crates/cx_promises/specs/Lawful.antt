@@ -1,4 +1,4 @@
--- What is promised of one run: that of these events over this cluster. Each sentence stands under its name in cx_model's Promises, but for the
+-- What is promised of one run: that of these events over this cluster. Each sentence is under its name in cx_model's Promises, but for the
 -- announcement, which is cx_inv_announce's.
 use Rattle.std.specs.Prelude.{◌≡◌, ℕ, ◌<◌, true, List, slice_get, Some}
 use Rattle.cx_base.specs.declared.cluster.Cluster.{Cluster}

@@ -13,7 +13,7 @@ ghost use Rattle.cx_proxy.specs.Holds.{IsPending};
 
 use crate::pendings::{Pendings, declined, find, note, put, uncounted};
 use crate::sends::{again_all, announce, ask_column};
-use cx_base::{Cluster, Duplicate, NoMemory, Order, RoleId, Round, Value, Why};
+use cx_base::{Cluster, Duplicate, NoMemory, Order, RoleId, Round, Value, WINDOW, Why};
 use cx_grid::{Marks, column_whole};
 use cx_keeper::Keeper;
 use cx_model::Pending;
@@ -21,9 +21,6 @@ use cx_msg::{Datagram, Msg, Record};
 use cx_role::{Outbox, Role, StepFault, WakeFault, is_for};
 use std::alloc::Global;
 use std::marker::Model;
-
-// How many slots the window has, from the watermark on.
-const WINDOW: u64 = 32;
 
 /// Asks a column of a grid for votes on each value that a leader hands over, and announces what a column voted for.
 #[derive(Drop)]
@@ -125,7 +122,7 @@ impl Proxy {
         Ok(Why::Asking)
     }
 
-    // An acceptor tells that it keeps a vote.
+    // An acceptor reports that it keeps a vote.
     fn vote(
         &mut self,
         acceptor: u16,

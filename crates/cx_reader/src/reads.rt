@@ -13,7 +13,7 @@ use std::alloc::Global;
 use std::marker::Model;
 
 // A token, under which the map finds its read.
-#[derive(Clone, Copy, Debug, PartialEq, Eq, Hash)]
+#[derive(Clone, Copy, PartialEq, Eq, Hash)]
 struct Id {
     client: u16,
     seq: u64,

@@ -6,12 +6,11 @@ ghost use Rattle.cx_replay.specs.declared.header.HeaderEnd.TheVariants as end;
 ghost use Rattle.cx_replay.specs.Streamed.{Joins, ReadsHeader};
 ghost use Rattle.cx_script.specs.Header.{is_rule};
 
-use cx_base::NoMemory;
+use cx_base::{MAX_HEADER_LENGTH, NoMemory};
 use cx_edge::{Lines, Next, Source};
-use cx_script::MAX_HEADER_LENGTH;
 
 /// What reading a header came to.
-#[derive(Clone, Copy, Debug, PartialEq, Eq)]
+#[derive(Clone, Copy)]
 pub enum HeaderEnd {
     /// The line that ends it was read.
     Whole,

@@ -1,7 +1,7 @@
 //! One event with its text, and what replicas hold at the end.
 
 ghost use Rattle.std.specs.Prelude.{◌≡◌, ◌++◌, false, OnOk, IfOk, IsTrue, map};
-ghost use Rattle.cx_base.specs.Asked.{takes_event};
+ghost use Rattle.cx_base.specs.Asked.{is_valid_event};
 ghost use Rattle.cx_base.specs.Lists.{below};
 ghost use Rattle.cx_model.specs.World.{step};
 ghost use Rattle.cx_replay.specs.Replay.{step_text};
@@ -21,7 +21,7 @@ pub fn step_into(
     text: &mut Vec<u8>,
 ) -> Result<(), NoMemory>
     requires fresh { world.old.spent ≡ false }
-    requires taken { IsTrue (takes_event event.now) }
+    requires taken { IsTrue (is_valid_event event.now) }
     ensures world { OnOk result (world.new ≡ record { world = step world.old.world event.now; spent = false }) }
     ensures text { OnOk result (text.new.items ≡ text.old.items ++ step_text world.old.world event.now) }
 {

@@ -7,15 +7,17 @@ ghost use Rattle.cx_base.specs.Log.{ready_values};
 ghost use Rattle.cx_model.specs.Replica.{replica_rules, apply, chosen_row, machine_from, machine_of, read_answers, results_from};
 ghost use Rattle.cx_model.specs.Rules.{IsFit};
 ghost use Rattle.cx_field.specs.Fields as field;
+ghost use Rattle.cx_replica.specs.Room.{is_log, values_of};
 ghost use Rattle.cx_replica.specs.Sound.{is_own};
 ghost use Rattle.cx_role.specs.declared.role.StepFault.TheVariants as fault;
 ghost use Rattle.cx_role.specs.Role.{Steps, StaysAt, FailsAt, KeepsDurable, takes_no_memory};
 
-use crate::machine::Machine;
 use crate::reads::drop_answered;
 use crate::replica::Replica;
+use crate::rooms::Rooms;
 use crate::sending::answer_reads;
-use cx_base::{Duplicate, NoMemory, Value, Why};
+use cx_base::{Value, Why};
+use cx_field::LogValues;
 use cx_keeper::{KeepFault, Keeper};
 use cx_msg::Record;
 use cx_rlog::Taken;
@@ -69,52 +71,42 @@ impl Replica {
         ensures keeps { IsErrOf result StepFault.Failed → KeepsDurable self.old self.new }
     {
         let values = self.log.ready(self.alloc, value)?;
-        let record = Record::Log {
-            values: values.copy(self.alloc)?,
-        };
-        let machine = self.executed(values.as_slice(), out)?;
+        let count = values.as_slice().len();
+        self.machine.make_room(count)?;
+        let rooms = Rooms::new(self.alloc, count)?;
+        out.room(count + self.deferred.len())?;
+        let record = Record::Log { values };
         match keeper.append(&record) {
             Ok(()) => {}
-            Err(KeepFault::NoMemory) => {
-                out.clear();
-                return Err(StepFault::NoMemory);
-            }
+            Err(KeepFault::NoMemory) => return Err(StepFault::NoMemory),
             Err(KeepFault::Failed) => {
-                out.clear();
                 self.live = false;
                 return Err(StepFault::Failed);
             }
         }
+        let values = into_values(record);
+        let held = self.log.held();
+        self.machine.execute_values(&self.cluster, self.me, held, values.as_slice(), rooms, out);
+        let held = held + count as u64;
+        answer_reads(self.me, held, &self.machine, &self.deferred, out);
         self.log.put(values);
-        self.machine = machine;
-        drop_answered(&mut self.deferred, self.log.held());
+        drop_answered(&mut self.deferred, held);
         Ok(Why::Applied)
     }
+}
 
-    /// What executing the next values leaves; what they are answered is sent, and then what the reads are answered that waited
-    /// for no more. Nothing is sent when out of memory.
-    #[tactic(auto, using(crate::proofs::Values::mark_fits))]
-    fn executed(&self, values: &[Value], out: &mut Outbox) -> Result<Machine, NoMemory>
-        requires empty { out.old.list ≡ [] }
-        requires few { length values.now ≤ 32 }
-        requires slots { length self.now.durable.log + length values.now ≤ 2 ^ 40 }
-        requires values { IsTrue (list_all (λ (v : Value). field.value.fits v) values.now) }
-        ensures machine { IfOk result (λ machine. machine ≡ machine_from (length self.now.durable.log) (machine_of self.now.durable.log) values.now) }
-        ensures sends { OnOk result (out.new.list ≡ results_from self.now.cluster self.now.me (length self.now.durable.log) (machine_of self.now.durable.log) values.now ++ read_answers self.now.me (self.now.durable.log ++ values.now) self.now.volatile.deferred) }
-        ensures err { OnErr result (out.new.list ≡ []) }
-    {
-        let mut machine = self.machine.copy(self.alloc)?;
-        out.room(values.len() + self.deferred.len())?;
-        let held = self.log.held();
-        match machine.execute_values(&self.cluster, self.me, held, values, out) {
-            Ok(()) => {}
-            Err(NoMemory) => {
-                out.clear();
-                return Err(NoMemory);
-            }
-        }
-        let held = held + values.len() as u64;
-        answer_reads(self.me, held, &machine, &self.deferred, out);
-        Ok(machine)
+// The values of a record that holds values, given back without taking memory.
+fn into_values(record: Record) -> LogValues
+    requires { is_log record ≡ true }
+    ensures { result ≡ values_of record }
+{
+    match record {
+        Record::Log { values } => values,
+        Record::Promise { .. } => unreachable!(),
+        Record::Vote { .. } => unreachable!(),
+        Record::Water { .. } => unreachable!(),
+        Record::Match { .. } => unreachable!(),
+        Record::Garbage { .. } => unreachable!(),
+        Record::Round { .. } => unreachable!(),
     }
 }

@@ -9,6 +9,7 @@ mod apply;
 mod machine;
 mod reads;
 mod replica;
+mod rooms;
 mod sending;
 
 pub use replica::Replica;

@@ -12,14 +12,11 @@ ghost use Rattle.cx_role.specs.Role.{Replies, takes_no_memory};
 
 use crate::replica::Replica;
 use crate::sending::answer;
-use cx_base::{NoMemory, RoleId, Why};
+use cx_base::{NoMemory, READS, RoleId, Why};
 use cx_field::Token;
 use cx_model::Deferred;
 use cx_msg::fetched;
 use cx_role::Outbox;
-
-/// The most reads that wait at once.
-const MOST: usize = 64;
 
 fn is_deferred(deferred: &[Deferred], token: Token) -> bool
     ensures { result ≡ list_any (λ (other : DeferredOf). same_read token other.token) deferred.now }
@@ -54,7 +51,7 @@ impl Replica {
         if is_deferred(&self.deferred, one.token) {
             return Ok(Why::Same);
         }
-        if self.deferred.len() >= MOST {
+        if self.deferred.len() >= READS {
             return Ok(Why::Full);
         }
         self.deferred.push(one)?;

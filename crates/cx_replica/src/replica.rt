@@ -11,7 +11,7 @@ ghost use Rattle.cx_msg.specs.Records.{fits as record_fits};
 
 use crate::machine::Machine;
 use crate::sending::{ask_next, tell_held};
-use cx_base::{Cluster, NoMemory, Order, RoleId, Value, Why};
+use cx_base::{Cluster, NoMemory, Order, RoleId, SLOTS, Value, Why};
 use cx_keeper::Keeper;
 use cx_model::Deferred;
 use cx_msg::{Datagram, Msg, Record};
@@ -42,7 +42,7 @@ impl Model for Replica {
 
     ghost view = { λ r. record { cluster = r.cluster; me = r.me; live = r.live; durable = record { log = r.log.list }; volatile = record { early = r.log.early; deferred = r.deferred.items } } };
 
-    ghost invariant = { λ r. IsSound r.cluster r.me r.log r.machine r.deferred.items };
+    ghost invariant = { λ r. IsSound r.cluster r.me r.log r.machine.left r.deferred.items };
 }
 
 impl Replica {
@@ -65,7 +65,7 @@ impl Replica {
             me,
             live: true,
             log: Log::new(alloc)?,
-            machine: Machine::new(alloc)?,
+            machine: Machine::new(alloc),
             deferred: Vec::new(alloc),
         })
     }
@@ -115,7 +115,7 @@ impl Replica {
             deferred,
         } = self;
         let values = values.as_slice();
-        machine.replay(log.held(), values)?;
+        machine.replay(alloc, log.held(), values)?;
         log.restore(alloc, values)?;
         Ok(Replica {
             alloc,
@@ -128,9 +128,6 @@ impl Replica {
         })
     }
 }
-
-/// How many slots there are.
-const SLOTS: u64 = 1 << 40;
 
 // Whether the clients of all commands of values are in the cluster.
 fn names_values(cluster: &Cluster, values: &[Value]) -> bool

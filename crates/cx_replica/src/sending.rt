@@ -73,7 +73,7 @@ pub fn answer(me: RoleId, held: u64, machine: &Machine, one: &Deferred) -> Datag
     requires kind { me.kind ≡ kind.Replica }
     requires held { IsTrue (field.mark.fits held) }
     requires token { IsTrue (field.token.fits one.now.token) }
-    ensures { result ≡ answer_at me held machine.now.map one.now }
+    ensures { result ≡ answer_at me held machine.now.left.map one.now }
 {
     let token = one.token;
     read_answer(
@@ -97,7 +97,7 @@ pub fn answer_reads(
     requires held { IsTrue (field.mark.fits held) }
     requires reads { IsTrue (are_reads deferred.now) }
     requires spare { length deferred.now ≤ out.old.spare }
-    ensures { out.new.list ≡ out.old.list ++ answers_at me held machine.now.map deferred.now }
+    ensures { out.new.list ≡ out.old.list ++ answers_at me held machine.now.left.map deferred.now }
 {
     for one in deferred {
         if one.mark <= held {

@@ -10,7 +10,7 @@ abbrev pub IsWakeFault : Option ℕ → WakeFault → Type 0
 IsWakeFault refused (Record index) = refused ≡ Some index
 IsWakeFault refused NoMemory = Unit {0}
 
--- a role that was opened again: what its records left, with these behind them
+-- a role that was opened again: what its records left, with these after them
 abbrev pub reopened : {D V : Type 0} → Rules D V → Running D V → List Kept → Running D V
 reopened rules s rs = record { cluster = s.cluster; me = s.me; live = true; durable = folded_from rules s.durable rs; volatile = rules.fresh s.cluster }
 

@@ -11,6 +11,6 @@ mod outbox;
 mod role;
 
 pub use keeping::keep;
-pub use names::{count_of, is_for, names_grid, names_role, names_round, names_value};
-pub use outbox::{MAX_SENDS, Outbox};
+pub use names::{is_for, names_grid, names_role, names_round, names_value};
+pub use outbox::Outbox;
 pub use role::{Role, StepFault, WakeFault};

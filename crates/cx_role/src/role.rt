@@ -108,7 +108,7 @@ pub trait Role: Sized {
         ensures whole { IfOk result (λ _. refused rules cluster.now me records.now ≡ None) }
         ensures fault { IfErr result (IsWakeFault (refused rules cluster.now me records.now)) };
 
-    /// The role as it is opened again, once it has stopped: what its records left stays, with these behind them, and the rest is as
+    /// The role as it is opened again, once it has stopped: what its records left stays, with these after them, and the rest is as
     /// in a role that was just opened. The fault names exactly the first of them that the role could not have appended.
     fn reopen(self, records: &[Record]) -> Result<Self, WakeFault>
         requires records { IsTrue (all_fit records.now) }

@@ -5,7 +5,6 @@
 //! events of its sequence; all of these are valid in their cluster.
 #![tactic(auto)]
 
-mod count;
 mod decimal;
 mod event;
 mod fault;
@@ -21,12 +20,12 @@ mod unended;
 mod words;
 
 pub use decimal::number;
-pub use event::{MAX_LINE_LENGTH, line};
+pub use event::line;
 pub use fault::LineFault;
 pub use generator::{Gen, gen_cluster};
-pub use header::{MAX_HEADER_LENGTH, split_header};
+pub use header::split_header;
 pub use law::{generated_events_are_taken, requests_rise, spelled_events_are_taken};
-pub use lines::{MAX_LINES, Schedule, read_schedule};
+pub use lines::{Schedule, read_schedule};
 pub use requests::{read_requests, script};
 pub use split::parted;
 pub use unended::{counted, is_long_header};

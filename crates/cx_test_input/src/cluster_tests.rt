@@ -1,6 +1,5 @@
 //! Headers round the edges of the form, and what they are told.
 
-use cx_base::Cluster;
 use cx_cluster::read;
 use std::alloc::Global;
 use std::test::Fail;
@@ -59,46 +58,5 @@ fn names_the_first_fault(rt: HostRuntime) -> Result<(), Fail> {
     for (front, left_out, wanted) in FAULTS {
         assert_eq!(rt; told(rt.alloc(), front, left_out)?.as_str(), wanted);
     }
-    Ok(())
-}
-
-#[test]
-fn reads_the_counts(rt: HostRuntime) -> Result<(), Fail> {
-    let alloc = rt.alloc();
-    let ones = Cluster {
-        f: 0,
-        leaders: 1,
-        proxies: 1,
-        acceptors: 1,
-        replicas: 1,
-        batchers: 1,
-        unbatchers: 1,
-        readers: 1,
-        clients: 1,
-        batch: 1,
-        base_port: None,
-    };
-    let text = header(alloc, "f = 0x0 # none is lost\r\n", 6)?;
-    assert!(rt; matches!(read(alloc, text.as_bytes()), Ok(cluster) if cluster == ones));
-    let text = header(alloc, "base_port = 60000\n", 0)?;
-    assert!(rt;
-        matches!(read(alloc, text.as_bytes()), Ok(cluster) if cluster.base_port == Some(60000))
-    );
-    let most =
-        "f = 3\nleaders = 8\nproxies = 16\nacceptors = 64\nreplicas = 8\nbatchers = 2\nunbatchers = 3\nreaders = 4\nclients = 64\nbatch = 5\nbase_port = 1024\n";
-    let wanted = Cluster {
-        f: 3,
-        leaders: 8,
-        proxies: 16,
-        acceptors: 64,
-        replicas: 8,
-        batchers: 2,
-        unbatchers: 3,
-        readers: 4,
-        clients: 64,
-        batch: 5,
-        base_port: Some(1024),
-    };
-    assert!(rt; matches!(read(alloc, most.as_bytes()), Ok(cluster) if cluster == wanted));
     Ok(())
 }

@@ -13,6 +13,4 @@ mod lines_tests;
 #[cfg(test)]
 mod link_tests;
 #[cfg(test)]
-mod script_tests;
-#[cfg(test)]
 mod stream_tests;

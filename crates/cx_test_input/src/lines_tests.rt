@@ -68,32 +68,3 @@ fn lines_are_the_same_in_pieces(rt: HostRuntime) -> Result<(), Fail> {
     }
     Ok(())
 }
-
-// Reads are counted from 0.
-#[test]
-fn nothing_is_lost_where_a_read_fails(rt: HostRuntime) -> Result<(), Fail> {
-    let alloc = rt.alloc();
-    let bytes = Vec::from_slice(alloc, b"ab\ncd")?;
-    let source = MemSource::new(bytes, vec![in alloc; 1, 4]?);
-    let said = transcript(alloc, InPieces::new(source, 1))?;
-    assert_eq!(rt; said.as_slice(), "?ab|?cd$".as_bytes());
-    Ok(())
-}
-
-// More lines than the buffer has room for, so that what is held moves.
-#[test]
-fn many_lines_are_read(rt: HostRuntime) -> Result<(), Fail> {
-    let alloc = rt.alloc();
-    let mut bytes = Vec::new(alloc);
-    for _ in 0..3000_u64 {
-        bytes.extend_from_slice(b"0123456789\n")?;
-    }
-    let mut source = InPieces::new(MemSource::new(bytes, Vec::new(alloc)), 4096);
-    let mut lines = Lines::new(alloc)?;
-    for _ in 0..3000_u64 {
-        assert!(rt; lines.next(&mut source, 10) == Next::Line);
-        assert_eq!(rt; lines.text(), "0123456789".as_bytes());
-    }
-    assert!(rt; lines.next(&mut source, 10) == Next::End);
-    Ok(())
-}

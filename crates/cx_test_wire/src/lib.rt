@@ -5,22 +5,10 @@
 #![tactic(auto)]
 
 #[cfg(test)]
-mod field_tests;
-#[cfg(test)]
 mod log_tests;
 #[cfg(test)]
 mod map_tests;
 #[cfg(test)]
-mod mark_tests;
-#[cfg(test)]
 mod message_tests;
-#[cfg(test)]
-mod number_tests;
-#[cfg(test)]
-mod piece_tests;
-#[cfg(test)]
-mod ring_tests;
-#[cfg(test)]
-mod table_tests;
 #[cfg(test)]
 mod vectors;

@@ -1,7 +1,7 @@
-//! The map and the fold of commands.
+//! The map.
 
-use cx_base::{Command, Duplicate, Few, Key, Op, Reply, Text, Value};
-use cx_kv::{Executed, Store, execute};
+use cx_base::{Command, Duplicate, Key, Op, Reply, Text};
+use cx_kv::Store;
 use std::test::Fail;
 
 #[test]
@@ -32,30 +32,5 @@ fn applies(rt: HostRuntime) -> Result<(), Fail> {
     assert_eq!(rt; text.as_slice(), b" a=1 b=11".as_slice());
     assert_eq!(rt; store.get(&a).copied(), Some(one));
     assert_eq!(rt; store.as_slice().len(), 2);
-    Ok(())
-}
-
-#[test]
-fn folds(rt: HostRuntime) -> Result<(), Fail> {
-    let alloc = rt.alloc();
-    let key = Key::from_bytes(b"a").ok_or("a key")?;
-    let one = Text::from_bytes(b"1").ok_or("a text")?;
-    let command = |client, seq| Command {
-        client,
-        seq,
-        op: Op::App(key, one),
-    };
-    let values = [
-        Value::Batch(Few::from_vec(vec![in alloc; command(0, 2)]?)),
-        Value::Noop,
-        Value::Batch(Few::from_vec(vec![in alloc; command(0, 1), command(0, 2)]?)),
-        Value::Batch(Few::from_vec(vec![in alloc; command(1, 1), command(0, 3)]?)),
-    ];
-    let mut before = Executed::new(alloc);
-    let mut store = Store::new(alloc)?;
-    for value in &values {
-        execute(&mut before, &mut store, value)?;
-    }
-    assert_eq!(rt; store.get(&key).copied(), Text::from_bytes(b"111"));
     Ok(())
 }

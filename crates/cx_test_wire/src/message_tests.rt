@@ -31,7 +31,7 @@ const SUBMIT: [u8; 27] = [
 ];
 
 #[test]
-fn submit_both_ways_and_refused(rt: HostRuntime) -> Result<(), Fail> {
+fn submit_both_ways(rt: HostRuntime) -> Result<(), Fail> {
     let datagram = decode(rt.alloc(), &SUBMIT)?.copy(rt.alloc())?;
     assert_eq!(rt; datagram.from(), RoleId::new(Kind::Client, 0));
     assert_eq!(rt; datagram.to(), RoleId::new(Kind::Batcher, 0));
@@ -43,16 +43,6 @@ fn submit_both_ways_and_refused(rt: HostRuntime) -> Result<(), Fail> {
     let mut body = Vec::new(rt.alloc());
     body_into(rt.alloc(), &datagram, &mut body)?;
     assert_eq!(rt; body.as_slice(), &SUBMIT[12..]);
-    let cut = decode(rt.alloc(), &SUBMIT[..26]).err();
-    assert_eq!(rt; cut, Some(WireFault::Length { said: 15, have: 14 }));
-    out.push(0)?;
-    let longer = decode(rt.alloc(), &out).err();
-    assert_eq!(rt; longer, Some(WireFault::Trailing { at: 27 }));
-    let short = decode(rt.alloc(), &SUBMIT[..11]).err();
-    assert_eq!(rt; short, Some(WireFault::Short { need: 12, have: 11 }));
-    let mut kind = SUBMIT;
-    kind[3] = 0x1e;
-    assert_eq!(rt; decode(rt.alloc(), &kind).err(), Some(WireFault::Kind(30)));
     Ok(())
 }
 

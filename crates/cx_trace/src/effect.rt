@@ -3,7 +3,7 @@
 use cx_base::{RoleId, Why};
 
 /// What an event came to.
-#[derive(Clone, Copy, Debug, PartialEq, Eq)]
+#[derive(Clone, Copy)]
 pub struct Effect {
     /// The event's number, counted from 1.
     pub event: u64,

@@ -1,7 +1,7 @@
 //! What an event does to the roles.
 
 ghost use Rattle.std.specs.Prelude.{◌≡◌, ◌≤◌, ◌∷◌, [], IfOk, OnOk, IsTrue, None, Some, option_to_list};
-ghost use Rattle.cx_base.specs.Asked.{takes_event};
+ghost use Rattle.cx_base.specs.Asked.{is_valid_event};
 ghost use Rattle.cx_model.specs.Request.{request};
 ghost use Rattle.cx_model.specs.World.{act_at, ask, change, come, kept_by};
 ghost use Rattle.cx_base.specs.Role.{role};
@@ -118,7 +118,7 @@ fn submission(client: u16, seq: u64, op: Op, batcher: u16) -> Datagram
 #[tactic(auto, unfolding(cx_field::specs::Fields::seq, cx_wire::specs::Format::u64))]
 fn send(event: &Event, out: &mut Outbox) -> Result<(), NoMemory>
     requires empty { out.old.list ≡ [] }
-    requires taken { IsTrue (takes_event event.now) }
+    requires taken { IsTrue (is_valid_event event.now) }
     ensures { OnOk result (out.new.list ≡ request event.now) }
 {
     match event {
@@ -144,7 +144,7 @@ fn send(event: &Event, out: &mut Outbox) -> Result<(), NoMemory>
 // A client asks.
 fn ask(token: Token, event: &Event, events: &Events, out: &mut Outbox) -> Result<Changed, NoMemory>
     requires empty { out.old.list ≡ [] }
-    requires taken { IsTrue (takes_event event.now) }
+    requires taken { IsTrue (is_valid_event event.now) }
     ensures { IfOk result (λ changed. AsksAfter (λ w. ask w event.now (Some token)) events.now changed out.new.list) }
 {
     let who = RoleId::new(Kind::Client, token.client);
@@ -187,7 +187,7 @@ pub fn change(
     out: &mut Outbox,
 ) -> Result<Changed, NoMemory>
     requires empty { out.old.list ≡ [] }
-    requires taken { IsTrue (takes_event event.now) }
+    requires taken { IsTrue (is_valid_event event.now) }
     ensures { IfOk result (λ changed. ChangesAfter (λ w. change w event.now) sent.now events.now seats.old changed seats.new out.new.list) }
 {
     match event {

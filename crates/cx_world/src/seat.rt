@@ -3,7 +3,7 @@
 ghost use Rattle.std.specs.Prelude.{◌≡◌, [], IfErr, IfOk, IsErrOf, IsTrue, None, Some, option_to_list, true};
 ghost use Rattle.cx_keeper.specs.Keeper.{all_fit};
 ghost use Rattle.cx_keeper.specs.MemKeeper.{mem_append_gives};
-ghost use Rattle.cx_model.specs.Names.{count_of};
+ghost use Rattle.cx_base.specs.Cluster.{count_of};
 ghost use Rattle.cx_model.specs.Rules.{Rules, Running, outcome_of, IsFit};
 ghost use Rattle.cx_model.specs.World.{fresh_roles};
 ghost use Rattle.cx_msg.specs.declared.input.Act.TheVariants.{Give, Stop, Wake};

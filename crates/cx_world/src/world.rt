@@ -1,7 +1,7 @@
 //! The world: all roles, and the histories of what happened.
 
 ghost use Rattle.std.specs.Prelude.{◌≡◌, ◌++◌, ◌∷◌, [], true, false, IfOk, OnOk, OnErr, IsTrue, option_to_list, slice_get};
-ghost use Rattle.cx_base.specs.Asked.{takes_event};
+ghost use Rattle.cx_base.specs.Asked.{is_valid_event};
 ghost use Rattle.cx_model.specs.Chosen.{chosen_prefix};
 ghost use Rattle.cx_model.specs.World.{step, start, run, event_list};
 ghost use Rattle.cx_promises.specs.Lawful.{IsLawful, IsCommandList};
@@ -124,7 +124,7 @@ impl World {
     #[tactic(auto, unfolding(cx_model::specs::World::step))]
     pub fn step(&mut self, event: &Event) -> Result<Effect, NoMemory>
         requires fresh { self.old.spent ≡ false }
-        requires taken { IsTrue (takes_event event.now) }
+        requires taken { IsTrue (is_valid_event event.now) }
         ensures ok { OnOk result (self.new ≡ record { world = step self.old.world event.now; spent = false }) }
         ensures effect { IfOk result (λ effect. effect ≡ effect_of self.old.world event.now) }
         ensures lawful { OnOk result (IsLawful self.new.world.cluster (event_list self.new.world.events)) }

@@ -2,7 +2,7 @@ use Rattle.std.proofs.Common.{◌≡◌, ◌+◌, ◌∷◌, ◌++◌, [], Bool,
 use Rattle.std.proofs.lemmas.Bool.{and_parts}
 use Rattle.std.proofs.lemmas.List.{drop_more, drop_all}
 use Rattle.std.specs.List.{list_all}
-use Rattle.cx_base.specs.Asked.{takes_event}
+use Rattle.cx_base.specs.Asked.{is_valid_event}
 use Rattle.cx_base.specs.declared.event.Event.{Event}
 use Rattle.cx_model.specs.World.{World, start, step}
 use Rattle.cx_world.specs.World.{WorldState}
@@ -23,14 +23,14 @@ loop-event-preserved c =
     let events = c.args.events.now in
     let later = drop (i + 1) events in
     let left : drop i events ≡ e ∷ later = drop_more events i e c.loop-event-test.true ∙ ap (λ (x : Event). x ∷ later) (sym c.event-item.is) in
-    let all : list_all takes_event (e ∷ later) ≡ true = subst (λ (l : List Event). list_all takes_event l ≡ true) left c.loop-event.invariant.taken in
+    let all : list_all is_valid_event (e ∷ later) ≡ true = subst (λ (l : List Event). list_all is_valid_event l ≡ true) left c.loop-event.invariant.taken in
     let world : c.step_into.new.world.world ≡ step w e = ap world_of c.in_ok-step_into.ensures.world in
     record {
       running = ap is_spent c.in_ok-step_into.ensures.world;
       so_far =
           rw (world, c.in_ok-step_into.ensures.text)
           (next_written c.args.summed c.loop-event.text.items (rest_of c.args.summed (start c.args.cluster) events) w events i e c.loop-event-test.true c.event-item.is c.loop-event.invariant.so_far);
-      taken = (and_parts (takes_event e) (list_all takes_event later) all).1;
+      taken = (and_parts (is_valid_event e) (list_all is_valid_event later) all).1;
     }
 
 pub returns : goal.returns

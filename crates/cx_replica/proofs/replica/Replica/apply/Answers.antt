@@ -13,16 +13,16 @@ own g c =
     subst (λ (vs : List Value). are_own c.self.inside.cluster vs ≡ true) (sym c.in_ok-values.ensures.values)
     (ready_own c.self.inside.cluster (length c.self.inside.log.list) c.self.inside.log.early c.args.value.now (rw (← c.self.view_is) at c.requires.value) c.self.invariant.waiting)
 
-pub executed-requires-clause-slots : goal.executed-requires-clause-slots
-executed-requires-clause-slots g c = rw c.as_slice.ensures.items c.in_ok-values.ensures.short
+pub execute_values-requires-clause-slots : goal.execute_values-requires-clause-slots
+execute_values-requires-clause-slots g c = rw c.as_slice.ensures.items c.in_ok-values.ensures.short
 
-pub executed-requires-clause-values : goal.executed-requires-clause-values
-executed-requires-clause-values g c = rw c.as_slice.ensures.items (own_fits c.self.inside.cluster c.in_ok-values.values (own g (goal.at.executed-requires-clause-values g c).In_ok-values))
+pub execute_values-requires-clause-values : goal.execute_values-requires-clause-values
+execute_values-requires-clause-values g c = rw c.as_slice.ensures.items (own_fits c.self.inside.cluster c.in_ok-values.values (own g (goal.at.execute_values-requires-clause-values g c).In_ok-values))
 
 pub append-requires : goal.append-requires
 append-requires g c =
     let all = own g (goal.at.append-requires g c).In_ok-values in
-    rw c.in_ok-copy.ensures (values_fit c.in_ok-values.values c.as_slice.ensures.some c.as_slice.ensures.room (own_fits c.self.inside.cluster c.in_ok-values.values all))
+    values_fit c.in_ok-values.values c.as_slice.ensures.some c.as_slice.ensures.room (own_fits c.self.inside.cluster c.in_ok-values.values all)
 
 pub put-requires-clause-short : goal.put-requires-clause-short
 put-requires-clause-short g c = c.in_ok-values.ensures.short
