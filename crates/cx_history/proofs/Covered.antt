@@ -1,10 +1,11 @@
 -- A client's own requests decide as all do, and stay so when one more is sent.
 use Rattle.std.specs.Prelude.{nat_lt}
-use Rattle.std.proofs.Common.{◌≡◌, ◌&&◌, ◌==◌, ◌∙◌, ◌++◌, ◌∷◌, [], ◌≤◌, ◌<◌, ◌+◌, zero, suc, ℕ, Bool, true, false, not, List, Some, None, length, slice_get, refl, sym, ap, arith, inl, inr}
+use Rattle.std.proofs.Common.{◌≡◌, ◌++◌, ◌∷◌, [], ◌≤◌, ◌<◌, zero, suc, ℕ, Bool, true, false, List, Some, length, slice_get, refl, sym, arith, inl, inr}
 use Rattle.std.proofs.lemmas.Bool.{cases_Bool}
 use Rattle.std.proofs.lemmas.Bool.Decides.{nat_tests}
+use Rattle.std.proofs.lemmas.List.{length_push}
+use Rattle.std.proofs.lemmas.Option.{slice_get_within}
 use Rattle.std.specs.List.{list_any}
-use Rattle.std.specs.Str.{bytes_eq}
 use Rattle.cx_field.specs.declared.parts.Token.{Token}
 use Rattle.cx_history.proofs.Owned.{any_place, place_any}
 use Rattle.cx_history.specs.Own.{AreOwn, Covers}
@@ -21,8 +22,8 @@ same_any : (client : ℕ) (own requests : List Noted) (p : Noted → Bool) → (
     → list_any p own ≡ list_any p requests
 same_any client own requests p theirs covers =
     same_tests (list_any p own) (list_any p requests)
-      (λ e. let one = any_place p own e in let there = covers.from one.0 one.1 one.2 in place_any p requests there.0 one.1 there.1 one.3)
-      (λ e. let one = any_place p requests e in let here = covers.all one.0 one.1 one.2 (theirs one.1 one.3) in place_any p own here.0 one.1 here.1 one.3)
+    (λ e. let one = any_place p own e in let there = covers.from one.0 one.1 one.2 in place_any p requests there.0 one.1 there.1 one.3)
+    (λ e. let one = any_place p requests e in let here = covers.all one.0 one.1 one.2 (theirs one.1 one.3) in place_any p own here.0 one.1 here.1 one.3)
 
 has_client : (t : Token) (n : Noted) → has_token t n ≡ true → n.token.client ≡ t.client
 has_client t n e = grind (arith, nat_tests)
@@ -44,11 +45,6 @@ same_stale t asks own requests covers =
     let token = same_any t.client own requests (has_token t) (has_client t) covers in
     let above = same_any t.client own requests (is_above t) (above_client t) covers in
     rw (other, token, above) refl
-
-pub within : (xs : List Noted) (i : ℕ) (n : Noted) → slice_get xs i ≡ Some n → i < length xs
-within [] i n e = cc
-within (x ∷ xs) zero n e = omega arith
-within (x ∷ xs) (suc i) n e = let rest = within xs i n e in omega (arith, rest)
 
 pub stays : (xs : List Noted) (m n : Noted) (i : ℕ) → slice_get xs i ≡ Some n → slice_get (xs ++ m ∷ []) i ≡ Some n
 stays [] m n i e = cc
@@ -110,7 +106,7 @@ covers_other client own requests m differs covers =
           ];
     }
 
--- a request above all of its client's own may be put behind them
+-- a request above all of its client's own may be put after them
 pub own_more : (client : ℕ) (own : List Noted) (m : Noted) → m.token.client ≡ client → ((i : ℕ) (n : Noted) → slice_get own i ≡ Some n → n.token.seq < m.token.seq) → AreOwn client own → AreOwn client (own ++ m ∷ [])
 own_more client own m theirs above owned =
     record {
@@ -120,13 +116,10 @@ own_more client own m theirs above owned =
             | inr high ↦ rw (is_last own m n i e (grind (arith, nat_tests))) theirs
           ];
       rising = λ i j n k less at_i at_j.
-          let low_i : i < length own = (let inside = within (own ++ m ∷ []) j k at_j in let count = length_more own m in omega (arith, inside, count, less)) in
+          let low_i : i < length own = (let inside = slice_get_within (own ++ m ∷ []) j k at_j in let count = length_push own m in omega (arith, inside, count, less)) in
           let is_i = was_or_last own m n i at_i low_i in
           elim (cases_Bool (nat_lt j (length own))) [
             | inl low ↦ owned.rising i j n k less is_i (was_or_last own m k j at_j (grind (arith, nat_tests)))
             | inr high ↦ rw (is_last own m k j at_j (grind (arith, nat_tests))) (above i n is_i)
           ];
-    } where
-  length_more : (xs : List Noted) (m : Noted) → length (xs ++ m ∷ []) ≡ suc (length xs)
-  length_more [] m = refl
-  length_more (x ∷ xs) m = ap suc (length_more xs m)
+    }

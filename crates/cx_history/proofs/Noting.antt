@@ -1,20 +1,15 @@
 -- One more request that was sent, and the numbers of each client's own.
-use Rattle.std.proofs.Common.{◌≡◌, ◌==◌, ◌<◌, ◌≤◌, ◌++◌, ◌∷◌, ◌∙◌, [], ℕ, suc, Bool, true, false, List, Option, Some, None, All, map, length, get_or, slice_get, Result, Ok, Err, OnOk, OnErr, ap, sym, subst, refl, arith, inl, inr, eqb-true}
+use Rattle.std.proofs.Common.{◌≡◌, ◌==◌, ◌<◌, ◌++◌, ◌∷◌, ◌∙◌, [], ℕ, Bool, true, false, List, length, get_or, Result, Ok, Err, OnOk, OnErr, ap, sym, subst, refl, arith, inl, inr, eqb-true}
 use Rattle.std.proofs.lemmas.Bool.{cases_Bool}
 use Rattle.std.proofs.lemmas.Bool.Decides.{nat_tests}
-use Rattle.std.proofs.lemmas.List.{length-append, map-append}
+use Rattle.std.proofs.lemmas.List.{length_push, map-append}
 use Rattle.std.proofs.lemmas.List.Elements.{All-head, All-push, All-tail, All-weaker}
 use Rattle.std.proofs.lemmas.Option.{slice_get-get_or}
 use Rattle.cx_history.proofs.Covered.{covers_more, covers_other, covers_repeat, last_is, own_more, stays}
 use Rattle.cx_history.specs.Held.{IsIndex, IsStanding}
-use Rattle.cx_history.specs.Own.{AreByClient, AreNumbers, AreOfClient, IsOneMore, SameNumbers, Stands, found, request_at, requests_at}
+use Rattle.cx_history.specs.Own.{AreNumbers, AreOfClient, IsOneMore, SameNumbers, Stands, found, request_at, requests_at}
 use Rattle.cx_history.specs.Requests.{Noted}
-use Rattle.cx_history.specs.declared.own.Standing.{Standing}
-use Rattle.cx_history.specs.declared.own.Standing.TheVariants.{Last, Repeat, Odd}
-
-length_more : (requests : List Noted) (m : Noted) → length (requests ++ m ∷ []) ≡ suc (length requests)
-length_more [] m = refl
-length_more (x ∷ requests) m = ap suc (length_more requests m)
+use Rattle.cx_history.specs.declared.own.Standing.TheVariants.{Last, Repeat}
 
 -- a request keeps its number when one more is sent
 at_more : (requests : List Noted) (m : Noted) (number : ℕ) → number < length requests → request_at (requests ++ m ∷ []) number ≡ request_at requests number
@@ -31,7 +26,7 @@ same_requests requests m (number ∷ numbers) are =
 
 still_numbers : (requests : List Noted) (m : Noted) (numbers : List ℕ) → AreNumbers requests numbers → AreNumbers (requests ++ m ∷ []) numbers
 still_numbers requests m numbers are =
-    let more = length_more requests m in
+    let more = length_push requests m in
     All-weaker (λ number. number < length requests) (λ number. number < length (requests ++ m ∷ [])) (λ number inside. omega (arith, inside, more)) numbers are
 
 -- the last of all is one more of its client's own
@@ -46,7 +41,7 @@ last_of_client : (requests : List Noted) (m : Noted) (numbers : List ℕ) → St
     → AreOfClient m.token.client requests numbers → AreOfClient m.token.client (requests ++ m ∷ []) (numbers ++ length requests ∷ [])
 last_of_client requests m numbers above are =
     let same = requests_more requests m numbers are.numbers_are in
-    let more = length_more requests m in
+    let more = length_push requests m in
     record {
       numbers_are = All-push (λ number. number < length (requests ++ m ∷ [])) numbers (length requests) (still_numbers requests m numbers are.numbers_are) (omega (arith, more));
       own = rw same (own_more m.token.client (requests_at requests numbers) m refl above are.own);
@@ -85,30 +80,21 @@ pub index_last : (requests : List Noted) (m : Noted) (clients others : List (Lis
     → IsOneMore m.token.client (length requests) clients others → IsIndex requests clients in_order → IsIndex (requests ++ m ∷ []) others in_order
 index_last requests m clients others in_order stands more index so c =
     equal_or_not c m.token.client
-      (λ same. rw (same, more.its) (last_of_client requests m (get_or clients m.token.client []) (stands so) (index so m.token.client)))
-      (λ other. rw (more.other c other) (of_another c requests m (get_or clients c []) (λ e. other (sym e)) (index so c)))
+    (λ same. rw (same, more.its) (last_of_client requests m (get_or clients m.token.client []) (stands so) (index so m.token.client)))
+    (λ other. rw (more.other c other) (of_another c requests m (get_or clients c []) (λ e. other (sym e)) (index so c)))
 
 -- a repeat is none
 pub index_repeat : (requests : List Noted) (m : Noted) (clients : List (List ℕ)) (in_order : Bool) → IsStanding requests clients in_order m Repeat
     → IsIndex requests clients in_order → IsIndex (requests ++ m ∷ []) clients in_order
 index_repeat requests m clients in_order stands index so c =
     equal_or_not c m.token.client
-      (λ same. rw same (repeat_of_client requests m (get_or clients m.token.client []) (stands so) (index so m.token.client)))
-      (λ other. of_another c requests m (get_or clients c []) (λ e. other (sym e)) (index so c))
+    (λ same. rw same (repeat_of_client requests m (get_or clients m.token.client []) (stands so) (index so m.token.client)))
+    (λ other. of_another c requests m (get_or clients c []) (λ e. other (sym e)) (index so c))
 
 -- the same numbers serve as well
 pub index_same : (requests : List Noted) (clients others : List (List ℕ)) (in_order : Bool) → SameNumbers clients others
     → IsIndex requests clients in_order → IsIndex requests others in_order
 index_same requests clients others in_order same index so c = rw (same c) (index so c)
-
--- no request was sent
-pub index_none : IsIndex [] [] true
-index_none so c =
-    record {
-      numbers_are = λ i d inside. absurd (omega (arith, inside));
-      own = record { theirs = λ i n e. cc; rising = λ i j n m less e f. cc };
-      covers = record { from = λ i n e. cc; all = λ j n e theirs. cc };
-    }
 
 -- after a request that comes last of its client, or out of memory
 pub after_last : {A E : Type 0} (result : Result A E) (requests after : List Noted) (m : Noted) (clients others : List (List ℕ)) (in_order : Bool)

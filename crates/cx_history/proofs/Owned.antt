@@ -1,5 +1,5 @@
 -- A request's place among those of its client tells whether it is stale.
-use Rattle.std.proofs.Common.{◌≡◌, ◌&&◌, ◌||◌, ◌==◌, ◌∷◌, ◌∙◌, ◌<◌, ◌≤◌, [], ℕ, zero, suc, Bool, true, false, not, List, Option, None, Some, nat_le, slice_get, refl, inl, inr, sym, ap, arith, if◌then◌else◌}
+use Rattle.std.proofs.Common.{◌≡◌, ◌&&◌, ◌||◌, ◌==◌, ◌∷◌, ◌∙◌, ◌<◌, ◌≤◌, [], ℕ, zero, suc, Bool, true, false, not, List, Option, None, Some, nat_le, slice_get, refl, inl, inr, sym, ap, arith}
 use Rattle.std.proofs.lemmas.Bool.{cases_Bool}
 use Rattle.std.proofs.lemmas.Bool.Decides.{nat_tests}
 use Rattle.std.specs.List.{list_any}
@@ -50,9 +50,9 @@ module _ (t : Token) (asks : List ℕ) (own : List Noted) (owned : AreOwn t.clie
 
   other_has : (n : Noted) → asks_other t asks n ≡ true → has_token t n ≡ true
   other_has n e = elim (cases_Bool (has_token t n)) [
-      | inl has ↦ has
-      | inr lacks ↦ let wrong : false ≡ true = rw lacks at e in cc
-    ]
+    | inl has ↦ has
+    | inr lacks ↦ let wrong : false ≡ true = rw lacks at e in cc
+  ]
 
   -- what is not below the number stands from the place on
   not_before : (i : ℕ) (n : Noted) → slice_get own i ≡ Some n → t.seq ≤ n.token.seq → place ≤ i
@@ -101,37 +101,37 @@ module _ (t : Token) (asks : List ℕ) (own : List Noted) (owned : AreOwn t.clie
       elim (cases_Bool (bytes_eq asks m.asks)) [
         | inl equal ↦
             let no_other = none_passes (asks_other t asks) own (λ i n at e.
-              let n_same = one_place m there same i n at (token_is n (other_has n e)) in
-              let wrong : (has_token t m && not (bytes_eq asks m.asks)) ≡ true = rw n_same at e in
-              let false_is : (has_token t m && false) ≡ true = rw equal at wrong in
-              no_and (has_token t m) false_is) in
+            let n_same = one_place m there same i n at (token_is n (other_has n e)) in
+            let wrong : (has_token t m && not (bytes_eq asks m.asks)) ≡ true = rw n_same at e in
+            let false_is : (has_token t m && false) ≡ true = rw equal at wrong in
+            no_and (has_token t m) false_is) in
             rw (no_other, has, equal) refl
         | inr other ↦
             let yes = place_any (asks_other t asks) own place m there (rw (has_token_of m (owned.theirs place m there) same, other) refl) in
             rw (yes, other) refl
       ] where
-    no_and : (b : Bool) → (b && false) ≡ true → ⊥
-    no_and true e = cc
-    no_and false e = cc
+        no_and : (b : Bool) → (b && false) ≡ true → ⊥
+        no_and true e = cc
+        no_and false e = cc
 
   at_other : (m : Noted) → slice_get own place ≡ Some m → (m.token.seq ≡ t.seq → ⊥) → is_stale_among t asks own ≡ true
   at_other m there differs =
       let high = is.rest place m (omega arith) there in
       let above = place_any (is_above t) own place m there (is_above_of m (owned.theirs place m there) high) in
       let no_token = none_passes (has_token t) own (λ i n at e.
-        let same = token_is n e in
-        let from = not_before i n at (omega (arith, same)) in
-        elim (cases_Bool (place == i)) [
-          | inl is_so ↦
-              let here : place ≡ i = grind (arith, nat_tests) in
-              let both : Some n ≡ Some m = sym at ∙ ap (slice_get own) (sym here) ∙ there in
-              let is_m : n ≡ m = cc in
-              differs (rw is_m at same)
-          | inr is_not ↦
-              let beyond : place < i = grind (arith, nat_tests) in
-              let less = owned.rising place i m n beyond there at in
-              absurd (omega (arith, less, same, high))
-        ]) in
+      let same = token_is n e in
+      let from = not_before i n at (omega (arith, same)) in
+      elim (cases_Bool (place == i)) [
+        | inl is_so ↦
+            let here : place ≡ i = grind (arith, nat_tests) in
+            let both : Some n ≡ Some m = sym at ∙ ap (slice_get own) (sym here) ∙ there in
+            let is_m : n ≡ m = cc in
+            differs (rw is_m at same)
+        | inr is_not ↦
+            let beyond : place < i = grind (arith, nat_tests) in
+            let less = owned.rising place i m n beyond there at in
+            absurd (omega (arith, less, same, high))
+      ]) in
       rw (no_token, above) (or_yes (list_any (asks_other t asks) own))
 
   tells : (o : Option Noted) → slice_get own place ≡ o → is_stale_at t asks o ≡ is_stale_among t asks own

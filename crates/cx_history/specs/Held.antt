@@ -1,5 +1,5 @@
 -- What is held of the events.
-use Rattle.std.specs.Prelude.{◌≡◌, ℕ, Bool, true, false, List, [], get_or, length}
+use Rattle.std.specs.Prelude.{◌≡◌, ℕ, Bool, true, List, [], get_or, length}
 use Rattle.cx_base.specs.declared.event.Happened.{Happened}
 use Rattle.cx_history.specs.Own.{AreByClient, Stands, requests_at}
 use Rattle.cx_history.specs.Requests.{Noted, requests_in}

@@ -41,12 +41,7 @@ impl Numbers {
     }
 
     // Notes a request, whose number comes after the others.
-    fn push(
-        &mut self,
-        requests: &mut Requests,
-        token: Token,
-        event: &Event,
-    ) -> Result<(), NoMemory>
+    fn push(&mut self, requests: &mut Requests, token: Token, event: &Event) -> Result<(), NoMemory>
         ensures numbers { OnOk result (self.new ≡ self.old ++ length requests.old ∷ []) }
         ensures requests { OnOk result (requests.new ≡ requests.old ++ record { token = token; asks = asked event.now } ∷ []) }
         ensures numbers_left { OnErr result (self.new ≡ self.old) }
