@@ -5,9 +5,11 @@
 //! `Kept::at` read again as it was; `Events::is_stale` is the model's test over all events.
 #![tactic(auto)]
 
+mod by_client;
 mod events;
 mod kept;
 mod kinds;
+mod own;
 mod requests;
 mod scratch;
 mod sent;
