@@ -1,4 +1,4 @@
--- A part of a run that was done or stopped, with what came before it, and behind it.
+-- A part of a run that was done or stopped, with what came before it, and after it.
 use Rattle.std.proofs.Common.{◌≡◌, ℕ, List, [], ◌∷◌, ◌++◌, Option, None, option_map, Result, Ok, Err, refl, sym, ap₂, ◌∙◌, subst}
 use Rattle.std.proofs.KnownBytes.{Appends-nil}
 use Rattle.std.proofs.lemmas.Grind.{flat_map-append}

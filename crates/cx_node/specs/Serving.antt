@@ -68,7 +68,7 @@ abbrev pub whole_run : Option ℕ → Cluster → List Event → (RoleId → Lis
 whole_run tend c events told roles takes = map Bound roles ++ (run_of tend c events told roles takes).actions
 
 -- These actions were done, and no others: the link tells their binds, takes and sends, their bytes are printed, and each hosted role's store
--- has their records of it, behind those that it had. Of a role that isn't hosted nothing was touched.
+-- has their records of it, after those that it had. Of a role that isn't hosted nothing was touched.
 pub record Did (roles : List RoleId) (c : Cluster) (actions : List Action) (old new : Outside) : Type 0 where
   pub link : Linked c actions old.link new.link
   pub printed : Appends old.out new.out (printed_in actions)
