@@ -87,10 +87,13 @@ told_text client (PreRead a b) = []
 told_text client (PreReadAck a b c) = []
 told_text client (Read a b c) = []
 
+-- a number, two roles and a name
+abbrev pub named_text : ℕ → RoleId → RoleId → List ℕ → List ℕ
+named_text n from to name = codes "+" ++ decimal n ++ codes " " ++ role_text from ++ codes " " ++ role_text to ++ codes " " ++ name ++ codes " "
+
 -- the line of a datagram up to its body: its number, who sends it, who gets it, and its name
 unfoldable pub head_text : ℕ → Letter → List ℕ
-head_text n d =
-    codes "+" ++ decimal n ++ codes " " ++ role_text d.from ++ codes " " ++ role_text d.to ++ codes " " ++ name_of_message d.msg ++ codes " "
+head_text n d = named_text n d.from d.to (name_of_message d.msg)
 
 -- the line of a datagram, and behind it what it tells a client
 unfoldable pub datagram_text : ℕ → Letter → List ℕ

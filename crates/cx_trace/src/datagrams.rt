@@ -1,11 +1,11 @@
 //! The lines of datagrams.
 
 ghost use Rattle.std.specs.Prelude.{◌≡◌, ◌+◌, ◌<◌, ◌^◌, ◌++◌, length, OnErr, OnOk};
-ghost use Rattle.cx_trace.specs.Trace.{datagram_text, datagrams_text, head_text, told_text};
+ghost use Rattle.cx_trace.specs.Trace.{datagram_text, datagrams_text, head_text, named_text, told_text};
 
 use crate::put::{put, put_hex, put_number, put_role};
 use crate::replies::{put_answer, put_read};
-use cx_base::NoMemory;
+use cx_base::{NoMemory, RoleId};
 use cx_msg::{Datagram, Msg, body_into};
 use std::alloc::Global;
 
@@ -21,20 +21,33 @@ pub fn put_told(text: &mut Vec<u8>, client: u16, msg: &Msg) -> Result<(), NoMemo
     }
 }
 
-// The line of a datagram up to its body.
-#[tactic(auto, unfolding(crate::specs::Trace::head_text))]
-fn put_head(text: &mut Vec<u8>, n: u64, datagram: &Datagram) -> Result<(), NoMemory>
-    ensures { OnOk result (text.new.items ≡ text.old.items ++ head_text n datagram.now) }
+// A number, two roles and a name, as the line of a datagram begins with them.
+fn put_named(
+    text: &mut Vec<u8>,
+    n: u64,
+    from: RoleId,
+    to: RoleId,
+    name: &str,
+) -> Result<(), NoMemory>
+    ensures { OnOk result (text.new.items ≡ text.old.items ++ named_text n from to name.now) }
 {
     put(text, b"+")?;
     put_number(text, n)?;
     put(text, b" ")?;
-    put_role(text, datagram.from())?;
+    put_role(text, from)?;
     put(text, b" ")?;
-    put_role(text, datagram.to())?;
+    put_role(text, to)?;
     put(text, b" ")?;
-    put(text, datagram.msg().name().as_bytes())?;
+    put(text, name.as_bytes())?;
     put(text, b" ")
+}
+
+// The line of a datagram up to its body.
+fn put_head(text: &mut Vec<u8>, n: u64, datagram: &Datagram) -> Result<(), NoMemory>
+    ensures { OnOk result (text.new.items ≡ text.old.items ++ head_text n datagram.now) }
+{
+    let name = datagram.msg().name();
+    put_named(text, n, datagram.from(), datagram.to(), name)
 }
 
 #[tactic(auto, unfolding(crate::specs::Trace::datagram_text))]
