@@ -8,7 +8,6 @@
 
 mod cluster;
 mod command;
-mod command_list;
 mod count;
 mod event;
 mod faults;
@@ -28,7 +27,6 @@ mod why;
 
 pub use cluster::Cluster;
 pub use command::{Answered, Command, Commands, Op, Pair, Placed, Reply, Value, Values};
-pub use command_list::CommandList;
 pub use count::count_of;
 pub use event::{Cut, Event, Happened, Order};
 pub use faults::Faults;

@@ -7,8 +7,6 @@
 #[cfg(test)]
 mod history_tests;
 #[cfg(test)]
-mod plain_tests;
-#[cfg(test)]
 mod request_tests;
 #[cfg(test)]
 mod trace_tests;
