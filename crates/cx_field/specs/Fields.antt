@@ -14,6 +14,8 @@ use Rattle.cx_base.specs.declared.command.Reply.{Reply}
 use Rattle.cx_base.specs.declared.command.Reply.TheVariants.{Okay, Was, Absent, Len, Full}
 use Rattle.cx_base.specs.declared.command.Answered.{Answered}
 use Rattle.cx_field.specs.declared.parts.Entry.{Entry}
+use Rattle.cx_field.specs.declared.parts.NackReason.{NackReason}
+use Rattle.cx_field.specs.declared.parts.NackReason.TheVariants as nack
 use Rattle.cx_field.specs.declared.parts.Vote.{Vote}
 use Rattle.cx_field.specs.declared.parts.Token.{Token}
 use Rattle.cx_wire.specs.Format.{Format, u8, u16, u32, u64, only, whole, then_by, ◌▷◌, nothing, shaped, times, counted, Shape, shape, Case, case, tagged}
@@ -178,9 +180,19 @@ found_cases = case 0 nothing (λ _. None) ∷ case 1 (name 64) (λ x. Some x) �
 unfoldable pub found : Format (Option (List ℕ))
 found = tagged found_shape found_cases
 
--- why a matchmaker refuses: 0, 1 or 2
-unfoldable pub reason : Format ℕ
-reason = only (λ n. nat_le n 2) u8
+-- why a matchmaker refuses a round: 0 it is collected, 1 a later one is recorded, 2 there is no room
+abbrev pub reason_shape : NackReason → Shape
+reason_shape nack.Collected = shape 0 nothing tt
+reason_shape nack.Later = shape 1 nothing tt
+reason_shape nack.Full = shape 2 nothing tt
+
+-- how each reason is read
+abbrev pub reason_cases : List (Case NackReason)
+reason_cases = case 0 nothing (λ _. nack.Collected) ∷ case 1 nothing (λ _. nack.Later) ∷ case 2 nothing (λ _. nack.Full) ∷ []
+
+-- why a matchmaker refuses a round
+unfoldable pub reason : Format NackReason
+reason = tagged reason_shape reason_cases
 
 -- a read: its client and its number
 unfoldable pub token : Format Token

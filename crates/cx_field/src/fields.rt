@@ -13,7 +13,7 @@ ghost use Rattle.cx_field.specs.Reading.{Reads, Gives};
 use crate::fault::ReadFault;
 use crate::items::{items_from, list_from};
 use crate::lists::{AnsweredItems, CommandItems, EntryItems, MemberItems, ValueItems, VoteItems};
-use crate::parts::{Answers, Entries, LogValues, Token, Votes};
+use crate::parts::{Answers, Entries, LogValues, NackReason, Token, Votes};
 use crate::reader::Reader;
 use cx_base::{
     Command, Commands, Few, Grid, MEMBERS, Name, Op, Reply, Round, SLOTS, Text, Value, is_name_byte,
@@ -279,17 +279,18 @@ pub fn token_from(reader: &mut Reader<'_>) -> Result<Token, ReadFault>
     Ok(Token { client, seq })
 }
 
-/// Why a matchmaker refuses: a byte, 0, 1 or 2.
+/// Why a matchmaker refuses a round: a byte, 0 it is collected, 1 a later one is recorded, 2 there is no room.
 #[tactic(auto, unfolding(crate::specs::Fields::reason))]
-pub fn reason_from(reader: &mut Reader<'_>) -> Result<u8, ReadFault>
+pub fn reason_from(reader: &mut Reader<'_>) -> Result<NackReason, ReadFault>
     ensures { Reads field.reason reader.old result reader.new }
 {
     let left = reader.left();
-    let reason = reader.u8()?;
-    if reason > 2 {
-        return Err(ReadFault::Bad { left });
+    match reader.u8()? {
+        0 => Ok(NackReason::Collected),
+        1 => Ok(NackReason::Later),
+        2 => Ok(NackReason::Full),
+        _ => Err(ReadFault::Bad { left }),
     }
-    Ok(reason)
 }
 
 /// What a read found: a byte, 0 for nothing or 1 before a text.

@@ -20,11 +20,11 @@ pub use fields::{
     mark_from, name_from, reason_from, reply_from, round_from, round0_from, seq_from, slot_from,
     token_from, value_from, values_from, votes_from,
 };
-pub use parts::{Answers, Entries, Entry, LogValues, Token, Vote, Votes};
+pub use parts::{Answers, Entries, Entry, LogValues, NackReason, Token, Vote, Votes};
 pub use put::{
     put_answers, put_at, put_command, put_commands, put_entries, put_found, put_grid, put_mark,
     put_name, put_reason, put_reply, put_round, put_seq, put_slot, put_token, put_value,
     put_values, put_votes,
 };
-pub use ranges::{found_fits, grid_fits, name_fits, op_fits, reply_fits};
+pub use ranges::{found_fits, grid_fits, name_fits, op_fits, reason_fits, reply_fits};
 pub use reader::Reader;

@@ -49,6 +49,17 @@ impl Duplicate for Token {
     }
 }
 
+/// Why a matchmaker does not record a round.
+#[derive(Clone, Copy, PartialEq, Eq)]
+pub enum NackReason {
+    /// The round is below the watermark.
+    Collected,
+    /// A later round is recorded.
+    Later,
+    /// There is no room for another round.
+    Full,
+}
+
 /// Entries of a matchmaker, at most 17, of strictly rising rounds.
 pub type Entries = Few<Entry, 0, ENTRIES>;
 

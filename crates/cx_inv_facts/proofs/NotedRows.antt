@@ -35,7 +35,7 @@ use Rattle.cx_model.specs.declared.states.Promised.{Promised}
 use Rattle.cx_model.specs.declared.states.Stage.TheVariants.{Collecting, Retired}
 use Rattle.cx_model.specs.Collection.{Collection, collection_from, with_informed, with_forgotten, is_off, is_informing, is_collecting, is_retired}
 use Rattle.cx_model.specs.Facts.{LeaderWasTold}
-use Rattle.cx_model.specs.Leader.{LeaderDurable, LeaderVolatile, round_of, is_own, is_idle, is_matching, is_promising, is_leading, begin_in, finish, matched_by, match_counted, promise_counted, with_seen, propose_in, collect_in, informed_counted, informed_in, forgotten_counted, is_past_window, is_settled, reaching, greatest_of, held_by, raised_to, leader_takes, tick_in, order_row, leader_row}
+use Rattle.cx_model.specs.Leader.{LeaderDurable, LeaderVolatile, round_of, is_own, is_idle, is_matching, is_promising, is_leading, begin_in, finish, matched_by, match_counted, promise_counted, with_seen, propose_in, collect_in, informed_counted, informed_in, forgotten_counted, is_past_window, is_settled, reaching, greatest_of, held_by, raised_to, leader_takes, tick_in, order_row, leader_row, has_no_room}
 use Rattle.cx_model.specs.Matched.{enough, is_counted, live_entries, is_member_of, rows_whole}
 use Rattle.cx_model.specs.Member.{Member}
 use Rattle.cx_model.specs.Names.{names, names_grid}
@@ -315,7 +315,7 @@ module _ (c : Cluster) (history : List KeptRecord) (sent : List Letter) (states 
   took from (msg.MatchNack j reason other) is_sent =
       let named : IsNamed sent me other = inr (j, reason, (from, is_sent)) in
       either_way NotesOn (is_idle v.mode || not (is_own d j)) _ _ (goes_on why.Old _ [] (heard v.mode other named))
-      (either_way NotesOn (reason == 2) _ _ (goes_on why.Full _ [] (heard v.mode other named)) (goes_on why.Nacked _ [] (heard Idle other named)))
+      (either_way NotesOn (has_no_room reason) _ _ (goes_on why.Full _ [] (heard v.mode other named)) (goes_on why.Nacked _ [] (heard Idle other named)))
   took from (msg.Phase1B j low votes) is_sent =
       either_way NotesOn (not (is_promising v.mode && is_own d j)) _ _ (stays why.Old)
       (either_way NotesOn (not (is_member_of (live_entries v.told) from.index)) _ _ (stays why.Unasked)

@@ -13,6 +13,7 @@ use Rattle.cx_base.specs.declared.round.Round.{Round}
 use Rattle.cx_base.specs.Grid.{Shape}
 use Rattle.cx_base.specs.Role.{role}
 use Rattle.cx_base.specs.Round.{no_round}
+use Rattle.cx_field.specs.declared.parts.NackReason.{NackReason}
 use Rattle.cx_field.specs.declared.parts.Vote.{Vote}
 use Rattle.cx_msg.specs.Letter.{Letter, letter}
 use Rattle.cx_msg.specs.declared.kept.Record.TheVariants as kept
@@ -34,7 +35,7 @@ Came sent me m = (from : RoleId) × Member (letter from me m) sent
 
 -- a refusal that came to the leader names this round
 abbrev pub IsNamed : List Letter → RoleId → Round → Type 0
-IsNamed sent me j = ((i : Round) × Came sent me (msg.Nack i j)) ⊎ ((i : Round) × (reason : ℕ) × Came sent me (msg.MatchNack i reason j))
+IsNamed sent me j = ((i : Round) × Came sent me (msg.Nack i j)) ⊎ ((i : Round) × (reason : NackReason) × Came sent me (msg.MatchNack i reason j))
 
 -- a promise that came to the leader has this watermark
 abbrev pub IsPromised : List Letter → RoleId → ℕ → Type 0

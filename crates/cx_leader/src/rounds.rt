@@ -6,7 +6,6 @@ ghost use Rattle.cx_model.specs.Leader.{round_of, follows, begin_in, lead_row, c
 ghost use Rattle.cx_model.specs.Names.{names_round, names_grid};
 ghost use Rattle.cx_model.specs.Rules.{IsFit};
 ghost use Rattle.cx_field.specs.Fields as field;
-ghost use Rattle.cx_role.specs.declared.role.StepFault.TheVariants as fault;
 ghost use Rattle.cx_role.specs.Role.{Steps, StaysAt, FailsAt, KeepsDurable, takes_no_memory};
 
 use crate::Leader;
@@ -14,10 +13,10 @@ use crate::sending::{ask_matchmakers, matchmakers};
 use cx_base::{Cluster, Grid, Round, Why};
 use cx_collect::Collector;
 use cx_field::{Entry, grid_fits};
-use cx_keeper::{KeepFault, Keeper};
+use cx_keeper::Keeper;
 use cx_model::Mode;
 use cx_msg::Record;
-use cx_role::{Outbox, StepFault, names_grid, names_round};
+use cx_role::{Outbox, StepFault, keep, names_grid, names_round};
 
 /// Whether two rounds are the same.
 pub fn is_same(a: Round, b: Round) -> bool
@@ -85,14 +84,11 @@ impl Leader {
         let count = matchmakers(&self.cluster);
         out.room(usize::from(count))?;
         grid_fits(grid);
-        match keeper.append(&Record::Round { round, grid: *grid }) {
-            Ok(()) => {}
-            Err(KeepFault::NoMemory) => return Err(StepFault::NoMemory),
-            Err(KeepFault::Failed) => {
-                self.live = false;
-                return Err(StepFault::Failed);
-            }
-        }
+        keep(
+            keeper,
+            &mut self.live,
+            &Record::Round { round, grid: *grid },
+        )?;
         self.own = Some(Entry { round, grid: *grid });
         self.mode = Mode::Matching;
         self.told.clear();

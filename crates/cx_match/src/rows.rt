@@ -10,7 +10,7 @@ ghost use Rattle.cx_role.specs.Role.{Replies, Steps, StaysAt, FailsAt, KeepsDura
 use crate::Matchmaker;
 use crate::entries::{earlier, has_entry, has_later, last_round, retire, told};
 use cx_base::{Grid, NoMemory, ROUNDS, RoleId, Round, Why};
-use cx_field::{Entry, Token};
+use cx_field::{Entry, NackReason, Token};
 use cx_keeper::Keeper;
 use cx_msg::{Record, garbage_b, match_b, match_nack, match_read_ack};
 use cx_role::{Outbox, StepFault, keep};
@@ -40,13 +40,19 @@ impl Matchmaker {
     {
         if round.is_before(&self.watermark) {
             out.room(1)?;
-            out.push(match_nack(self.me.index, from.index, round, 0, self.watermark));
+            out.push(match_nack(
+                self.me.index,
+                from.index,
+                round,
+                NackReason::Collected,
+                self.watermark,
+            ));
             return Ok(Why::Collected);
         }
         if has_later(&self.entries, round) {
             let last = last_round(&self.entries);
             out.room(1)?;
-            out.push(match_nack(self.me.index, from.index, round, 1, last));
+            out.push(match_nack(self.me.index, from.index, round, NackReason::Later, last));
             return Ok(Why::Later);
         }
         if has_entry(&self.entries, round) {
@@ -58,7 +64,7 @@ impl Matchmaker {
         if self.entries.len() >= ROUNDS {
             let last = last_round(&self.entries);
             out.room(1)?;
-            out.push(match_nack(self.me.index, from.index, round, 2, last));
+            out.push(match_nack(self.me.index, from.index, round, NackReason::Full, last));
             return Ok(Why::Full);
         }
         let entries = earlier(self.alloc, &self.entries, round)?;

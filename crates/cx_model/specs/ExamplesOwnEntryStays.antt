@@ -8,6 +8,7 @@ use Rattle.cx_base.specs.declared.round.Round.{Round}
 use Rattle.cx_base.specs.declared.why.Why.TheVariants as why
 use Rattle.cx_base.specs.Grid.{Shape, make_grid}
 use Rattle.cx_base.specs.Round.{no_round}
+use Rattle.cx_field.specs.declared.parts.NackReason.TheVariants as nack
 use Rattle.cx_msg.specs.Letter.{letter}
 use Rattle.cx_msg.specs.declared.kept.Record.TheVariants as kept
 use Rattle.cx_msg.specs.declared.message.Msg.TheVariants as msg
@@ -96,7 +97,7 @@ story =
     ∷ deliver 8 ⇒ why.Same
     sending letter (matchmaker 2) (leader 0) (msg.MatchB next next [])  -- 23
     ∷ deliver 2 ⇒ why.Collected
-    sending letter (matchmaker 2) (leader 0) (msg.MatchNack first 0 next)  -- 24
+    sending letter (matchmaker 2) (leader 0) (msg.MatchNack first nack.Collected next)  -- 24
     ∷ event.Read 0 1 0 0 (codes "a") ⇒ why.Sent
     sending letter (client 0) (reader 0) (msg.ReadReq 1 0 (codes "a"))  -- 25
     ∷ deliver 25 ⇒ why.Started

@@ -19,6 +19,8 @@ use Rattle.cx_msg.specs.Letter.{Letter, letter}
 use Rattle.cx_msg.specs.declared.input.Input.{Input}
 use Rattle.cx_msg.specs.declared.input.Input.TheVariants.{Take, Tick, Order}
 use Rattle.cx_field.specs.declared.parts.Entry.{Entry}
+use Rattle.cx_field.specs.declared.parts.NackReason.{NackReason}
+use Rattle.cx_field.specs.declared.parts.NackReason.TheVariants as nack
 use Rattle.cx_field.specs.declared.parts.Vote.{Vote}
 use Rattle.cx_msg.specs.declared.message.Msg.{Msg}
 use Rattle.cx_msg.specs.declared.message.Msg.TheVariants as msg
@@ -181,11 +183,17 @@ nack_row d v i promise =
     if is_idle v.mode || not (is_own d i) then answered why.Old (with_seen promise v)
     else answered why.Nacked (record (with_seen promise v) { mode = Idle })
 
+-- whether a matchmaker refuses since it has no room
+abbrev pub has_no_room : NackReason → Bool
+has_no_room nack.Full = true
+has_no_room nack.Collected = false
+has_no_room nack.Later = false
+
 -- a matchmaker doesn't record the round, and reports a greater one; where it has no room the leader goes on
-abbrev pub match_nack_row : LeaderDurable → LeaderVolatile → Round → ℕ → Round → Outcome LeaderVolatile
+abbrev pub match_nack_row : LeaderDurable → LeaderVolatile → Round → NackReason → Round → Outcome LeaderVolatile
 match_nack_row d v i reason other =
     if is_idle v.mode || not (is_own d i) then answered why.Old (with_seen other v)
-    else if reason == 2 then answered why.Full (with_seen other v)
+    else if has_no_room reason then answered why.Full (with_seen other v)
     else answered why.Nacked (record (with_seen other v) { mode = Idle })
 
 -- The slots from cw on that the leader may propose at are a window of 32, and slots end at 2^40.

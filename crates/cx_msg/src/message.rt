@@ -6,7 +6,7 @@ ghost use Rattle.cx_msg.specs.Names.{name_of_message};
 use crate::names::name_of_kind;
 use crate::put_bodies::kind_of;
 use cx_base::{Command, Commands, Grid, Key, Reply, Round, Text, Value};
-use cx_field::{Answers, Entries, Token, Votes};
+use cx_field::{Answers, Entries, NackReason, Token, Votes};
 
 /// What a datagram says. Rounds are real ones, but for a watermark, which may be none; slots are below 2^40; `cw` and
 /// `mark` are numbers of slots, at most 2^40; a client's numbers are 1 or more.
@@ -35,10 +35,10 @@ pub enum Msg {
         watermark: Round,
         entries: Entries,
     },
-    /// The round is not recorded: it is collected (0), a later one is recorded (1), or there is no room (2).
+    /// The round is not recorded. The other round is the watermark where it is collected, else the greatest that is recorded.
     MatchNack {
         round: Round,
-        reason: u8,
+        reason: NackReason,
         other: Round,
     },
     /// Asks an acceptor to promise a round.
