@@ -13,7 +13,7 @@ ghost use Rattle.cx_node.specs.Tending.{first_care};
 
 use crate::care::Care;
 use crate::{Doing, Seat};
-use cx_base::{Cluster, NoMemory, RoleId};
+use cx_base::{Cluster, MAX_DATAGRAM_LENGTH, NoMemory, RoleId};
 use cx_edge::{Link, Sink};
 use cx_keeper::Keeper;
 use cx_role::Outbox;
@@ -21,7 +21,7 @@ use std::alloc::Global;
 use std::marker::Model;
 
 /// More bytes than a datagram has, so that a longer one can't pass for one that it begins with.
-pub const BUFFER: usize = 32_769;
+pub const BUFFER: usize = MAX_DATAGRAM_LENGTH + 1;
 
 /// Why a run stopped before its end.
 #[derive(Clone, Copy)]
