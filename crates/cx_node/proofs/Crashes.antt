@@ -124,8 +124,10 @@ own_tag k (kept_record.Log values) is = subst (λ (own : Kind). may_keep (Some o
 
 -- a role keeps records of its own kind, so its kind's journal may have them where their fields are in their ranges
 module _ (me : RoleId) where
-  AreFit AreOwn : List Record → Type 0
+  abbrev AreFit : List Record → Type 0
   AreFit rs = all_kept_by None rs ≡ true
+
+  abbrev AreOwn : List Record → Type 0
   AreOwn rs = all_kept_by (Some me.kind) rs ≡ true
 
   own_more : (r : Record) (rs : List Record) → IsKeeper me.kind r → (AreFit rs → AreOwn rs) → AreFit (r ∷ rs) → AreOwn (r ∷ rs)
