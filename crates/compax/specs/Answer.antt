@@ -32,9 +32,9 @@ Hosts (Some Replay) = ⊥
 Hosts (Some (Generate seed count)) = ⊥
 Hosts (Some (Node turns tend roles)) = Unit {0}
 
--- What was answered to what the words say: the outside before and after, what it tells and how often it has failed.
+-- What was answered to what the words say: the outside before and after, what is known of it and how often it has failed.
 pub record Answered (said : Option Invocation) (old new : Outside) (s : Status) : Type 0 where
-  -- Bad words are told exactly by the words, and then nothing is written; those of a node also by its header.
+  -- Bad words are known exactly by the words, and then nothing is written; those of a node also by its header.
   pub bad_words : (Hosts said → ⊥) → s ≡ status.BadWords → said ≡ None
   pub refused : said ≡ None → (s ≡ status.BadWords) ⊎ (s ≡ status.NoMemory)
   pub unwritten : said ≡ None → (new.out ≡ old.out) × (new.writes ≡ old.writes)

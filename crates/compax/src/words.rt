@@ -18,12 +18,12 @@ use std::alloc::{AllocError, Global};
 pub enum Invocation {
     /// To replay a schedule: `replay`.
     Replay,
-    /// To run so many events that are made from a seed: `gen SEED COUNT`.
+    /// To run COUNT events that are made from a seed: `gen SEED COUNT`.
     Generate {
         seed: u64,
         count: u16,
     },
-    /// To host these roles for so many turns at most, and to tend them where a number is given: `node --turns N --tend N ROLE..`.
+    /// To host these roles for at most N turns, and to tend them where a number is given: `node --turns N --tend N ROLE..`.
     Node {
         turns: u32,
         tend: Option<u32>,

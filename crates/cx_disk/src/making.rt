@@ -33,8 +33,8 @@ pub(crate) fn copy_in(alloc: Global, bytes: &[u8], room: usize) -> Result<Vec<u8
 
 impl MemDisk {
     /// A disk that holds these bytes for certain. Its calls of `read`, `write_at`, `cut` and `sync` are numbered from 0; those
-    /// with the numbers in `fails` fail. After so many calls as `stop_after` says, if it does, every call fails and changes
-    /// nothing. All memory is taken here, and a call that would need more than this room fails too.
+    /// with the numbers in `fails` fail. From the call with the number in `stop_after` on, if there is one, every call fails and
+    /// changes nothing. All memory is taken here, and a call that would need more than this room fails too.
     pub fn new(
         alloc: Global,
         bytes: &[u8],

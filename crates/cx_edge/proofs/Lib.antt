@@ -1,3 +1,4 @@
+mod BindLaws
 mod DeskLaws
 mod FileLaws
 pub mod HeldLaws

@@ -25,7 +25,7 @@ abbrev pub count_of : RoleId → List CountRow → ℕ
 count_of role [] = 18446744073709551615
 count_of role (row ∷ rest) = if of_role role row then row.count else count_of role rest
 
--- the counts with so many more faults of a role
+-- the counts with these further faults of a role
 abbrev pub counted : RoleId → ℕ → List CountRow → List CountRow
 counted role faults [] = []
 counted role faults (row ∷ rest) = if of_role role row then record row { count = plus row.count faults } ∷ rest else row ∷ counted role faults rest

@@ -8,7 +8,7 @@ ghost use Rattle.cx_edge.specs.FileDisk.{faults_of};
 
 use crate::desk::Desk;
 use crate::{Depot, FileDisk};
-use cx_base::{NoMemory, RoleId};
+use cx_base::{MAX_RECORD_LENGTH, NoMemory, RoleId};
 use cx_disk::{Disk, Failed};
 use std::alloc::Global;
 use std::fs::File;
@@ -63,7 +63,7 @@ fn names_of(alloc: Global, roles: &[RoleId]) -> Result<Vec<StoreName>, NoMemory>
 
 /// The most bytes that an append to an empty journal leaves while its gate is still closed: the gate, the record's length, the
 /// longest record, and the next gate.
-const FIRST_RECORD: u64 = 1 + 4 + 32_768 + 1;
+const FIRST_RECORD: u64 = 1 + 4 + MAX_RECORD_LENGTH as u64 + 1;
 
 /// Whether the file may be a journal: it is empty, or begins with an open gate, or with a closed one that has one record at most
 /// after it. A torn write of the gate could leave any byte on a disk as it is assumed elsewhere; a file keeps the old byte or the

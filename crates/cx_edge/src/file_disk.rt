@@ -1,4 +1,4 @@
-//! A disk over a file of the operating system. What the file holds, no clause tells.
+//! A disk over a file of the operating system. What the file holds is not known to any clause.
 
 ghost use Rattle.std.specs.Prelude.{◌≡◌, ◌<◌, ◌^◌, ℕ, None, IfOk, ⊤};
 

@@ -2,8 +2,8 @@
 //!
 //! All that a program reads, writes, sends and stores goes through it; real sockets and files are
 //! only tested. Its theorems are: a call fails only where its count of failures rises, which nothing
-//! else raises; what was read, written, sent (until a link lacks room) and stored is told exactly,
-//! except by sockets and files; `Lines` gives each line of a source.
+//! else raises; what was read, written, sent (until a link lacks room) and stored is known exactly,
+//! except of sockets and files; `Lines` gives each line of a source.
 #![tactic(auto)]
 
 mod adapters;

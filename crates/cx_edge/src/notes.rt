@@ -12,7 +12,7 @@ use std::alloc::Global;
 use std::collections::VecDeque;
 use std::marker::Model;
 
-/// A datagram of somebody else, which is put in front of the queue before the take with this number.
+/// A datagram from outside, which is put before all that wait just before the take with this number.
 #[derive(Drop)]
 pub struct Front {
     pub before: u64,
@@ -62,7 +62,7 @@ fn queue(waiting: &mut VecDeque<Piece>, piece: Piece, is_lost: bool)
     }
 }
 
-/// Puts the datagram in front if it is one of this number.
+/// Puts the datagram before all that wait if it has this number.
 fn put_one(waiting: &mut VecDeque<Piece>, front: &FrontRow, call: u64)
     ensures { (n : ℕ) → FrontFits n front.now → All (Fits n) waiting.old.items → All (Fits n) waiting.new.items }
 {
@@ -71,7 +71,7 @@ fn put_one(waiting: &mut VecDeque<Piece>, front: &FrontRow, call: u64)
     }
 }
 
-/// Puts the datagrams of this number in front.
+/// Puts the datagrams of this number before all that wait.
 fn put_all(waiting: &mut VecDeque<Piece>, fronts: &[FrontRow], call: u64)
     ensures { (n : ℕ) → All (FrontFits n) fronts.now → All (Fits n) waiting.old.items → All (Fits n) waiting.new.items }
 {
@@ -117,7 +117,7 @@ impl Notes {
         true
     }
 
-    /// Puts those in front that come before the take with this number. It takes no memory.
+    /// Puts those before all that wait that come before the take with this number. It takes no memory.
     pub(crate) fn put_in_front(&mut self, call: u64)
         ensures taken { self.new.taken ≡ self.old.taken }
         ensures sent { self.new.sent ≡ self.old.sent }

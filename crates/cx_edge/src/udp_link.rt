@@ -1,7 +1,7 @@
 //! A link over UDP sockets of this machine.
 
 ghost use Rattle.std.specs.Prelude.{◌≡◌, None, IfOk};
-ghost use Rattle.cx_edge.specs.UdpLink.{TakenFits};
+ghost use Rattle.cx_edge.specs.UdpLink.{EndsAs, TakenFits};
 
 use crate::{Link, TakeEnd};
 use cx_base::{Faults, NoMemory, RoleId};
@@ -24,8 +24,8 @@ struct Bound {
     socket: UdpSocket,
 }
 
-/// Carries datagrams over one socket of 127.0.0.1 for each bound role. While datagrams come, a take doesn't wait; where none comes,
-/// it waits for one, a millisecond at most. It tells no histories.
+/// Carries datagrams over one socket of 127.0.0.1 for each bound role. While datagrams come, a take doesn't wait. Where none
+/// comes, it waits for one, a millisecond at most. Its history isn't known.
 #[derive(Drop)]
 pub struct UdpLink<N> {
     net: N,
@@ -48,7 +48,7 @@ impl<N> Model for UdpLink<N> {
 }
 
 impl<N: Net> UdpLink<N> {
-    /// The link with no role bound and room for so many. All memory is taken here, none by a call.
+    /// The link with no role bound and room for `room` roles. All memory is taken here, none by a call.
     pub fn new(alloc: Global, net: N, room: usize) -> Result<Self, NoMemory>
     where
         N: Drop,
@@ -89,6 +89,10 @@ fn is_registered(poll: &Option<Poll>, socket: &mut UdpSocket) -> bool {
     }
 }
 
+fn is_bound(sockets: &[Bound], role: RoleId) -> bool {
+    sockets.iter().any(|bound| role.is(bound.role))
+}
+
 /// Sends from the role's socket, and says whether all bytes were taken.
 fn is_sent(sockets: &[Bound], from: RoleId, port: u16, bytes: &[u8]) -> bool {
     for bound in sockets {
@@ -102,20 +106,28 @@ fn is_sent(sockets: &[Bound], from: RoleId, port: u16, bytes: &[u8]) -> bool {
     false
 }
 
-/// Takes a datagram from one socket. An answer of the network to an earlier send is no datagram, and no fault.
+/// What a take answers where a socket gave an error of this kind. That nothing is there is no fault, nor is an answer of the
+/// network to an earlier send.
+fn end_of(kind: ErrorKind) -> TakeEnd
+    ensures { EndsAs kind result }
+{
+    match kind {
+        ErrorKind::WouldBlock
+        | ErrorKind::ConnectionRefused
+        | ErrorKind::ConnectionReset
+        | ErrorKind::HostUnreachable
+        | ErrorKind::NetworkUnreachable => TakeEnd::Nothing,
+        _ => TakeEnd::Failed,
+    }
+}
+
+/// Takes a datagram from one socket.
 fn received(socket: &UdpSocket, buffer: &mut [u8]) -> TakeEnd
     ensures { TakenFits buffer.new result }
 {
     match socket.recv_from(buffer) {
         Ok((count, _)) => TakeEnd::Got(count),
-        Err(error) => match error.kind() {
-            ErrorKind::WouldBlock
-            | ErrorKind::ConnectionRefused
-            | ErrorKind::ConnectionReset
-            | ErrorKind::HostUnreachable
-            | ErrorKind::NetworkUnreachable => TakeEnd::Nothing,
-            _ => TakeEnd::Failed,
-        },
+        Err(error) => end_of(error.kind()),
     }
 }
 
@@ -143,8 +155,8 @@ const GATHER: u64 = 50;
 /// How long each further one waits, in microseconds.
 const WAIT: u64 = 1_000;
 
-/// Waits for a datagram, at most so long. An event only ends the wait, since the poll tells each one once: which sockets have a
-/// datagram is asked of the sockets. A failure ends it too.
+/// Waits for a datagram, for at most this time. An event only ends the wait, since the poll reports each one once: which sockets
+/// have a datagram is asked of the sockets. A failure ends it too.
 fn wait<A: Allocator>(poll: &mut Option<Poll>, events: &mut Events<A>, micros: u64) {
     if let Some(poll) = poll {
         let _ = poll.poll(events, Some(Duration::from_micros(micros)));
@@ -159,7 +171,7 @@ impl<N: Net + Clock> Link for UdpLink<N> {
     ghost losses = { λ l. l.losses };
 
     fn bind(&mut self, role: RoleId, port: u16) -> Result<(), Failed> {
-        if self.sockets.len() < self.sockets.capacity() {
+        if self.sockets.len() < self.sockets.capacity() && !is_bound(&self.sockets, role) {
             if let Ok(mut socket) = opened(&self.net, port) {
                 if is_registered(&self.poll, &mut socket) {
                     self.sockets.push_reserved(Bound { role, socket });

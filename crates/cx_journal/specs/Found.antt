@@ -33,13 +33,13 @@ abbrev pub IsStopAt : ℕ → Result Record ℕ → Stop → Type 0
 IsStopAt at read (stop.Break place) = (image : Image) → with_first at read image ≡ Err place
 IsStopAt at read stop.NoMemory = Unit {0}
 
--- the fault is the first break of the bytes, or of the outside
+-- the fault is the first break of the bytes, a failure of the disk, or out of memory
 abbrev pub IsFaultOf : Option Kind → List ℕ → OpenFault → Type 0
 IsFaultOf k bytes (fault.NotJournal at byte) = IsBreak k bytes at byte
 IsFaultOf k bytes fault.Failed = Unit {0}
 IsFaultOf k bytes fault.NoMemory = Unit {0}
 
--- the outside failed, or memory ran out
+-- the disk failed, or memory ran out
 abbrev pub IsOutside : OpenFault → Type 0
 IsOutside (fault.NotJournal at byte) = ⊥
 IsOutside fault.Failed = Unit {0}

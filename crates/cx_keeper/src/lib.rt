@@ -1,8 +1,8 @@
 //! Keepers: what keeps the records of a role, so that they outlive its crash.
 //!
 //! Roles know the trait `Keeper` alone; journals implement it too. Its theorem is the trait's
-//! contract at `MemKeeper`: an append answered with Ok leaves the list and the record, a failed one
-//! the list with the record or without it, and `recover` gives the list.
+//! contract at `MemKeeper`: after an append answered with Ok the list has the record, after a failed
+//! one it has it or not, and `recover` gives the list. Out of memory, nothing changes.
 #![tactic(auto)]
 
 mod keeper;

@@ -16,8 +16,8 @@ pub struct Piece {
     pub size: usize,
 }
 
-/// Records in the order in which they were kept. What is held is the bytes that spell them, all in one buffer: a record is read
-/// when it is asked for.
+/// Records in the order in which they were kept. What is held is the bytes that spell them, all in one buffer. A record is
+/// read when it is asked for.
 #[derive(Drop)]
 pub struct Records {
     alloc: Global,
@@ -120,7 +120,7 @@ impl Records {
         read_pieces(self.alloc, &self.bytes, &self.pieces)
     }
 
-    /// Notes one more behind the others. Out of memory, it changes nothing.
+    /// Adds a record at the end. Out of memory, nothing changes.
     pub fn push(&mut self, what: &Record) -> Result<(), NoMemory>
         requires { IsTrue (fits what.now) }
         ensures ok { OnOk result (self.new ≡ self.old ++ what.now ∷ []) }

@@ -83,7 +83,7 @@ owner role (g ∷ gs) = elim (cases_Bool (same_role (who g) role)) [
 
 module _ {D : Type 0} (seen : D → Option (List ℕ)) (may_leave : D → List ℕ → Type 0) (moment : D → ℕ) (left_since : D → ℕ → List ℕ → Type 0) (disk_faults : D → ℕ)
     (c : Cluster) (events : List Event) (told_by : Bool) (held : RoleId → List ℕ) (held_mid held_after : RoleId → List ℕ) (faults faults_after : RoleId → ℕ) (roles : List RoleId) (guests : List (Guest (JournalState D))) where
-  -- what is held for a role is what its store tells
+  -- what is held for a role is what its store holds
   closed_told : (after : List (Guest (JournalState D))) (i : ℕ) (me : RoleId) (h : Guest (JournalState D)) (j : JournalState D) → slice_get after i ≡ Some h → who h ≡ me → keeper_of h ≡ Some j
       → is_some (seen j.disk) ≡ true → told_by ≡ true → GivesBack seen disk_faults after told_by held_mid held_after faults faults_after → told_records (Some (held_after me)) ≡ told_records (seen j.disk)
   closed_told after i me h j at name has some t back = go (seen j.disk) refl some
@@ -93,7 +93,7 @@ module _ {D : Type 0} (seen : D → Option (List ℕ)) (may_leave : D → List �
       go (Some file) e known =
           ap (λ m. told_records (Some (held_after m))) (sym name) ∙ ap (λ f. told_records (Some f)) (back.holds t i h j file at has e) ∙ ap told_records (sym e)
 
-  -- a role that was opened keeps what its store told
+  -- a role that was opened keeps what its store held
   pub opened_stays : AreApart roles → AreOpened seen disk_faults c events told_by held roles guests → GivesBack seen disk_faults guests told_by held_mid held_after faults faults_after
       → (told_by ≡ true → (me : RoleId) → told_records (Some (held_mid me)) ≡ told_records (Some (held me)))
       → told_by ≡ true → (i : ℕ) (me : RoleId) → slice_get roles i ≡ Some me → is_durable me.kind ≡ true → told_records (Some (held_after me)) ≡ told_records (Some (held me))
@@ -136,7 +136,7 @@ module _ {D : Type 0} (seen : D → Option (List ℕ)) (may_leave : D → List �
   module _ (told : RoleId → List Record) (from : AreOpenedFrom seen disk_faults c events told_by held told roles guests) (all : AreOpened seen disk_faults c events told_by held roles guests)
       (count : length guests ≡ length roles) (apart : AreApart roles) (ks : List KeptRecord) (mid : List (Guest (JournalState D))) (names : map who mid ≡ map who guests)
       (grow : GuestsGrow (gives seen may_leave moment left_since disk_faults) ks guests mid) where
-    -- what was told to a role is what its store tells
+    -- what a role was opened from is what its store held
     pub told_whole : told_by ≡ true → (i : ℕ) (me : RoleId) → slice_get roles i ≡ Some me → is_durable me.kind ≡ true → told_records (Some (held me)) ≡ told me
     told_whole t i me here durable =
         let g = get_beside roles guests i me count here in
@@ -168,7 +168,7 @@ module _ {D : Type 0} (seen : D → Option (List ℕ)) (may_leave : D → List �
           ),
         )
 
-    -- each store tells these records besides
+    -- each store has these records besides
     abbrev pub Tells : List KeptRecord → Type 0
     Tells more = told_by ≡ true → (i : ℕ) (me : RoleId) → slice_get roles i ≡ Some me → is_durable me.kind ≡ true
         → told_records (Some (held_after me)) ≡ told_records (Some (held me)) ++ records_of me more

@@ -85,7 +85,7 @@ module _ {K : Type 0} (gives : Appending K) where
           stops = stops_as e (slice_get xs p.count) (slice_get (xs ++ ys) k.0) p.mid b.guests k.2 p.stops;
         }
 
-    -- it stopped behind what was done before
+    -- it stopped after what was done before
     pub then_part : (xs ys : List Action) (e : Stop) (a b d : Scene K) → Did gives c xs a b → DidPart gives c ys e b d → DidPart gives c (xs ++ ys) e a d
     then_part xs ys e a b d p q =
         let k = behind xs ys q.count in

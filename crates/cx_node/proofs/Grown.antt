@@ -9,7 +9,7 @@ use Rattle.cx_role.specs.Role.{Appending}
 use Rattle.cx_node.specs.declared.guest.Guest.{Guest}
 use Rattle.cx_node.specs.Guest.{Appended, Grows, GuestGrows, keeper_of, who}
 
--- the place behind a list at which a prefix of another ends
+-- the place after a list at which a prefix of another ends
 pub behind : {X : Type 0} (xs ys : List X) (n : ℕ) → (k : ℕ) × (take k (xs ++ ys) ≡ xs ++ take n ys) × (slice_get (xs ++ ys) k ≡ slice_get ys n)
 behind [] ys n = (n, refl, refl)
 behind (x ∷ xs) ys n = let p = behind xs ys n in (suc p.0, ap (λ l. x ∷ l) p.1, p.2)

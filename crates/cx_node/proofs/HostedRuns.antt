@@ -53,7 +53,7 @@ abbrev IsUnhosted : List RoleId → RoleId → Type 0
 IsUnhosted roles me = (i : ℕ) → slice_get roles i ≡ Some me → ⊥
 
 module _ (tend : Option ℕ) (c : Cluster) (events : List Event) (turns : ℕ) (roles : List RoleId) (old new : Outside) where
-  -- only binds were made, and the stores tell what they told
+  -- only binds were made, and the stores hold what they held
   pub host_early : (n : ℕ) → new.link ≡ option_map (with_binds (map (bind_of c) (take n roles))) old.link → new.out ≡ old.out
       → (old.tells ≡ true → (i : ℕ) (me : RoleId) → slice_get roles i ≡ Some me → is_durable me.kind ≡ true → told_records (Some (new.held me)) ≡ told_records (Some (old.held me)))
       → ((me : RoleId) → IsUnhosted roles me → (new.held me ≡ old.held me) × (new.stores me ≡ old.stores me)) → new.tells ≡ old.tells
@@ -147,7 +147,7 @@ module _ {D : Type 0} (seen : D → Option (List ℕ)) (may_leave : D → List �
           let o = all i g.0 g.1 in
           (o.0, o.1, (steady.each i g.0 h g.1 at).0 ∙ name_is seen disk_faults c events old.tells old.held o.0 g.0 o.2)
 
-  -- each store tells these records besides
+  -- each store has these records besides
   abbrev StoresTell : List KeptRecord → Type 0
   StoresTell more = old.tells ≡ true → (i : ℕ) (me : RoleId) → slice_get roles i ≡ Some me → is_durable me.kind ≡ true
       → told_records (Some (new.held me)) ≡ told_records (Some (old.held me)) ++ records_of me more

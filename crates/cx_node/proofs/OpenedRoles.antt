@@ -1,4 +1,4 @@
--- Roles that were opened: they are who they were named to be, they may run, and what was told to each.
+-- Roles that were opened: they are who they were named to be, they may run, and what each was opened from.
 use Rattle.std.proofs.Common.{◌≡◌, ℕ, zero, suc, arith, Bool, true, false, List, [], ◌∷◌, length, map, Option, None, Some, option_map, Ok, Err, refl, sym, ap, ◌∙◌, subst, inl, inr, if◌then◌else◌}
 use Rattle.std.specs.Prelude.{slice_get, IsTrue}
 use Rattle.std.specs.List.{list_all}
@@ -150,18 +150,18 @@ module _ {D : Type 0} (seen : D → Option (List ℕ)) (disk_faults : D → ℕ)
     distinct = distinct_opened roles guests apart all;
   }
 
-  -- these records were told to a role as it was opened
+  -- a role was opened from these records
   abbrev pub IsOpenedFrom : List Record → RoleId → Guest (JournalState D) → Type 0
   IsOpenedFrom records me guest = (o : IsOpened seen disk_faults c events tells (held me) me guest) × (o.records ≡ records)
 
-  -- each role of a list was opened from what was told to it
+  -- each role of a list was opened from its records
   abbrev pub AreOpenedFrom : (RoleId → List Record) → List RoleId → List (Guest (JournalState D)) → Type 0
   AreOpenedFrom told roles guests = (i : ℕ) (me : RoleId) (guest : Guest (JournalState D)) → slice_get roles i ≡ Some me → slice_get guests i ≡ Some guest → IsOpenedFrom (told me) me guest
 
   abbrev first_told : RoleId → List Record → (RoleId → List Record) → RoleId → List Record
   first_told r records told me = if same_role me r then records else told me
 
-  -- what was told to each role; where the depot tells, it is what that holds
+  -- what each role was opened from; where it is known, it is what the depot holds
   abbrev pub AreTold : List RoleId → List (Guest (JournalState D)) → Type 0
   AreTold roles guests = (told : RoleId → List Record) × (tells ≡ true → (me : RoleId) → is_durable me.kind ≡ true → told me ≡ told_to held me) × AreOpenedFrom told roles guests
 

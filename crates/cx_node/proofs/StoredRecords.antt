@@ -1,4 +1,4 @@
--- What a journal tells behind appends, and why one failed.
+-- What a journal has after appends, and why one failed.
 use Rattle.std.proofs.Common.{◌≡◌, ◌≤◌, ◌⊎◌, ℕ, zero, suc, arith, Bool, true, List, [], ◌∷◌, ◌++◌, take, Option, Some, Result, Ok, Err, refl, sym, ap, ◌∙◌, subst, inl, inr, append_assoc, append-nil, is_some}
 use Rattle.std.specs.Prelude.{slice_get}
 use Rattle.cx_base.specs.Faults.{Rises}
@@ -77,7 +77,7 @@ module _ {D : Type 0} (seen : D → Option (List ℕ)) (may_leave : D → List �
   pub failed_told : (r : Record) (a b : JournalState D) → Fails gives (Some r) a b → (kept b ≡ kept a) ⊎ (kept b ≡ kept a ++ r ∷ [])
   failed_told r a b fails = fails.appends.failed refl
 
-  -- an append fails behind whole ones only where the disk has failed
+  -- an append fails after whole ones only where the disk has failed
   pub fails_rises : (rs : List Record) (r : Record) (a mid b : JournalState D) → a.whole ≡ true → Appended gives rs a mid → Fails gives (Some r) mid b → Rises 0 (disk_faults b.disk)
   fails_rises rs r a mid b whole front fails =
       rises_later 0 (disk_faults mid.disk) (disk_faults b.disk) (omega arith) (fails.whole_cause refl (appended_whole rs a mid whole front))

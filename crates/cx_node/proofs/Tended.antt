@@ -106,7 +106,7 @@ unfolding tend_comes
 nothing_heeded None hs is = (refl, refl)
 nothing_heeded (Some bytes) hs is = absurd (read_nothing (decoded bytes) is)
 
--- whatever a take gave, what comes of it comes behind it
+-- whatever a take gave, what comes of it comes after it
 abbrev what_heeded : Option (List ℕ) → List Hosted → Moved (List Hosted)
 what_heeded None hs = stays hs
 what_heeded (Some bytes) hs = decoded_heeded (decoded bytes) hs
@@ -185,7 +185,7 @@ on_ok (Err e) P p = tt
 pub counts_as : (m n : Moved Tended) (r : Done) (k : Care) → m ≡ n → OnOk r (k ≡ n.next.care) → OnOk r (k ≡ m.next.care)
 counts_as m n r k is p = subst (λ (x : Moved Tended). OnOk r (k ≡ x.next.care)) (sym is) p
 
--- the next pass begins with what is completed behind it
+-- the next pass begins with what is completed after it
 pub pass_counts : (now : Care) (marks : List ℕ) (hs last : List Hosted) → last ≡ (those_tick (is_overtaken now.marks) hs).next → marks ≡ completed_by last
     → record now { marks = marks } ≡ (next_pass (tended now hs)).next.care
 pass_counts now marks hs last there is = ap (λ (l : List ℕ). record now { marks = l }) (is ∙ ap completed_by there)

@@ -106,7 +106,7 @@ ends_more tend c limit hs ts what more not_yet e =
     go k (inr same) = subst (λ l. all_finished ((node_run tend c l hs).next) ≡ false) (sym (take_at ts (what ∷ []) k (sym same))) not_yet
 
 module _ {K : Type 0} (gives : Appending K) (tend : Option ℕ) (c : Cluster) (limit : ℕ) where
-  -- a run with so many turns was made, and this is counted after it
+  -- a run with this many turns was made, and this is counted after it
   abbrev pub Underway : ℕ → Scene K → Scene K → Care → Type 0
   Underway made a b k =
       (ts : Takes) × Acts gives c ts (node_run tend c ts (hosted_in a.guests)) (Ok tt) a b × IsUnderway tend c limit (hosted_in a.guests) ts × (length ts ≡ made) × (k ≡ care_after tend c ts (hosted_in a.guests))

@@ -61,7 +61,7 @@ HasTaken takes actions = (bound_in actions ≡ []) × (taken_in actions ≡ take
 abbrev pub step_actions : List KeptRecord → List Letter → List ℕ → List Action
 step_actions kept sends text = map Kept kept ++ (map Sent sends ++ map Printed text)
 
--- what a link tells after these actions
+-- the history of a link after these actions
 abbrev pub with_actions : Cluster → List Action → LinkHistory → LinkHistory
 with_actions c actions h =
     record {

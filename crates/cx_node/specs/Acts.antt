@@ -60,7 +60,7 @@ abbrev pub come_of : Option (List ℕ) → Come
 come_of None = come.Nothing
 come_of (Some bytes) = read_as (decoded bytes)
 
--- One take was told, and what it gave; one that failed isn't told.
+-- The history has one take more, and what it gave; it has none that failed.
 abbrev pub Receives : Option LinkHistory → Option LinkHistory → Result Come Stop → Type 0
 Receives old new (Ok o) = (what : Option (List ℕ)) × (new ≡ option_map (with_taken what) old) × (come_of what ≡ o)
 Receives old new (Err LinkFault) = new ≡ old

@@ -17,7 +17,7 @@ use Rattle.cx_node.specs.Hosted.{Hosted}
 use Rattle.cx_node.specs.Ports.{sendings}
 use Rattle.cx_node.specs.Run.{Moved}
 
--- the hosted roles, what the link tells, and what was printed
+-- the hosted roles, the history of the link, and what was printed
 pub record Scene (K : Type 0) : Type 0 where
   pub guests : List (Guest K)
   pub link : Option LinkHistory
@@ -26,7 +26,7 @@ pub record Scene (K : Type 0) : Type 0 where
 abbrev pub scene : {K : Type 0} → List (Guest K) → Option LinkHistory → Option (List ℕ) → Scene K
 scene guests link out = record { guests = guests; link = link; out = out }
 
--- Where the link still tells, it was asked to send these datagrams besides.
+-- Where the link's history is still known, it has these datagrams besides, as sent.
 abbrev pub Asks : Cluster → List Letter → Option LinkHistory → Option LinkHistory → Type 0
 Asks c letters old new =
     (after : LinkHistory) → new ≡ Some after
@@ -36,7 +36,7 @@ Asks c letters old new =
 abbrev pub AsksPart : Cluster → List Letter → Option LinkHistory → Option LinkHistory → Type 0
 AsksPart c letters old new = (count : ℕ) × Asks c (take count letters) old new
 
--- Where the link still tells, it tells the binds, takes and sends among these actions besides.
+-- Where the link's history is still known, it has the binds, takes and sends among these actions besides.
 abbrev pub Linked : Cluster → List Action → Option LinkHistory → Option LinkHistory → Type 0
 Linked c actions old new =
     (after : LinkHistory) → new ≡ Some after

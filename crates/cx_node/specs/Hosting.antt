@@ -1,4 +1,4 @@
--- What binding, running and giving back come to, behind an input that was accepted.
+-- What binding, running and giving back come to, after an input that was accepted.
 use Rattle.std.specs.Prelude.{◌≡◌, ◌≤◌, ℕ, Bool, true, List, ◌++◌, Option, Some, Result, Ok, Err, IfOk, IfErr, slice_get}
 use Rattle.cx_base.specs.declared.cluster.Cluster.{Cluster}
 use Rattle.cx_base.specs.declared.event.Event.{Event}
@@ -42,11 +42,11 @@ ended_status (Err (stop.StoreFault role)) = status.StoreFault role
 
 -- ---- what is done
 
--- a link tells these binds besides
+-- a history with these binds besides
 abbrev pub with_binds : List Bind → LinkHistory → LinkHistory
 with_binds binds h = record h { binds = h.binds ++ binds }
 
--- The stores of these roles were given back: the depot holds what each store tells, for other roles what it held, and each fault of
+-- The stores of these roles were given back: the depot holds what each store holds, for other roles what it held, and each fault of
 -- a store, and nothing else, has raised its role's count.
 pub record GivesBack {D : Type 0} (seen : D → Option (List ℕ)) (disk_faults : D → ℕ) (guests : List (Guest (JournalState D))) (tells : Bool) (held held_after : RoleId → List ℕ) (faults faults_after : RoleId → ℕ) : Type 0 where
   pub holds : tells ≡ true → (i : ℕ) (guest : Guest (JournalState D)) (j : JournalState D) (file : List ℕ)
@@ -100,7 +100,7 @@ HasRun status.Turns = Unit {0}
 HasRun status.WriteFault = Unit {0}
 HasRun other = ⊥
 
--- what hosting answered; a failed write or take, and a store that failed, is always told, and roles run only from stores of their own
+-- what hosting answered; a failed write or take, and a store that failed, is always reported, and roles run only from stores of their own
 pub record HostAnswered (roles : List RoleId) (tend : Option ℕ) (c : Cluster) (events : List Event) (turns : ℕ) (old new : Outside) (s : Status) : Type 0 where
   pub did : HostDid roles tend c events turns old new s
   pub written : (s ≡ status.WriteFault → ⊥) → new.writes ≡ old.writes

@@ -23,7 +23,7 @@ pub record NodeState (K : Type 0) : Type 0 where
 abbrev pub Takes : Type 0
 Takes = List (Option (List ℕ))
 
--- a run has made at most so many turns with these takes, and came to no end before the last of them
+-- a run has made at most limit turns with these takes, and came to no end before the last of them
 pub record IsUnderway (tend : Option ℕ) (c : Cluster) (limit : ℕ) (hs : List Hosted) (takes : Takes) : Type 0 where
   pub most : length takes ≤ limit
   pub not_before : (k : ℕ) → k < length takes → all_finished ((node_run tend c (take k takes) hs).next) ≡ false

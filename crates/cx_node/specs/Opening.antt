@@ -71,7 +71,7 @@ pub record IsFirstBad (roles : List RoleId) (c : Cluster) (held : RoleId → Lis
   pub bad : IsBadAs c role (held role) at role.kind
   pub first : (i : ℕ) (other : RoleId) (fault : ℕ) → i < place → slice_get roles i ≡ Some other → IsBadAs c other (held other) fault other.kind → ⊥
 
--- a journal has these records, as far as its disk tells, and nothing has failed
+-- a journal has these records, as far as its disk's bytes are known, and nothing has failed
 pub record HasRecords {D : Type 0} (seen : D → Option (List ℕ)) (disk_faults : D → ℕ) (tells : Bool) (records : List Record) (j : JournalState D) : Type 0 where
   pub whole : j.whole ≡ true
   pub told : tells ≡ true → is_some (seen j.disk) ≡ true

@@ -26,8 +26,8 @@ use Rattle.cx_node.specs.Opening.{IsBadAs, IsFirstBad, is_durable, opened_as}
 use Rattle.cx_node.specs.Run.{Moved}
 use Rattle.cx_node.specs.Tending.{node_run}
 
--- What a node has outside: what its source has left, what its link and its output tell, whether its depot tells, what that holds
--- for each role, and how often each has failed.
+-- What a node has outside: what its source has left, the history of its link, what its output has taken, what its depot holds for each
+-- role and whether that is known, and how often each has failed.
 pub record Outside : Type 0 where
   pub left : Option (List ℕ)
   pub reads : ℕ
@@ -43,11 +43,11 @@ abbrev pub outside : Option (List ℕ) → ℕ → Option LinkHistory → ℕ �
 outside left reads link links out writes tells held stores =
     record { left = left; reads = reads; link = link; links = links; out = out; writes = writes; tells = tells; held = held; stores = stores }
 
--- the records that a store tells a role of its own kind
+-- the records of a store, as a role of its own kind opens it
 abbrev pub told_to : (RoleId → List ℕ) → RoleId → List Record
 told_to held me = records_or_none (image (Some me.kind) (held me))
 
--- the hosted roles as they are opened, each from the records that were told to it
+-- the hosted roles as they are opened, each from these records
 abbrev pub hosts : Cluster → List Event → (RoleId → List Record) → List RoleId → List Hosted
 hosts c events told roles = map (λ (me : RoleId). opened_as c events me (told me) me.kind) roles
 
@@ -59,7 +59,7 @@ run_of tend c events told roles takes = node_run tend c takes (hosts c events to
 abbrev pub Says : List RoleId → Option (List ℕ) → Cluster → List Event → Type 0
 Says roles left c events = IfSome left (λ all. (input_of all ≡ Lines c (record { events = events; bad = None })) × (refused_of roles (input_of all) ≡ None))
 
--- what was told to the roles is what a depot that tells holds
+-- what the roles were opened from is what the depot holds, where that is known
 abbrev pub IsTold : Outside → (RoleId → List Record) → Type 0
 IsTold old told = old.tells ≡ true → (me : RoleId) → is_durable me.kind ≡ true → told me ≡ told_to old.held me
 
@@ -67,7 +67,7 @@ IsTold old told = old.tells ≡ true → (me : RoleId) → is_durable me.kind �
 abbrev pub whole_run : Option ℕ → Cluster → List Event → (RoleId → List Record) → List RoleId → Takes → List Action
 whole_run tend c events told roles takes = map Bound roles ++ (run_of tend c events told roles takes).actions
 
--- These actions were done, and no others: the link tells their binds, takes and sends, their bytes are printed, and each hosted role's store
+-- These actions were done, and no others: the link's history has their binds, takes and sends, their bytes are printed, and each hosted role's store
 -- has their records of it, after those that it had. Of a role that isn't hosted nothing was touched.
 pub record Did (roles : List RoleId) (c : Cluster) (actions : List Action) (old new : Outside) : Type 0 where
   pub link : Linked c actions old.link new.link
@@ -137,15 +137,16 @@ pub record Answered (roles : List RoleId) (tend : Option ℕ) (turns : ℕ) (old
   pub bad_words : s ≡ status.BadWords → IfSome old.left (λ all. refused_of roles (input_of all) ≡ Some refusal.BadWords) × IsUntouched old new
   pub bad_input : (line : ℕ) → s ≡ status.BadInput line → IfSome old.left (λ all. refused_of roles (input_of all) ≡ Some (refusal.BadInput line)) × IsUntouched old new
   pub read_fault : s ≡ status.ReadFault → Rises old.reads new.reads × IsUntouched old new
-  -- A failure behind that: its count has risen, and the first actions of the run were done.
+  -- A failure after that: its count has risen, and the first actions of the run were done.
   pub link_fault : s ≡ status.LinkFault → Rises old.links new.links × EndsEarly roles tend turns old new
   pub write_fault : s ≡ status.WriteFault → Rises old.writes new.writes × EndsEarly roles tend turns old new
   pub store_fault : (role : RoleId) → s ≡ status.StoreFault role → Rises (old.stores role) (new.stores role) × EndsEarly roles tend turns old new
-  -- The first store that is none of its role's is told with the place of its first fault.
+  -- The first store that is none of its role's is reported with the place of its first fault.
   pub bad_store : (role : RoleId) (at : ℕ) → s ≡ status.BadStore role at → EndsEarly roles tend turns old new
   pub bad_place : (role : RoleId) (at : ℕ) → s ≡ status.BadStore role at → old.tells ≡ true → (c : Cluster) × (events : List Event) × Says roles old.left c events × IsFirstBad roles c old.held role at
   pub no_memory : s ≡ status.NoMemory → IsUntouched old new ⊎ EndsEarly roles tend turns old new
-  -- A failed read is always told, unless the whole lines before it are refused. A failed write or take, and a store that failed, is always told.
+  -- A failed read is always reported, unless the whole lines before it are refused. A failed write or take, and a store that failed, is
+  -- always reported.
   pub heard : (new.reads ≡ old.reads) ⊎ AnswersPart roles old.left new.left s
   pub written : (s ≡ status.WriteFault → ⊥) → new.writes ≡ old.writes
   pub linked : (s ≡ status.LinkFault → ⊥) → new.links ≡ old.links
@@ -158,7 +159,7 @@ pub record NoFault (old new : Outside) : Type 0 where
   pub writes : Rises old.writes new.writes → ⊥
   pub stores : (role : RoleId) → Rises (old.stores role) (new.stores role) → ⊥
 
--- the whole input is known and refused for nothing, and the depot tells for each hosted role a store of its own
+-- the whole input is known and refused for nothing, and the depot is known to hold for each hosted role a store of its own
 pub record IsGood (roles : List RoleId) (old : Outside) : Type 0 where
   pub all : List ℕ
   pub left : old.left ≡ Some all
@@ -177,7 +178,7 @@ EndsWell other = ⊥
 abbrev pub Completes : List RoleId → Outside → Outside → Status → Type 0
 Completes roles old new s = NoFault old new → IsGood roles old → EndsWell s
 
--- Where the whole input is known and accepted and nothing fails, a store that is none of its role's is always told, or memory ran out.
+-- Where the whole input is known and accepted and nothing fails, a store that is none of its role's is always reported, or memory ran out.
 abbrev pub TellsBad : List RoleId → Outside → Outside → Status → Type 0
 TellsBad roles old new s =
     NoFault old new → old.tells ≡ true → (all : List ℕ) → old.left ≡ Some all → (c : Cluster) (events : List Event) (role : RoleId) (at : ℕ)

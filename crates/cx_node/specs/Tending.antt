@@ -203,7 +203,7 @@ standing_of l =
 abbrev pub leader_cared : Standing → Care → Care
 leader_cared l k = if l.may_lead then k else leader_noted l.watermark l.has_open k
 
--- whether a spent leader changes after so many beats: 16, 32, 64, 128, 256, 512 or a multiple of 1,024
+-- whether a spent leader changes after this many beats: 16, 32, 64, 128, 256, 512 or a multiple of 1,024
 unfoldable pub is_time : ℕ → Bool
 is_time n = (n == 16) || (n == 32) || (n == 64) || (n == 128) || (n == 256) || (n == 512) || (nat_le 1024 n && (n % 1024 == 0))
 
@@ -226,7 +226,7 @@ leader_tended c (Some l) t =
 unfoldable pub clients_noted : ℕ → Care → Care
 clients_noted done k = if nat_lt k.done done then record k { done = done; still = 0 } else record k { still = one_more k.still }
 
--- whether all clients ask again after so many beats without an answer: 1, 2, 4, 8 or a multiple of 16
+-- whether all clients ask again after this many beats without an answer: 1, 2, 4, 8 or a multiple of 16
 unfoldable pub asks_again : ℕ → Bool
 asks_again n = (n == 1) || (n == 2) || (n == 4) || (n == 8) || (nat_le 16 n && (n % 16 == 0))
 
@@ -282,7 +282,7 @@ untended hs = record { care = no_care hs; hosted = hs }
 abbrev pub tended_run : Cluster → ℕ → List (Option (List ℕ)) → List Hosted → Moved Tended
 tended_run c m takes hs = then_do (within (all_do Begin) (untended hs)) (λ after. turns_from (tended_turn c m) 1 takes after)
 
--- The run of a node, tended with at most so many turns from beat to beat, or not tended.
+-- The run of a node, tended with a limit of turns from beat to beat, or not tended.
 unfoldable pub node_run : Option ℕ → Cluster → List (Option (List ℕ)) → List Hosted → Moved (List Hosted)
 node_run None c takes hs = untended_run c takes hs
 node_run (Some m) c takes hs = without_care (tended_run c m takes hs)

@@ -11,12 +11,12 @@ use Rattle.cx_node.specs.Hosted.{Hosted, ReplicaAt}
 use Rattle.cx_node.specs.Run.{stays}
 use Rattle.cx_node.specs.Tending.{Care, asks_again, collected, counted, first_leader, is_beat, is_time, leader_tended, no_care, reported, tend_ordered, untended}
 
--- so many takes gave nothing
+-- n takes gave nothing
 abbrev pub quiet : ℕ → Care → Care
 quiet zero k = k
 quiet (suc n) k = counted false (quiet n k)
 
--- each of so many takes gave something
+-- each of n takes gave something
 abbrev pub busy : ℕ → Care → Care
 busy zero k = k
 busy (suc n) k = counted true (busy n k)
@@ -24,7 +24,7 @@ busy (suc n) k = counted true (busy n k)
 abbrev pub fresh : Care
 fresh = no_care []
 
--- 64 takes that gave nothing make a beat, and 63 none; the first after one that gave something doesn't count; and so many turns make one
+-- 64 takes that gave nothing make a beat, and 63 none; the first after one that gave something doesn't count; and as many turns as the limit make one
 pub record Beats : Type 0 where
   pub quiet_64 : is_beat 1024 (quiet 64 fresh) ≡ true
   pub quiet_63 : is_beat 1024 (quiet 63 fresh) ≡ false
@@ -33,7 +33,7 @@ pub record Beats : Type 0 where
   pub busy_80 : is_beat 80 (busy 80 fresh) ≡ true
   pub busy_79 : is_beat 80 (busy 79 fresh) ≡ false
 
--- replica 0 of a cluster with one role of each kind, with so many slots
+-- replica 0 of a cluster with one role of each kind, with n slots
 abbrev pub replica_with : ℕ → Hosted
 replica_with n =
     ReplicaAt (record { cluster = one_of_each; me = role Replica 0; live = true; durable = record { log = replicate n Noop }; volatile = record { early = []; deferred = [] } })

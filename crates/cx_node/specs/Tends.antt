@@ -18,7 +18,7 @@ use Rattle.cx_node.specs.Tending.{Care, Tended, is_of, is_overtaken, without_car
 abbrev pub tended : Care → List Hosted → Tended
 tended k hs = record { care = k; hosted = hs }
 
--- which roles are meant, by their places, where so many were completed when the pass began
+-- which roles are meant, by their places, where these numbers were completed when the pass began
 abbrev pub is_meant : Whom → List ℕ → ℕ → Hosted → Bool
 is_meant (Kind k) marks = λ i h. is_of k h
 is_meant Others marks = λ i h. not (is_client h)

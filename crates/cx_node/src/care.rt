@@ -50,7 +50,7 @@ fn total(numbers: &[u64]) -> u64
 }
 
 impl Care {
-    /// Nothing is counted yet, of so many hosted roles.
+    /// Nothing is counted yet, of this many hosted roles.
     pub fn new(alloc: Global, roles: usize) -> Result<Self, NoMemory>
         ensures { (hs : List Hosted) → length hs ≡ roles → IfOk result (λ care. care ≡ no_care hs) }
     {
@@ -88,7 +88,7 @@ impl Care {
         self.came = came;
     }
 
-    /// Whether the turn ends with a beat: after 64 takes that gave nothing after one that gave nothing, or so many turns.
+    /// Whether the turn ends with a beat: after 64 takes that gave nothing after one that gave nothing, or after `most` turns.
     #[tactic(auto, unfolding(crate::specs::Tending::is_beat))]
     pub fn is_beat(&self, most: u32) -> bool
         ensures { result ≡ is_beat most self.now }
@@ -157,7 +157,7 @@ impl Care {
         total(&self.marks).saturating_add(asked) < done
     }
 
-    /// Whether the role at this place had completed so many when the pass began.
+    /// Whether the role at this place had completed this many when the pass began.
     pub fn is_marked(&self, place: usize, done: u64) -> bool
         ensures { result ≡ is_marked self.now.marks place done }
     {
@@ -167,7 +167,7 @@ impl Care {
         }
     }
 
-    /// The next pass begins, with so many completed by each role.
+    /// The next pass begins, with these numbers of requests completed by each role.
     pub fn begin_pass(&mut self, marks: Vec<u64>)
         ensures { self.new ≡ record self.old { marks = marks.items } }
     {

@@ -29,7 +29,7 @@ pub enum Heard {
     Nothing,
     /// The header says no cluster with a port.
     BadHeader,
-    /// The header's cluster, and what the lines behind it spell.
+    /// The header's cluster, and what the lines after it spell.
     Lines {
         cluster: Cluster,
         schedule: Schedule,
@@ -42,13 +42,13 @@ pub enum Refusal {
     NoMemory,
     /// A read failed.
     ReadFault,
-    /// The first bad line, counted from 1 behind the header, which is line 0.
+    /// The first bad line, counted from 1 after the header, which is line 0.
     BadInput { line: u64 },
     /// A role that is to be hosted isn't in the header's cluster.
     BadWords,
 }
 
-// A cluster with a port, and what the bytes behind its header spell.
+// A cluster with a port, and what the bytes after its header spell.
 fn with_port(alloc: Global, cluster: Cluster, rest: &[u8]) -> Result<Heard, NoMemory>
     ensures { IfOk result (λ heard. heard ≡ with_port cluster.base_port cluster rest.now) }
 {
@@ -59,7 +59,7 @@ fn with_port(alloc: Global, cluster: Cluster, rest: &[u8]) -> Result<Heard, NoMe
     Ok(Heard::Lines { cluster, schedule })
 }
 
-// What a header's text and the bytes behind it say.
+// What a header's text and the bytes after it say.
 fn behind(alloc: Global, header: &[u8], rest: &[u8]) -> Result<Heard, NoMemory>
     ensures { IfOk result (λ heard. heard ≡ behind (header_cluster header.now) rest.now) }
 {
@@ -81,7 +81,7 @@ fn read_input(alloc: Global, bytes: &[u8]) -> Result<Heard, NoMemory>
     }
 }
 
-// What bytes say behind which others may come.
+// What bytes say after which others may come.
 #[tactic(auto, unfolding(crate::specs::Input::lines))]
 fn read_lines(alloc: Global, bytes: &[u8]) -> Result<Heard, NoMemory>
     ensures { IfOk result (λ heard. heard ≡ lines bytes.now) }
@@ -95,7 +95,7 @@ fn read_lines(alloc: Global, bytes: &[u8]) -> Result<Heard, NoMemory>
     Ok(Heard::Nothing)
 }
 
-// What bytes say: the whole input where it has ended, else bytes behind which others may come.
+// What bytes say: the whole input where it has ended, else bytes after which others may come.
 fn hear(alloc: Global, bytes: &[u8], ended: bool) -> Result<Heard, NoMemory>
     ensures { IfOk result (λ heard. heard ≡ heard_of ended bytes.now) }
 {
@@ -127,7 +127,7 @@ fn bad_line(line: Option<u64>) -> Option<Refusal>
     }
 }
 
-// Why lines behind a header are refused: a role outside the cluster stands before the first bad line.
+// Why lines after a header are refused: a role outside the cluster stands before the first bad line.
 fn refused(roles: &[RoleId], cluster: &Cluster, schedule: &Schedule) -> Option<Refusal>
     ensures { result ≡ refused_of roles.now (Lines cluster.now schedule.now) }
 {
@@ -187,7 +187,7 @@ pub fn listen<S: Source>(
     ensures bad_input { (line : ℕ) → result ≡ Err (refusal.BadInput line) → IfSome (S.left source.old) (λ all. refused_of roles.now (input_of all) ≡ Some (refusal.BadInput line)) }
     ensures bad_words { result ≡ Err refusal.BadWords → IfSome (S.left source.old) (λ all. refused_of roles.now (input_of all) ≡ Some refusal.BadWords) }
     ensures read_fault { IsErrOf result Refusal.ReadFault → Rises (S.faults source.old) (S.faults source.new) }
-    // A failed read is always told, unless the whole lines before it are refused.
+    // A failed read is always reported, unless the whole lines before it are refused.
     ensures read_failed { (S.faults source.new ≡ S.faults source.old) ⊎ IfErr result (FailsRead roles.now (S.left source.old) (S.left source.new)) }
     ensures later { S.faults source.old ≤ S.faults source.new }
 

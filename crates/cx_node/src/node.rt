@@ -13,7 +13,7 @@ ghost use Rattle.cx_node.specs.Tending.{first_care};
 
 use crate::care::Care;
 use crate::{Doing, Seat};
-use cx_base::{Cluster, NoMemory, RoleId};
+use cx_base::{Cluster, MAX_DATAGRAM_LENGTH, NoMemory, RoleId};
 use cx_edge::{Link, Sink};
 use cx_keeper::Keeper;
 use cx_role::Outbox;
@@ -21,7 +21,7 @@ use std::alloc::Global;
 use std::marker::Model;
 
 /// More bytes than a datagram has, so that a longer one can't pass for one that it begins with.
-pub const BUFFER: usize = 32_769;
+pub const BUFFER: usize = MAX_DATAGRAM_LENGTH + 1;
 
 /// Why a run stopped before its end.
 #[derive(Clone, Copy)]
@@ -130,7 +130,7 @@ impl<K: Keeper + Drop> Node<K> {
         }
     }
 
-    // Makes so many turns, or those until all hosted clients have finished.
+    // Makes `turns` turns, or those until all hosted clients have finished.
     fn all_turns<L: Link, W: Sink>(
         &mut self,
         turns: u32,
@@ -156,11 +156,11 @@ impl<K: Keeper + Drop> Node<K> {
         Ok(())
     }
 
-    /// Runs so many turns, or until all hosted clients have finished: clients send their first requests, and each turn has three
-    /// parts. An idle leader 0 is ordered to lead (at turn 1 and at each that 4,096 divides), one datagram is taken of the link, and all
-    /// roles tick (at each turn that 64 divides). A node that tends its roles has them tick, and orders leader 0, by what it counts, with at
-    /// most so many turns from one beat to the next. What is taken, kept, sent and printed are exactly the run's actions, or the first of them
-    /// where something failed.
+    /// Runs `turns` turns, or until all hosted clients have finished: clients send their first requests, and each turn has three
+    /// parts. An idle leader 0 is ordered to lead (at turn 1 and at each that 4,096 divides), one datagram is taken from the link,
+    /// and all roles tick (at each turn that 64 divides). A node that tends its roles has them tick, and orders leader 0, by what it
+    /// counts, with at most `tend` turns from one beat to the next. What is taken, kept, sent and printed are exactly the run's
+    /// actions, or a prefix of them where something failed.
     pub fn run<L: Link, W: Sink>(
         &mut self,
         turns: u32,

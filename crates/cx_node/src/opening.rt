@@ -196,7 +196,7 @@ pub fn open_seats<D: Depot>(
     ensures out { D.out depot.new ≡ lent_to seats.new.items }
     ensures told { D.tells depot.new ≡ D.tells depot.old }
 
-    // What a store tells as its records stays, also where it could not be opened.
+    // The records of a store stay, also where it could not be opened.
     ensures held { D.tells depot.old ≡ true → (who : RoleId) → told_records (Some (D.held depot.new who)) ≡ told_records (Some (D.held depot.old who)) }
     ensures bad { (role : RoleId) (at : ℕ) → result ≡ Err (open_stop.BadStore role at) → D.tells depot.old ≡ true → IsFirstBad roles.now cluster.now (D.held depot.old) role at }
     ensures later { (role : RoleId) → D.faults depot.old role ≤ D.faults depot.new role }

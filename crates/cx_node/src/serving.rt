@@ -131,10 +131,10 @@ fn host<L: Link, D: Depot, W: Sink>(
     }
 }
 
-/// Hosts these roles: the input is read to its end; each role is bound to its port and opened from its store; and they run so many
-/// turns, or until all hosted clients have finished. With `tend` the node tends them, with at most so many turns from one beat to the next
-/// (64 to 65,536 are of use). What was bound, sent, printed and kept is exactly the node's run, or a front
-/// of it where something failed, and every store is given back whatever happens.
+/// Hosts these roles: the input is read to its end; each role is bound to its port and opened from its store; and they run `turns`
+/// turns, or until all hosted clients have finished. With `tend` the node tends them, with at most that many turns from one beat to
+/// the next (64 to 65,536 are of use). What was bound, sent, printed and kept is exactly the node's run, or a prefix of it where
+/// something failed, and every store is given back whatever happens. A role or a port that is bound already is a fault of the link.
 pub fn serve<S: Source, L: Link, D: Depot, W: Sink>(
     alloc: Global,
     roles: &[RoleId],

@@ -23,7 +23,7 @@ use cx_keeper::Keeper;
 use cx_msg::{Datagram, Input};
 use std::alloc::Global;
 
-// A replica ticks when its log comes to a further multiple of so many slots.
+// A replica ticks when its log comes to a further multiple of this number of slots.
 const REPORTED: u64 = 8;
 
 // The leader that is ordered.
@@ -458,7 +458,7 @@ impl<K: Keeper + Drop> Node<K> {
         Ok(())
     }
 
-    /// The n-th turn of a node that tends its roles, with at most so many turns from beat to beat.
+    /// The n-th turn of a node that tends its roles, with a limit of turns from beat to beat.
     pub fn tended_turn<L: Link, W: Sink>(
         &mut self,
         care: &mut Care,

@@ -165,7 +165,7 @@ impl<K: Keeper + Drop> Node<K> {
         self.tick(n, link, out)
     }
 
-    // The n-th turn, tended with at most so many turns from beat to beat, or not tended.
+    // The n-th turn, tended with a limit of turns from beat to beat, or not tended.
     pub fn turn<L: Link, W: Sink>(
         &mut self,
         tend: Option<u32>,

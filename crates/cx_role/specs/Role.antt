@@ -54,7 +54,7 @@ pub record KeepsDurable {D V : Type 0} (before after : Running D V) : Type 0 whe
   pub me : after.me ≡ before.me
   pub durable : after.durable ≡ before.durable
 
--- the words of the rows that take no memory, so that want of it is never their answer (this project's own)
+-- the words of the rows that take no memory, so that out of memory is never their answer (this project's own)
 abbrev pub takes_no_memory : Why → Bool
 takes_no_memory why.Stranger = true
 takes_no_memory why.Old = true

@@ -78,7 +78,7 @@ impl From<AllocError> for WakeFault {
 }
 
 /// A kind of role: it takes one datagram, order or tick at a time, makes at most one append, and then changes its state and
-/// sends. Memory is taken first, so that want of it leaves everything as it was; the rows that are of no more use to anybody
+/// sends. Memory is taken first, so that out of memory everything is as it was. The rows that are of no more use
 /// (`takes_no_memory`: a stranger, what is old or past, and the like) take none.
 pub trait Role: Sized {
     /// The part of its state that its records leave.
