@@ -1,0 +1,9 @@
+pub mod Acceptors
+pub mod Keep
+pub mod Leaders
+pub mod Matchmakers
+pub mod Places
+pub mod Proxies
+pub mod Refused
+pub mod Replicas
+pub mod Steps
