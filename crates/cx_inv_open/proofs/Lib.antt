@@ -1,8 +1,10 @@
 pub mod Acceptors
 pub mod Keep
+pub mod LeaderRows
 pub mod Leaders
 pub mod Matchmakers
 pub mod Places
+pub mod Plans
 pub mod Proxies
 pub mod Refused
 pub mod Replicas
