@@ -1,6 +1,8 @@
 -- A leader that runs is one of the cluster's.
-use Rattle.std.specs.Prelude.{◌≡◌, ℕ, zero, suc, ◌<◌, List, [], ◌∷◌, length, slice_get, slice_set, Option, None, Some, refl}
+use Rattle.std.specs.Prelude.{◌≡◌, ℕ, zero, suc, ◌<◌, List, [], ◌∷◌, length, slice_get, Option, None, Some, refl}
 use Rattle.std.proofs.Common.{ap, ◌∙◌, arith}
+use Rattle.std.proofs.lemmas.List.{length-set}
+use Rattle.std.proofs.lemmas.Option.{slice_get_within}
 use Rattle.cx_base.specs.declared.cluster.Cluster.{Cluster}
 use Rattle.cx_base.specs.declared.event.Cut.{Cut}
 use Rattle.cx_base.specs.declared.event.Cut.TheVariants.{Whole}
@@ -22,16 +24,6 @@ use Rattle.cx_model.specs.Request.{is_stale}
 use Rattle.cx_model.specs.World.{World, Roles, Change, change, come, ask, act_of, turn_found, fresh_roles, start, step, run, run_from}
 use Rattle.cx_inv_run.specs.States.{LeaderIn, state_found, states_of}
 
-set_length : {X : Type 0} (xs : List X) (i : ℕ) (x : X) → length (slice_set xs i x) ≡ length xs
-set_length [] i x = refl
-set_length (y ∷ xs) zero x = refl
-set_length (y ∷ xs) (suc i) x = ap (λ (n : ℕ). suc n) (set_length xs i x)
-
-get_below : {X : Type 0} (xs : List X) (i : ℕ) (x : X) → slice_get xs i ≡ Some x → i < length xs
-get_below [] i x e = cc
-get_below (y ∷ xs) zero x e = omega arith
-get_below (y ∷ xs) (suc i) x e = let l = get_below xs i x e in omega arith
-
 fresh_length : {V : Type 0} (v : V) (count : ℕ) → length (fresh_roles v count) ≡ count
 fresh_length v zero = refl
 fresh_length v (suc count) = ap (λ (n : ℕ). suc n) (fresh_length v count)
@@ -45,7 +37,7 @@ acted c roles kept act me kind.Leader = go (slice_get roles.leaders me.index)
   where
     go : (o : Option (Option LeaderVolatile)) → length (turn_found leader_rules c me kept act roles.leaders o).roles ≡ length roles.leaders
     go None = refl
-    go (Some running) = set_length roles.leaders me.index _
+    go (Some running) = length-set roles.leaders me.index _
 acted c roles kept act me other = refl
 
 came : (w : World) (cut : Cut) (o : Option Letter) → AsMany w.roles (come w cut o)
@@ -78,6 +70,6 @@ leader_place c es l v is = go (slice_get (run c es).roles.leaders l) refl is
     go : (o : Option (Option LeaderVolatile)) → slice_get (run c es).roles.leaders l ≡ o → state_found LeaderIn o ≡ LeaderIn v → l < c.leaders
     go None e s = cc
     go (Some running) e s =
-        let below = get_below (run c es).roles.leaders l running e in
+        let below = slice_get_within (run c es).roles.leaders l running e in
         let many = as_many (start c) es ∙ fresh_length (leader_rules.fresh c) c.leaders in
         omega arith
