@@ -9,6 +9,7 @@ use Rattle.cx_base.specs.declared.role.Kind.{Kind}
 use Rattle.cx_base.specs.declared.role.Kind.TheVariants.{Client, Batcher, Leader, Proxy, Acceptor, Matchmaker, Replica, Unbatcher, Reader}
 use Rattle.cx_base.specs.declared.role.RoleId.{RoleId}
 use Rattle.cx_base.specs.Role.{same_role}
+use Rattle.cx_inv_open.specs.Reopened.{refused_as}
 use Rattle.cx_journal.specs.Image.{Image, image}
 use Rattle.cx_journal.specs.State.{JournalState, records_or_none}
 use Rattle.cx_journal.proofs.Payloads.{both_so}
@@ -23,7 +24,7 @@ use Rattle.cx_msg.specs.declared.kept.Record.{Record}
 use Rattle.cx_node.specs.declared.guest.Guest.{Guest}
 use Rattle.cx_node.specs.Guest.{AreDistinct, AreReady, hosted_in, hosted_of, keeper_of, who}
 use Rattle.cx_node.specs.Hosted.{Hosted, is_live, name_of}
-use Rattle.cx_node.specs.Opening.{AreOpened, HasJournal, HasRecords, IsBadAs, IsOpened, is_durable, opened_as, refused_as}
+use Rattle.cx_node.specs.Opening.{AreOpened, HasJournal, HasRecords, IsBadAs, IsOpened, is_durable, opened_as}
 use Rattle.cx_node.specs.Serving.{hosts, told_to}
 use Rattle.cx_node.specs.Wake.{IsBadStore}
 

@@ -7,6 +7,7 @@ use Rattle.cx_model.specs.World.{run, log_of}
 use Rattle.cx_inv_vote.proofs.Agree.{agreement}
 use Rattle.cx_inv_announce.proofs.Steps.{announced}
 use Rattle.cx_inv_held.proofs.Steps.{kept_watermarks}
+use Rattle.cx_inv_open.proofs.Steps.{roles_reopen}
 use Rattle.cx_inv_list.proofs.Answers.{answers_are_of_a_log, one_list, reads_tell}
 use Rattle.cx_inv_list.proofs.Right.{machine_is_the_fold}
 use Rattle.cx_inv_read.proofs.Results.{after_answers, after_reads}
@@ -35,6 +36,7 @@ lawful c es = record {
   rounds_ask_later = rounds_ask_later c es;
   reads_ask_later = reads_ask_later c es;
   announced = announced c es;
+  roles_reopen = roles_reopen c es;
 }
 
 pub prefix_is_the_list : (c : Cluster) (es : List Event) → IsCommandList c (run c es).kept (chosen_prefix (run c es).kept)
