@@ -15,17 +15,15 @@ const BOTH: [u8; 22] = [
     1, 0, 0, 0, 1, 0, 0, 0, 0, 0, 0, 1, 0, 0, 0, 2, 0, 0, 0, 0, 0, 0,
 ];
 
-// What an append is cut by, whether it is answered with Ok, and how many records are kept after it.
-const APPENDS: [(Cut, bool, usize); 3] = [
-    (Cut::Whole, true, 1),
-    (Cut::Torn, false, 1),
-    (Cut::Kept, false, 2),
+// What is appended, what the append is cut by, whether it succeeds, and how many records are kept after it.
+const APPENDS: [(&[u8], Cut, bool, usize); 3] = [
+    (&FIRST, Cut::Whole, true, 1),
+    (&SECOND, Cut::Torn, false, 1),
+    (&SECOND, Cut::Kept, false, 2),
 ];
 
-// Whether an append of the next record is answered with Ok.
-fn appends(alloc: Global, keeper: &mut MemKeeper, cut: Cut) -> Result<bool, Fail> {
-    let spelled = if keeper.len() == 0 { &FIRST } else { &SECOND };
-    let what = record_from(alloc, spelled)?;
+fn appends(alloc: Global, keeper: &mut MemKeeper, bytes: &[u8], cut: Cut) -> Result<bool, Fail> {
+    let what = record_from(alloc, bytes)?;
     keeper.cut(cut);
     Ok(keeper.append(&what).is_ok())
 }
@@ -42,14 +40,13 @@ fn recovered(alloc: Global, keeper: &mut MemKeeper) -> Result<Vec<u8>, Fail> {
     Ok(bytes)
 }
 
-// The bytes of the record that was kept last, where it was not kept yet at this count.
-fn kept_since(alloc: Global, keeper: &MemKeeper, count: usize) -> Result<Vec<u8>, Fail> {
-    let len = keeper.len();
-    if count > len || len - count > 1 {
-        return Err("not the last one".into());
-    }
+// The bytes of the record that was kept last.
+fn last_kept(alloc: Global, keeper: &MemKeeper) -> Result<Vec<u8>, Fail> {
     let mut bytes = Vec::new(alloc);
-    if let Some(kept) = keeper.kept_since(count)? {
+    let count = keeper.len();
+    if count > 0
+        && let Some(kept) = keeper.kept_since(count - 1)?
+    {
         record_into(alloc, &kept, &mut bytes)?;
     }
     Ok(bytes)
@@ -59,20 +56,11 @@ fn kept_since(alloc: Global, keeper: &MemKeeper, count: usize) -> Result<Vec<u8>
 fn keeps_what_an_append_leaves(rt: HostRuntime) -> Result<(), Fail> {
     let alloc = rt.alloc();
     let mut keeper = MemKeeper::new(alloc);
-    for (cut, is_ok, count) in APPENDS {
-        assert_eq!(rt; appends(alloc, &mut keeper, cut)?, is_ok);
+    for (bytes, cut, is_ok, count) in APPENDS {
+        assert_eq!(rt; appends(alloc, &mut keeper, bytes, cut)?, is_ok);
         assert_eq!(rt; keeper.len(), count);
     }
     assert_eq!(rt; recovered(alloc, &mut keeper)?.as_slice(), BOTH.as_slice());
-    Ok(())
-}
-
-#[test]
-fn gives_the_last_record(rt: HostRuntime) -> Result<(), Fail> {
-    let alloc = rt.alloc();
-    let mut keeper = MemKeeper::new(alloc);
-    assert!(rt; appends(alloc, &mut keeper, Cut::Whole)?);
-    assert_eq!(rt; kept_since(alloc, &keeper, 0)?.as_slice(), FIRST.as_slice());
-    assert_eq!(rt; kept_since(alloc, &keeper, 1)?.len(), 0);
+    assert_eq!(rt; last_kept(alloc, &keeper)?.as_slice(), SECOND.as_slice());
     Ok(())
 }
