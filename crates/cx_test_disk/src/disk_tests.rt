@@ -52,7 +52,7 @@ fn disk(alloc: Global, fails: &[u64], stop: Option<u64>) -> Result<MemDisk, Fail
         calls: 3,
         written: 4,
     };
-    MemDisk::new(alloc, &[7, 8], room, fails.to_vec(alloc)?, stop).map_err(|_| "no memory".into())
+    Ok(MemDisk::new(alloc, &[7, 8], room, fails.to_vec(alloc)?, stop)?)
 }
 
 fn succeeds(disk: &mut MemDisk, at: u64, bytes: &[u8]) -> bool {

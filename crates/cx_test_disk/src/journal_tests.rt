@@ -1,5 +1,6 @@
 //! Journals over disks that fail or stop.
 
+use crate::keeper_tests::count_again;
 use cx_base::Kind;
 use cx_disk::{MemDisk, Room};
 use cx_journal::Journal;
@@ -17,19 +18,16 @@ fn disk(alloc: Global, bytes: &[u8], fails: &[u64], stop: Option<u64>) -> Result
         calls: 12,
         written: 64,
     };
-    MemDisk::new(alloc, bytes, room, fails.to_vec(alloc)?, stop).map_err(|_| "no memory".into())
+    Ok(MemDisk::new(alloc, bytes, room, fails.to_vec(alloc)?, stop)?)
 }
 
-// How many records the bytes have for an acceptor, read twice.
+// How many records the bytes have for an acceptor.
 fn count_of(alloc: Global, bytes: &[u8]) -> Result<usize, Fail> {
     let disk = disk(alloc, bytes, &[], None)?;
-    let Ok((mut journal, first)) = Journal::open(alloc, disk, Kind::Acceptor) else {
+    let Ok((mut journal, _)) = Journal::open(alloc, disk, Kind::Acceptor) else {
         return Err("not opened".into());
     };
-    match journal.recover() {
-        Ok(records) if records.len() == first.len() => Ok(first.len()),
-        _ => Err("not read again".into()),
-    }
+    Ok(count_again(&mut journal).ok_or("not read again")?)
 }
 
 // Whether the first of two appends fails and the second one succeeds, and how many records are left.
