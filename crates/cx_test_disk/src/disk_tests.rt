@@ -1,8 +1,50 @@
 //! Calls that fail, and a disk that stops.
 
-use cx_disk::{Disk, Failed, MemDisk, Room, Unsynced};
+use cx_disk::{Disk, MemDisk, Room, Unsynced};
 use std::alloc::Global;
 use std::test::Fail;
+
+// A place and what is written there, or nothing for a sync; and whether the call succeeds.
+type Call = (u64, &'static [u8], bool);
+
+// A disk of the bytes 7 and 8: which calls fail, after how many it stops, the calls, and the bytes then.
+struct Case {
+    fails: &'static [u64],
+    stop: Option<u64>,
+    calls: &'static [Call],
+    bytes: &'static [u8],
+}
+
+const CASES: [Case; 4] = [
+    Case {
+        fails: &[],
+        stop: None,
+        calls: &[(0, &[1], true)],
+        bytes: &[1, 8],
+    },
+    Case {
+        fails: &[1],
+        stop: None,
+        calls: &[(0, &[], true), (0, &[], false), (0, &[], true)],
+        bytes: &[7, 8],
+    },
+    Case {
+        fails: &[],
+        stop: Some(1),
+        calls: &[(0, &[], true), (0, &[1], false), (0, &[], false)],
+        bytes: &[7, 8],
+    },
+    Case {
+        fails: &[],
+        stop: None,
+        calls: &[
+            (0, &[0, 0, 0, 0, 0], false),
+            (0, &[1, 2, 3], true),
+            (0, &[4, 5], false),
+        ],
+        bytes: &[1, 2, 3],
+    },
+];
 
 fn disk(alloc: Global, fails: &[u64], stop: Option<u64>) -> Result<MemDisk, Fail> {
     let room = Room {
@@ -10,68 +52,51 @@ fn disk(alloc: Global, fails: &[u64], stop: Option<u64>) -> Result<MemDisk, Fail
         calls: 3,
         written: 4,
     };
-    MemDisk::new(alloc, &[7, 8], room, fails.to_vec(alloc)?, stop).map_err(|_| "no memory".into())
+    Ok(MemDisk::new(alloc, &[7, 8], room, fails.to_vec(alloc)?, stop)?)
+}
+
+fn succeeds(disk: &mut MemDisk, at: u64, bytes: &[u8]) -> bool {
+    if bytes.is_empty() {
+        return disk.sync().is_ok();
+    }
+    at <= Disk::len(disk) && disk.write_at(at, bytes).is_ok()
+}
+
+// Whether each call is answered as it is said.
+fn answers(disk: &mut MemDisk, calls: &[Call]) -> bool {
+    for (at, bytes, is_ok) in calls {
+        if succeeds(disk, *at, bytes) != *is_ok {
+            return false;
+        }
+    }
+    true
 }
 
 #[test]
-fn writes_over_and_past_the_end(rt: HostRuntime) -> Result<(), Fail> {
-    let mut disk = disk(rt.alloc(), &[], None)?;
-    assert_eq!(rt; disk.write_at(0, &[1]), Ok(()));
-    assert_eq!(rt; disk.bytes(), [1, 8].as_slice());
+fn calls_fail_where_it_is_said(rt: HostRuntime) -> Result<(), Fail> {
+    for case in &CASES {
+        let mut disk = disk(rt.alloc(), case.fails, case.stop)?;
+        assert!(rt; answers(&mut disk, case.calls));
+        assert_eq!(rt; disk.bytes(), case.bytes);
+    }
     Ok(())
 }
 
-#[test]
-fn reads_what_was_written(rt: HostRuntime) -> Result<(), Fail> {
-    let mut disk = disk(rt.alloc(), &[], None)?;
-    let mut bytes = [0u8; 2];
-    assert!(rt; Disk::len(&disk) == 2);
-    assert_eq!(rt; disk.read(0, &mut bytes), Ok(()));
-    assert_eq!(rt; bytes.as_slice(), [7, 8].as_slice());
-    Ok(())
-}
+// One write, synced, and another one that isn't.
+const WRITES: [Call; 3] = [(0, &[1], true), (0, &[], true), (1, &[2, 3], true)];
 
-#[test]
-fn the_calls_named_fail(rt: HostRuntime) -> Result<(), Fail> {
-    let mut disk = disk(rt.alloc(), &[1], None)?;
-    assert_eq!(rt; disk.sync(), Ok(()));
-    assert_eq!(rt; disk.sync(), Err(Failed));
-    assert_eq!(rt; disk.sync(), Ok(()));
-    Ok(())
-}
-
-#[test]
-fn a_stopped_disk_changes_nothing(rt: HostRuntime) -> Result<(), Fail> {
-    let mut disk = disk(rt.alloc(), &[], Some(1))?;
-    assert_eq!(rt; disk.sync(), Ok(()));
-    assert_eq!(rt; disk.write_at(0, &[1]), Err(Failed));
-    assert_eq!(rt; disk.sync(), Err(Failed));
-    assert_eq!(rt; disk.bytes(), [7, 8].as_slice());
-    Ok(())
-}
-
-#[test]
-fn a_disk_with_no_room_fails(rt: HostRuntime) -> Result<(), Fail> {
-    let mut disk = disk(rt.alloc(), &[], None)?;
-    assert_eq!(rt; disk.write_at(0, &[0; 5]), Err(Failed));
-    assert_eq!(rt; disk.write_at(0, &[1, 2, 3]), Ok(()));
-    assert_eq!(rt; disk.write_at(0, &[4, 5]), Err(Failed));
-    assert_eq!(rt; disk.bytes(), [1, 2, 3].as_slice());
-    Ok(())
-}
+const IMAGES: [(Unsynced, &[u8]); 3] = [
+    (Unsynced::Kept, &[1, 2, 3]),
+    (Unsynced::Lost, &[1, 8]),
+    (Unsynced::Filled, &[1, 255, 255]),
+];
 
 #[test]
 fn a_crash_keeps_loses_or_fills(rt: HostRuntime) -> Result<(), Fail> {
     let alloc = rt.alloc();
     let mut disk = disk(alloc, &[], None)?;
-    assert_eq!(rt; disk.write_at(0, &[1]), Ok(()));
-    assert_eq!(rt; disk.sync(), Ok(()));
-    assert_eq!(rt; disk.write_at(1, &[2, 3]), Ok(()));
-    for (unsynced, bytes) in [
-        (Unsynced::Kept, [1, 2, 3].as_slice()),
-        (Unsynced::Lost, [1, 8].as_slice()),
-        (Unsynced::Filled, [1, 255, 255].as_slice()),
-    ] {
+    assert!(rt; answers(&mut disk, &WRITES));
+    for (unsynced, bytes) in IMAGES {
         assert_eq!(rt; disk.crash_image(alloc, unsynced)?.as_slice(), bytes);
     }
     Ok(())

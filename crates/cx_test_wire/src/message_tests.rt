@@ -1,65 +1,10 @@
-//! Datagrams and records, both ways, and what refuses them.
-
-ghost use Rattle.std.specs.Prelude.{◌≡◌, ◌≤◌, length, IfSome};
+//! The spellings of datagrams and records, both ways, and what refuses them.
 
 use crate::vectors::ENTRIES;
 use cx_base::{Duplicate, Kind, RoleId};
-use cx_msg::{
-    Datagram, KeptRecord, Msg, Record, WireFault, body_into, decode, encode_into, phase2b,
-    record_from, record_into,
-};
+use cx_msg::{KeptRecord, WireFault, decode, encode_into, record_from, record_into};
 use std::alloc::Global;
-use std::process::Abort;
 use std::test::Fail;
-
-// How a role takes a datagram: what `msg` ensures of the parts is what the answer owes.
-fn vote_for(datagram: &Datagram) -> Option<Datagram>
-    ensures from { IfSome result (λ vote. vote.from ≡ datagram.now.to) }
-    ensures to { IfSome result (λ vote. vote.to ≡ datagram.now.from) }
-{
-    let acceptor = datagram.to().index;
-    let proxy = datagram.from().index;
-    match datagram.msg() {
-        Msg::Phase2A { round, slot, .. } => Some(phase2b(acceptor, proxy, *round, *slot)),
-        _ => None,
-    }
-}
-
-// A Submit of client 0 to batcher 0: number 1, put a 1.
-const SUBMIT: [u8; 27] = [
-    0x43, 0x58, 1, 1, 1, 0, 0, 2, 0, 0, 0, 15, 0, 0, 0, 0, 0, 0, 0, 0, 0, 1, 1, 1, 0x61, 1, 0x31,
-];
-
-#[test]
-fn submit_both_ways(rt: HostRuntime) -> Result<(), Fail> {
-    let datagram = decode(rt.alloc(), &SUBMIT)?.copy(rt.alloc())?;
-    assert_eq!(rt; datagram.from(), RoleId::new(Kind::Client, 0));
-    assert_eq!(rt; datagram.to(), RoleId::new(Kind::Batcher, 0));
-    assert_eq!(rt; datagram.msg().name(), "Submit");
-    assert!(rt; vote_for(&datagram).is_none());
-    let mut out = Vec::new(rt.alloc());
-    encode_into(rt.alloc(), &datagram, &mut out)?;
-    assert_eq!(rt; out.as_slice(), SUBMIT.as_slice());
-    let mut body = Vec::new(rt.alloc());
-    body_into(rt.alloc(), &datagram, &mut body)?;
-    assert_eq!(rt; body.as_slice(), &SUBMIT[12..]);
-    Ok(())
-}
-
-// A Round of (1, 0, 0) with a grid of one acceptor, 2.
-const ROUND: [u8; 15] = [6, 0, 0, 0, 1, 0, 0, 0, 0, 0, 0, 1, 1, 0, 2];
-
-#[test]
-fn record_both_ways(rt: HostRuntime) -> Result<(), Fail> {
-    let what = record_from(rt.alloc(), &ROUND)?;
-    let role = RoleId::new(Kind::Leader, 0);
-    let kept = KeptRecord { role, what }.copy(rt.alloc())?;
-    let mut out = Vec::new(rt.alloc());
-    record_into(rt.alloc(), &kept.what, &mut out)?;
-    assert_eq!(rt; out.as_slice(), ROUND.as_slice());
-    assert!(rt; matches!(kept.what, Record::Round { .. }));
-    Ok(())
-}
 
 fn digit(letter: u8) -> u8 {
     match letter {
@@ -88,6 +33,16 @@ fn unhex(alloc: Global, entry: &[u8]) -> Result<(Vec<u8>, Vec<usize>), Fail> {
     Ok((bytes, begins))
 }
 
+fn is_datagram(bytes: &[u8]) -> bool {
+    bytes.starts_with(b"CX")
+}
+
+// The kind of a datagram, or the tag of a record.
+fn kind_of(bytes: &[u8]) -> u8 {
+    let place = if is_datagram(bytes) { 3 } else { 0 };
+    bytes.get(place).copied().unwrap_or(0)
+}
+
 // Where the field begins in which a cut at this place lies.
 fn field_at(begins: &[usize], cut: usize) -> usize {
     let mut at = 0;
@@ -99,99 +54,105 @@ fn field_at(begins: &[usize], cut: usize) -> usize {
     at
 }
 
-// A datagram cut short, with the length that its body then has.
-fn shorter(alloc: Global, bytes: &[u8], cut: usize) -> Result<Vec<u8>, Fail>
-    requires header { 12 ≤ cut }
-    requires within { cut ≤ length bytes.now }
-{
-    let mut short = bytes[..10].to_vec(alloc)?;
-    let said = u16::try_from(cut - 12)?;
-    short.extend_from_slice(&said.to_be_bytes())?;
-    short.extend_from_slice(&bytes[12..cut])?;
-    Ok(short)
-}
-
-// What decoding answers for a datagram cut short, longer by a byte, or with another first byte.
-fn datagram_refused(
-    rt: &impl Abort,
-    alloc: Global,
-    bytes: &[u8],
-    begins: &[usize],
-) -> Result<(), Fail> {
-    let len = bytes.len();
-    let kind = *bytes.get(3).ok_or("no kind")?;
-    for have in 0..12.min(len) {
-        let want = WireFault::Short { need: 12, have };
-        assert_eq!(rt; decode(alloc, &bytes[..have]).err(), Some(want));
-    }
-    for cut in 12..len {
-        let want = WireFault::Length {
-            said: len - 12,
-            have: cut - 12,
-        };
-        assert_eq!(rt;
-            decode(alloc, &bytes[..cut]).err(),
-            Some(want),
-            "{cut} of {len}"
-        );
-        let want = WireFault::Field {
-            kind,
-            at: field_at(begins, cut),
-        };
-        let short = shorter(alloc, bytes, cut)?;
-        assert_eq!(rt; decode(alloc, &short).err(), Some(want), "{cut} of {len}");
-    }
-    let mut other = bytes.to_vec(alloc)?;
-    other.push(0)?;
-    assert_eq!(rt;
-        decode(alloc, &other).err(),
-        Some(WireFault::Trailing { at: len })
-    );
-    other.pop();
-    if let Some(first) = other.first_mut() {
-        *first ^= 1;
-    }
-    assert_eq!(rt; decode(alloc, &other).err(), Some(WireFault::Magic));
+fn datagram_again(alloc: Global, bytes: &[u8], out: &mut Vec<u8>) -> Result<(), Fail> {
+    let datagram = decode(alloc, bytes)?.copy(alloc)?;
+    encode_into(alloc, &datagram, out)?;
     Ok(())
 }
 
-// What reading answers for a record cut short, longer by a byte, or with another tag.
-fn record_refused(
-    rt: &impl Abort,
-    alloc: Global,
-    bytes: &[u8],
-    begins: &[usize],
-) -> Result<(), Fail> {
-    let len = bytes.len();
-    let tag = *bytes.first().ok_or("no tag")?;
-    let none = record_from(alloc, &[]).err();
-    assert_eq!(rt; none, Some(WireFault::Short { need: 1, have: 0 }));
-    for cut in 1..len {
-        let want = WireFault::Field {
-            kind: tag,
-            at: field_at(begins, cut),
-        };
-        assert_eq!(rt;
-            record_from(alloc, &bytes[..cut]).err(),
-            Some(want),
-            "{cut} of {len}"
-        );
+fn record_again(alloc: Global, bytes: &[u8], out: &mut Vec<u8>) -> Result<(), Fail> {
+    let what = record_from(alloc, bytes)?;
+    let role = RoleId::new(Kind::Leader, 0);
+    let kept = KeptRecord { role, what }.copy(alloc)?;
+    record_into(alloc, &kept.what, out)?;
+    Ok(())
+}
+
+// What is read from the bytes, written again.
+fn again(alloc: Global, bytes: &[u8]) -> Result<Vec<u8>, Fail> {
+    let mut out = Vec::new(alloc);
+    if is_datagram(bytes) {
+        datagram_again(alloc, bytes, &mut out)?;
+    } else {
+        record_again(alloc, bytes, &mut out)?;
     }
+    Ok(out)
+}
+
+fn fault_of(alloc: Global, is_datagram: bool, bytes: &[u8]) -> Option<WireFault> {
+    if is_datagram {
+        return decode(alloc, bytes).err();
+    }
+    record_from(alloc, bytes).err()
+}
+
+fn is_refused(alloc: Global, is_datagram: bool, bytes: &[u8], fault: WireFault) -> bool {
+    fault_of(alloc, is_datagram, bytes) == Some(fault)
+}
+
+// A datagram says that its body has this length.
+fn say_length(bytes: &mut [u8], len: usize) {
+    if bytes.len() >= 12 {
+        bytes[10] = (len >> 8) as u8;
+        bytes[11] = len as u8;
+    }
+}
+
+// The greatest cut that is not refused in the header, or at the field that it lies in. A datagram says how much is left.
+fn wrong_cut(alloc: Global, bytes: &[u8], begins: &[usize]) -> Result<Option<usize>, Fail> {
+    let (is_datagram, kind) = (is_datagram(bytes), kind_of(bytes));
+    let need = if is_datagram { 12 } else { 1 };
+    let mut short = bytes.to_vec(alloc)?;
+    for _ in 0..bytes.len() {
+        short.pop();
+        let have = short.len();
+        if is_datagram {
+            say_length(&mut short, have.saturating_sub(need));
+        }
+        let at = field_at(begins, have);
+        let fault = if have < need {
+            WireFault::Short { need, have }
+        } else {
+            WireFault::Field { kind, at }
+        };
+        if !is_refused(alloc, is_datagram, &short, fault) {
+            return Ok(Some(have));
+        }
+    }
+    Ok(None)
+}
+
+// The first cut of a datagram that is not refused where it says the whole length.
+fn wrong_length(alloc: Global, bytes: &[u8]) -> Option<usize> {
+    let len = bytes.len();
+    for cut in 12..len {
+        let fault = WireFault::Length {
+            said: len - 12,
+            have: cut - 12,
+        };
+        if !is_refused(alloc, true, &bytes[..cut], fault) {
+            return Some(cut);
+        }
+    }
+    None
+}
+
+// Whether the bytes are refused with another one after them, and with another first one.
+fn changes_are_refused(alloc: Global, bytes: &[u8]) -> Result<bool, Fail> {
+    let (is_datagram, at) = (is_datagram(bytes), bytes.len());
     let mut other = bytes.to_vec(alloc)?;
     other.push(0)?;
-    assert_eq!(rt;
-        record_from(alloc, &other).err(),
-        Some(WireFault::Trailing { at: len })
-    );
+    let is_trailing = is_refused(alloc, is_datagram, &other, WireFault::Trailing { at });
     other.pop();
     if let Some(first) = other.first_mut() {
         *first |= 128;
     }
-    assert_eq!(rt;
-        record_from(alloc, &other).err(),
-        Some(WireFault::Kind(tag | 128))
-    );
-    Ok(())
+    let fault = if is_datagram {
+        WireFault::Magic
+    } else {
+        WireFault::Kind(kind_of(&other))
+    };
+    Ok(is_trailing && is_refused(alloc, is_datagram, &other, fault))
 }
 
 // Each entry of the table is read, written again and refused where it is changed, as the other implementation says.
@@ -204,15 +165,12 @@ fn another_implementation(rt: HostRuntime) -> Result<(), Fail> {
         if bytes.is_empty() {
             continue;
         }
-        let mut out = Vec::new(alloc);
-        if bytes.starts_with(b"CX") {
-            encode_into(alloc, &decode(alloc, &bytes)?, &mut out)?;
-            datagram_refused(&rt, alloc, &bytes, &begins)?;
-        } else {
-            record_into(alloc, &record_from(alloc, &bytes)?, &mut out)?;
-            record_refused(&rt, alloc, &bytes, &begins)?;
+        assert_eq!(rt; again(alloc, &bytes)?.as_slice(), bytes.as_slice());
+        assert_eq!(rt; wrong_cut(alloc, &bytes, &begins)?, None, "entry {count}");
+        if is_datagram(&bytes) {
+            assert_eq!(rt; wrong_length(alloc, &bytes), None, "entry {count}");
         }
-        assert_eq!(rt; out.as_slice(), bytes.as_slice());
+        assert!(rt; changes_are_refused(alloc, &bytes)?, "entry {count}");
         count = count.saturating_add(1);
     }
     assert_eq!(rt; count, 274);
