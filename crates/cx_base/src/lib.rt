@@ -8,6 +8,7 @@
 
 mod cluster;
 mod command;
+mod command_list;
 mod count;
 mod event;
 mod faults;
@@ -27,6 +28,7 @@ mod why;
 
 pub use cluster::Cluster;
 pub use command::{Answered, Command, Commands, Op, Pair, Placed, Reply, Value, Values};
+pub use command_list::CommandList;
 pub use count::count_of;
 pub use event::{Cut, Event, Happened, Order};
 pub use faults::Faults;

@@ -2,10 +2,12 @@
 
 ghost use Rattle.std.specs.Prelude.{◌≡◌, ◌∷◌, ◌++◌, ◌<◌, [], length, IfOk, IfNone, IfSome, OnOk, option_to_list};
 ghost use Rattle.std.specs.Str.Lines.{strip_carriage_return};
-ghost use Rattle.cx_script.specs.Lines.{lines_of};
+ghost use Rattle.cx_script.specs.Lines.{lines_of, schedule_of};
 
+use crate::event::line;
 use crate::split::{first_part, or_empty};
-use cx_base::{Event, NoMemory};
+use cx_base::{Cluster, Event, MAX_LINES, NoMemory};
+use std::alloc::Global;
 use std::marker::Model;
 
 const LINE_FEED: u8 = b'\n';
@@ -79,4 +81,28 @@ pub fn keep<T: Copy + Drop>(list: &mut Vec<T>, value: &Option<T>) -> Result<(), 
         list.push(*value)?;
     }
     Ok(())
+}
+
+/// What the bytes after a header spell. A line ends with a line feed, which the last may lack, and loses one carriage return
+/// at its end. Lines count from 1, comments and blank ones too, and the 65,536th is bad.
+#[tactic(auto, unfolding(crate::specs::Lines::schedule_of))]
+pub fn read_schedule(alloc: Global, cluster: &Cluster, bytes: &[u8]) -> Result<Schedule, NoMemory>
+    ensures { IfOk result (λ schedule. schedule ≡ schedule_of cluster.now bytes.now) }
+{
+    let mut events = Vec::new(alloc);
+    let mut rest = bytes;
+    let mut number = 0;
+    while let Some((text, behind)) = first_line(rest) {
+        number += 1;
+        let bad = Some(number);
+        if number > MAX_LINES {
+            return Ok(Schedule { events, bad });
+        }
+        let Ok(event) = line(cluster, text) else {
+            return Ok(Schedule { events, bad });
+        };
+        keep(&mut events, &event)?;
+        rest = behind;
+    }
+    Ok(Schedule { events, bad: None })
 }

@@ -52,9 +52,8 @@ fn request(
     }
 }
 
-/// What the bytes after a node's header spell: requests. A line ends with a line feed, which the last may lack, and loses one
-/// carriage return at its end. Lines count from 1, comments and blank ones too. A line of another kind is bad, one whose number
-/// isn't above its client's earlier ones, and the 65,536th.
+/// What the bytes after a node's header spell: requests, as `read_schedule` reads them. A line of another kind is bad, and one
+/// whose number isn't above its client's earlier ones.
 #[tactic(auto, unfolding(crate::specs::Requests::requests_of))]
 pub fn read_requests(alloc: Global, cluster: &Cluster, bytes: &[u8]) -> Result<Schedule, NoMemory>
     ensures { IfOk result (λ schedule. schedule ≡ requests_of cluster.now bytes.now) }
