@@ -1,8 +1,9 @@
-"""Tests of how roles are numbered and spread over processes."""
+"""Tests of how roles are numbered and spread over processes, and of what the program takes as a header. $COMPAX may name it."""
 
+import subprocess
 import unittest
 
-from headers import KINDS, Header, Role, Unusable, can_lose_any, enough_processes, header_of, spread, why_needed
+from headers import KINDS, Header, Role, Unusable, can_lose_any, enough_processes, header_of, program, spread, why_needed
 
 USUAL = {"f": 1, "leaders": 1, "proxies": 2, "acceptors": 4, "replicas": 3, "batchers": 2, "unbatchers": 2, "readers": 2, "clients": 16,
          "batch": 1, "base_port": 20000}
@@ -38,6 +39,30 @@ class HeaderTest(unittest.TestCase):
         self.assertEqual(header().grid, [named("acceptor:0 acceptor:1"), named("acceptor:2 acceptor:3")])
         self.assertEqual(header(acceptors=3).grid, [named("acceptor:0 acceptor:1 acceptor:2")])
         self.assertEqual([len(row) for row in header(acceptors=64).grid], [8, 8])
+
+
+class ProgramTest(unittest.TestCase):
+    """Round the edges of the form. Which fault a header has, the contract of cx_cluster's `read` says."""
+
+    ONES = "f = 0\nleaders = 1\nproxies = 1\nacceptors = 1\nreplicas = 1\nbatchers = 1\nunbatchers = 1\nreaders = 1\nclients = 1\nbatch = 1\n"
+    WITHOUT_F = ONES.removeprefix("f = 0\n")
+
+    def answers(self, header: str) -> tuple[int, str, str]:
+        ran = subprocess.run([program(), "replay"], input=f"{header}---\n", capture_output=True, text=True, timeout=60)
+        return ran.returncode, ran.stdout, ran.stderr
+
+    def test_what_is_no_header(self) -> None:
+        without_f = ("", "f = 4", "f = -1", "f = 9223372036854775807", "f = 9223372036854775808", "f = 3", "f = 1.0", 'f = "0"', "f.a = 0",
+                     "f = 00", "x = 1")
+        further = ("x = 1", "y = 1\nX = 1\nx = 1", "base_port = 1023", "base_port = 60001", 'base_port = "a"', "f = 0", "\a")
+        for line, rest in [*((line, self.WITHOUT_F) for line in without_f), *((line, self.ONES) for line in further)]:
+            with self.subTest(line=line):
+                self.assertEqual(self.answers(f"{line}\n{rest}"), (3, "", "bad input at line 0\n"))
+
+    def test_what_is_one(self) -> None:
+        for line, rest in (("f = 0", self.WITHOUT_F), ("base_port = 1024", self.ONES), ("base_port = 60000", self.ONES)):
+            with self.subTest(line=line):
+                self.assertEqual(self.answers(f"{line}\n{rest}"), (0, "chosen 0\nreplica:0 held 0\n", ""))
 
 
 class SpreadTest(unittest.TestCase):

@@ -1,62 +1,34 @@
-//! Headers round the edges of the form, and what they are told.
+//! How the faults of a header are worded. Which fault a header has, the contract of `read` says.
 
-use cx_cluster::read;
+use cx_cluster::{ClusterFault, ClusterKey, UnknownKey};
 use std::alloc::Global;
 use std::test::Fail;
 
-// One role of each kind, and no loss is survived.
-const ONES: &str =
-    "f = 0\nleaders = 1\nproxies = 1\nacceptors = 1\nreplicas = 1\nbatchers = 1\nunbatchers = 1\nreaders = 1\nclients = 1\nbatch = 1\n";
-
-// What stands in front of those lines, how many of their bytes are left out there, and what is told.
-const FAULTS: [(&str, usize, &str); 18] = [
-    ("", 6, "missing key f"),
-    ("f = 4\n", 6, "f = 4 is out of range"),
-    ("f = -1\n", 6, "f = -1 is out of range"),
+const FAULTS: [(ClusterFault, &str); 5] = [
+    (ClusterFault::Toml, "not TOML"),
+    (ClusterFault::Missing(ClusterKey::F), "missing key f"),
     (
-        "f = 9223372036854775807\n",
-        6,
-        "f = 9223372036854775807 is out of range",
+        ClusterFault::NotNumber(ClusterKey::BasePort),
+        "base_port is not a number",
     ),
-    ("f = 3\n", 6, "replicas = 1 is out of range"),
-    ("f = 1.0\n", 6, "f is not a number"),
-    ("f = \"0\"\n", 6, "f is not a number"),
-    ("f.a = 0\n", 6, "f is not a number"),
-    ("x = 1\n", 0, "unknown key x"),
-    ("x = 1\n", 6, "unknown key x"),
-    ("y = 1\nX = 1\nx = 1\n", 0, "unknown key X"),
-    ("base_port = 1023\n", 0, "base_port = 1023 is out of range"),
     (
-        "base_port = 60001\n",
-        0,
-        "base_port = 60001 is out of range",
+        ClusterFault::Range(ClusterKey::F, -1),
+        "f = -1 is out of range",
     ),
-    ("base_port = \"a\"\n", 0, "base_port is not a number"),
-    ("f = 0\n", 0, "not TOML"),
-    ("f = 00\n", 6, "not TOML"),
-    ("f = 9223372036854775808\n", 6, "not TOML"),
-    ("\u{7}", 0, "not TOML"),
+    (ClusterFault::NoMemory, "out of memory"),
 ];
 
-fn header(alloc: Global, front: &str, left_out: usize) -> Result<String, Fail> {
-    let mut text = String::from_str(alloc, front)?;
-    text.push_str(ONES.get(left_out..).unwrap_or(""))?;
-    Ok(text)
-}
-
-// The fault of a header.
-fn told(alloc: Global, front: &str, left_out: usize) -> Result<String, Fail> {
-    let text = header(alloc, front, left_out)?;
-    match read(alloc, text.as_bytes()) {
-        Ok(_) => Ok(String::from_str(alloc, "no fault")?),
-        Err(fault) => Ok(format!(in alloc; "{fault}")?),
-    }
+fn is_worded(alloc: Global, fault: &ClusterFault, words: &str) -> Result<bool, Fail> {
+    Ok(format!(in alloc; "{fault}")?.as_str() == words)
 }
 
 #[test]
-fn names_the_first_fault(rt: HostRuntime) -> Result<(), Fail> {
-    for (front, left_out, wanted) in FAULTS {
-        assert_eq!(rt; told(rt.alloc(), front, left_out)?.as_str(), wanted);
+fn faults_are_worded(rt: HostRuntime) -> Result<(), Fail> {
+    let alloc = rt.alloc();
+    for (fault, words) in &FAULTS {
+        assert!(rt; is_worded(alloc, fault, words)?);
     }
+    let key = UnknownKey::from_text(String::from_str(alloc, "x")?);
+    assert!(rt; is_worded(alloc, &ClusterFault::Unknown(key), "unknown key x")?);
     Ok(())
 }

@@ -1,96 +1,78 @@
-//! Links: what fails in memory, and one datagram through real sockets and back.
+//! A link in memory: calls that fail, and what comes out of its queue. Sockets are shown by the stored runs of nodes.
 
 use cx_base::{Kind, RoleId};
-use cx_disk::Failed;
-use cx_edge::{Front, Link, LinkFailing, LinkRoom, MemLink, TakeEnd, UdpLink};
-use std::net::{Ipv4Addr, SocketAddr, UdpSocket};
+use cx_edge::{Front, Link, LinkFailing, LinkRoom, MemLink, TakeEnd};
+use std::alloc::Global;
 use std::test::Fail;
+
+const ROOM: LinkRoom = LinkRoom {
+    binds: 1,
+    takes: 6,
+    sends: 3,
+    bytes: 8,
+};
+
+// A call, and whether it succeeds; of a take what it answers, and the buffer after it.
+enum Step {
+    Bind(bool),
+    Send(&'static [u8], bool),
+    Take(TakeEnd, [u8; 2]),
+}
+
+// The first bind, the second send and the second take fail, as those without room do.
+const STEPS: [Step; 10] = [
+    Step::Bind(false),
+    Step::Bind(true),
+    Step::Bind(false),
+    Step::Take(TakeEnd::Nothing, [0, 0]),
+    Step::Send(&[1, 2, 3], true),
+    Step::Send(&[4], false),
+    Step::Take(TakeEnd::Failed, [0, 0]),
+    Step::Take(TakeEnd::Got(1), [9, 0]),
+    Step::Take(TakeEnd::Got(2), [1, 2]),
+    Step::Send(&[5, 6, 7, 8, 9], false),
+];
 
 fn leader() -> RoleId {
     RoleId::new(Kind::Leader, 0)
 }
 
-#[test]
-fn a_link_in_memory_fails_where_it_is_told_to(rt: HostRuntime) -> Result<(), Fail> {
-    let alloc = rt.alloc();
-    let room = LinkRoom {
-        binds: 1,
-        takes: 6,
-        sends: 3,
-        bytes: 8,
-    };
-    let failing = LinkFailing {
+fn failing(alloc: Global) -> Result<LinkFailing, Fail> {
+    Ok(LinkFailing {
         binds: vec![in alloc; 0]?,
         sends: vec![in alloc; 1]?,
         takes: vec![in alloc; 1]?,
+    })
+}
+
+// The link, and a datagram of another's that comes before the third take.
+fn link(alloc: Global) -> Result<MemLink, Fail> {
+    let front = Front {
+        before: 2,
+        bytes: vec![in alloc; 9]?,
     };
-    let fronts = vec![in alloc;
-        Front {
-            before: 2,
-            bytes: vec![in alloc; 9]?
-        },
-    ]?;
-    let mut link = MemLink::new(alloc, room, failing, &fronts)?;
+    let fronts = vec![in alloc; front]?;
+    Ok(MemLink::new(alloc, ROOM, failing(alloc)?, &fronts)?)
+}
+
+fn take_is(link: &mut MemLink, end: TakeEnd, bytes: [u8; 2]) -> bool {
     let mut buffer = [0; 2];
-    assert_eq!(rt; link.bind(leader(), 1), Err(Failed));
-    assert_eq!(rt; link.bind(leader(), 1), Ok(()));
-    assert_eq!(rt; link.bind(leader(), 2), Err(Failed));
-    assert_eq!(rt; link.take(&mut buffer), TakeEnd::Nothing);
-    assert_eq!(rt; link.send(leader(), 1, &[1, 2, 3]), Ok(()));
-    assert_eq!(rt; link.send(leader(), 1, &[4]), Err(Failed));
-    assert_eq!(rt; link.take(&mut buffer), TakeEnd::Failed);
-    assert_eq!(rt; link.take(&mut buffer), TakeEnd::Got(1));
-    assert_eq!(rt; buffer, [9, 0]);
-    assert_eq!(rt; link.take(&mut buffer), TakeEnd::Got(2));
-    assert_eq!(rt; buffer, [1, 2]);
-    assert_eq!(rt; link.send(leader(), 1, &[5, 6, 7, 8, 9]), Err(Failed));
-    assert_eq!(rt; link.take(&mut buffer), TakeEnd::Nothing);
-    Ok(())
+    link.take(&mut buffer) == end && buffer == bytes
 }
 
-const TRIES: u32 = 1_000_000;
-
-/// The datagram that comes within so many tries.
-fn comes(socket: &UdpSocket, buffer: &mut [u8]) -> Option<(usize, SocketAddr)> {
-    for _ in 0..TRIES {
-        if let Ok(got) = socket.recv_from(buffer) {
-            return Some(got);
-        }
+fn is_so(link: &mut MemLink, step: &Step) -> bool {
+    match step {
+        Step::Bind(is_done) => link.bind(leader(), 1).is_ok() == *is_done,
+        Step::Send(bytes, is_done) => link.send(leader(), 1, bytes).is_ok() == *is_done,
+        Step::Take(end, bytes) => take_is(link, *end, *bytes),
     }
-    None
-}
-
-/// What comes within ten seconds, since a take that finds nothing waits a millisecond.
-fn taken(link: &mut impl Link, buffer: &mut [u8]) -> TakeEnd {
-    for _ in 0..10_000 {
-        let end = link.take(buffer);
-        if !matches!(end, TakeEnd::Nothing) {
-            return end;
-        }
-    }
-    TakeEnd::Nothing
 }
 
 #[test]
-fn a_datagram_goes_out_and_comes_back(rt: HostRuntime) -> Result<(), Fail> {
-    let peer = UdpSocket::bind(&rt, SocketAddr::from((Ipv4Addr::LOCALHOST, 0)))?;
-    peer.set_nonblocking(true)?;
-    let port = peer.local_addr()?.port();
-    let mut link = UdpLink::new(rt.alloc(), &rt, 1)?;
-    let mut buffer = [0; 4];
-    assert_eq!(rt; link.bind(leader(), port), Err(Failed));
-    assert_eq!(rt; link.bind(leader(), 0), Ok(()));
-    assert_eq!(rt; link.bind(leader(), 0), Err(Failed));
-    assert_eq!(rt; link.take(&mut buffer), TakeEnd::Nothing);
-    assert_eq!(rt; link.send(leader(), port, &[1, 2, 3]), Ok(()));
-    let (count, from) = comes(&peer, &mut buffer).ok_or("no datagram")?;
-    assert_eq!(rt; (count, buffer), (3, [1, 2, 3, 0]));
-    assert_eq!(rt; peer.send_to(&[4, 5], from)?, 2);
-    assert_eq!(rt; taken(&mut link, &mut buffer), TakeEnd::Got(2));
-    assert_eq!(rt; buffer, [4, 5, 3, 0]);
-    assert_eq!(rt;
-        link.send(RoleId::new(Kind::Leader, 1), port, &[1]),
-        Err(Failed)
-    );
+fn a_link_in_memory_fails_where_it_is_told_to(rt: HostRuntime) -> Result<(), Fail> {
+    let mut link = link(rt.alloc())?;
+    for step in &STEPS {
+        assert!(rt; is_so(&mut link, step));
+    }
     Ok(())
 }

@@ -4,51 +4,84 @@ use cx_edge::{
     MemSink, MemSource, ReadAll, ReadEnd, ReaderSource, Sink, Source, WriteEnd, WriterSink,
     read_all, write_all,
 };
+use std::alloc::Global;
 use std::test::Fail;
 
-fn whole(all: ReadAll) -> Option<Vec<u8>> {
-    match all {
-        ReadAll::Whole(bytes) => Some(bytes),
-        _ => None,
-    }
+// The source of three bytes that fails at this call.
+fn source(alloc: Global, failing: u64) -> Result<MemSource, Fail> {
+    let bytes = vec![in alloc; 1, 2, 3]?;
+    Ok(MemSource::new(bytes, vec![in alloc; failing]?))
 }
 
-fn before_fault(all: ReadAll) -> Option<Vec<u8>> {
-    match all {
-        ReadAll::Failed(bytes) => Some(bytes),
-        _ => None,
-    }
+// What reads of two bytes answer where the second fails, and the bytes that are then in the buffer.
+const READS: [(ReadEnd, [u8; 2]); 4] = [
+    (ReadEnd::Got(2), [1, 2]),
+    (ReadEnd::Failed, [0, 0]),
+    (ReadEnd::Got(1), [3, 0]),
+    (ReadEnd::Got(0), [0, 0]),
+];
+
+fn read_is(source: &mut MemSource, end: ReadEnd, bytes: [u8; 2]) -> bool {
+    let mut piece = [0; 2];
+    source.read(&mut piece) == end && piece == bytes
 }
 
 #[test]
-fn reads_and_writes(rt: HostRuntime) -> Result<(), Fail> {
+fn a_source_fails_and_goes_on(rt: HostRuntime) -> Result<(), Fail> {
+    let mut source = source(rt.alloc(), 1)?;
+    for (end, bytes) in READS {
+        assert!(rt; read_is(&mut source, end, bytes));
+    }
+    Ok(())
+}
+
+// Whether the reading came to what this mark stands for, with these bytes.
+fn comes_to(all: &ReadAll, mark: u8, bytes: &[u8]) -> bool {
+    match all {
+        ReadAll::Whole(read) => mark == b'.' && read.as_slice() == bytes,
+        ReadAll::TooLong(read) => mark == b'+' && read.as_slice() == bytes,
+        ReadAll::Failed(read) => mark == b'!' && read.as_slice() == bytes,
+        ReadAll::NoMemory => false,
+    }
+}
+
+// The call that fails, the limit, and what the reading of three bytes comes to.
+const READINGS: [(u64, usize, u8); 3] = [(9, 3, b'.'), (9, 2, b'+'), (1, 9, b'!')];
+
+#[test]
+fn a_source_is_read_to_its_end_or_a_fault(rt: HostRuntime) -> Result<(), Fail> {
     let alloc = rt.alloc();
+    for (failing, limit, mark) in READINGS {
+        let mut source = source(alloc, failing)?;
+        assert!(rt; comes_to(&read_all(alloc, &mut source, limit), mark, &[1, 2, 3]));
+    }
     let mut reader = ReaderSource::new("three".as_bytes());
-    let bytes = whole(read_all(alloc, &mut reader, 5)).ok_or("not whole")?;
-    assert_eq!(rt; bytes.as_slice(), "three".as_bytes());
+    assert!(rt; comes_to(&read_all(alloc, &mut reader, 5), b'.', b"three"));
+    Ok(())
+}
 
-    let mut writer = WriterSink::new(Vec::new(alloc));
-    assert!(rt; write_all(&mut writer, "three".as_bytes()));
+// What writes to a sink answer that has room for four bytes and fails at the second call.
+const WRITES: [(&[u8], WriteEnd); 3] = [
+    (&[1, 2], WriteEnd::Took(2)),
+    (&[3], WriteEnd::Failed),
+    (&[3, 4, 5], WriteEnd::Failed),
+];
 
-    let mut source = MemSource::new(vec![in alloc; 1, 2, 3]?, vec![in alloc; 1]?);
-    let mut piece = [0; 2];
-    assert_eq!(rt; source.read(&mut piece), ReadEnd::Got(2));
-    assert_eq!(rt; source.read(&mut piece), ReadEnd::Failed);
-    assert_eq!(rt; source.read(&mut piece), ReadEnd::Got(1));
-    assert_eq!(rt; piece, [3, 2]);
-    assert_eq!(rt; source.read(&mut piece), ReadEnd::Got(0));
-
-    let mut long = MemSource::new(vec![in alloc; 1, 2, 3]?, Vec::new(alloc));
-    assert!(rt; matches!(read_all(alloc, &mut long, 2), ReadAll::TooLong(_)));
-    let mut failing = MemSource::new(vec![in alloc; 1, 2, 3]?, vec![in alloc; 1]?);
-    let bytes = before_fault(read_all(alloc, &mut failing, 9)).ok_or("no fault")?;
-    assert_eq!(rt; bytes.as_slice(), [1, 2, 3].as_slice());
-
+#[test]
+fn a_sink_fails_and_goes_on(rt: HostRuntime) -> Result<(), Fail> {
+    let alloc = rt.alloc();
     let mut sink = MemSink::new(alloc, 4, vec![in alloc; 1]?)?;
-    assert_eq!(rt; sink.write(&[1, 2]), WriteEnd::Took(2));
-    assert_eq!(rt; sink.write(&[3]), WriteEnd::Failed);
-    assert_eq!(rt; sink.write(&[3, 4, 5]), WriteEnd::Failed);
+    for (piece, end) in WRITES {
+        assert!(rt; sink.write(piece) == end);
+    }
     assert!(rt; write_all(&mut sink, &[3, 4]));
-    assert_eq!(rt; sink.as_slice(), [1, 2, 3, 4].as_slice());
+    assert!(rt; sink.as_slice() == [1, 2, 3, 4].as_slice());
+    Ok(())
+}
+
+#[test]
+fn a_writer_takes_all(rt: HostRuntime) -> Result<(), Fail> {
+    let mut writer = WriterSink::new(Vec::new(rt.alloc()));
+    assert!(rt; write_all(&mut writer, b"three"));
     Ok(())
 }
