@@ -127,7 +127,7 @@ with_answer_holds p a (b ∷ notes) new h =
       | inr f ↦ rw f (and_from (p b) (list_all p (with_answer a notes)) h'.0 (with_answer_holds p a notes new h'.1))
     ]
 
--- the notes fit behind a new answer that fits
+-- the notes fit after a new answer that fits
 pub notes_fit : (a : Answered) (old new : List Answered) → new ≡ with_answer a old → answered.fits a ≡ true
     → list_all (λ (x : Answered). answered.fits x) old ≡ true → list_all (λ (x : Answered). answered.fits x) new ≡ true
 notes_fit a old new is fine fit = rw is (with_answer_holds (λ (x : Answered). answered.fits x) a old fine fit)

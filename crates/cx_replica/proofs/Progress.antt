@@ -17,7 +17,7 @@ pub record IsOnWay (n : ℕ) (first : Machine) (all : List Command) (now : Machi
   pub answers_are : answers ++ (execute_all n now left).answers ≡ (execute_all n first all).answers
   pub fit : IsTrue (list_all (λ (a : Answered). answered.fits a) answers)
 
--- the room that is left for the commands behind so many of them
+-- the room that is left for the commands after the first ones
 pub record HasRoom (commands before now : ℕ) (index capacity held : ℕ) : Type 0 where
   pub spare : commands ≤ now + index
   pub grown : before ≤ now + index

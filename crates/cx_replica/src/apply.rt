@@ -3,13 +3,12 @@
 ghost use Rattle.std.specs.Prelude.{◌≡◌, ◌+◌, ◌++◌, ◌<◌, ◌≤◌, ◌^◌, [], length, true, IfOk, IsErrOf, OnErr, OnOk, IsTrue, false};
 ghost use Rattle.std.specs.List.{list_all};
 ghost use Rattle.cx_base.specs.declared.command.Value.{Value};
-ghost use Rattle.cx_base.specs.Log.{ready_values};
-ghost use Rattle.cx_model.specs.Replica.{replica_rules, apply, chosen_row, machine_from, machine_of, read_answers, results_from};
+ghost use Rattle.cx_model.specs.Replica.{replica_rules, machine_from, machine_of, read_answers, results_from};
 ghost use Rattle.cx_model.specs.Rules.{IsFit};
 ghost use Rattle.cx_field.specs.Fields as field;
 ghost use Rattle.cx_replica.specs.Room.{is_log, values_of};
+ghost use Rattle.cx_replica.specs.Rows.{applied_in, chosen_in};
 ghost use Rattle.cx_replica.specs.Sound.{is_own};
-ghost use Rattle.cx_role.specs.declared.role.StepFault.TheVariants as fault;
 ghost use Rattle.cx_role.specs.Role.{Steps, StaysAt, FailsAt, KeepsDurable, takes_no_memory};
 
 use crate::reads::drop_answered;
@@ -18,13 +17,13 @@ use crate::rooms::Rooms;
 use crate::sending::answer_reads;
 use cx_base::{Value, Why};
 use cx_field::LogValues;
-use cx_keeper::{KeepFault, Keeper};
+use cx_keeper::Keeper;
 use cx_msg::Record;
 use cx_rlog::Taken;
-use cx_role::{Outbox, StepFault};
+use cx_role::{Outbox, StepFault, keep};
 
 impl Replica {
-    /// A value was chosen for a slot. The first for a slot stays; the next slot's is executed, with those that wait behind it.
+    /// A value was chosen for a slot. The first for a slot stays; the next slot's is executed, with those that wait after it.
     pub(crate) fn chosen<K: Keeper>(
         &mut self,
         keeper: &mut K,
@@ -36,13 +35,13 @@ impl Replica {
         requires empty { out.old.list ≡ [] }
         requires slot { IsTrue (field.slot.fits slot) }
         requires value { IsTrue (is_own self.old.cluster value.now) }
-        ensures ok { IfOk result (λ why. Steps K.append_gives replica_rules self.old (chosen_row self.old.cluster self.old.me self.old.durable self.old.volatile slot value.now) why keeper.old keeper.new self.new out.new.list) }
+        ensures ok { IfOk result (λ why. Steps K.append_gives replica_rules self.old (chosen_in self.old slot value.now) why keeper.old keeper.new self.new out.new.list) }
         ensures no_memory { IsErrOf result StepFault.NoMemory → StaysAt K.append_gives self.old self.new keeper.old keeper.new out.new.list }
-        ensures spared { IsErrOf result StepFault.NoMemory → takes_no_memory (chosen_row self.old.cluster self.old.me self.old.durable self.old.volatile slot value.now).why ≡ false }
+        ensures spared { IsErrOf result StepFault.NoMemory → takes_no_memory (chosen_in self.old slot value.now).why ≡ false }
         ensures told { K.tells keeper.new ≡ K.tells keeper.old }
-        ensures failed { IsErrOf result StepFault.Failed → FailsAt K.append_gives (chosen_row self.old.cluster self.old.me self.old.durable self.old.volatile slot value.now) keeper.old keeper.new self.new out.new.list }
+        ensures failed { IsErrOf result StepFault.Failed → FailsAt K.append_gives (chosen_in self.old slot value.now) keeper.old keeper.new self.new out.new.list }
         ensures keeps { IsErrOf result StepFault.Failed → KeepsDurable self.old self.new }
-        ensures fits { IsFit replica_rules self.old.cluster self.old.me self.old.durable (chosen_row self.old.cluster self.old.me self.old.durable self.old.volatile slot value.now).kept }
+        ensures fits { IsFit replica_rules self.old.cluster self.old.me self.old.durable (chosen_in self.old slot value.now).kept }
     {
         match self.log.take(self.alloc, slot, value)? {
             Taken::Past => Ok(Why::Past),
@@ -52,7 +51,7 @@ impl Replica {
         }
     }
 
-    /// The value of the next slot, with those that wait behind it: memory first, then the append, then state and sends.
+    /// The value of the next slot, with those that wait after it: memory first, then the append, then state and sends.
     fn apply<K: Keeper>(
         &mut self,
         keeper: &mut K,
@@ -63,11 +62,11 @@ impl Replica {
         requires empty { out.old.list ≡ [] }
         requires slot { length self.old.durable.log < 2 ^ 40 }
         requires value { IsTrue (is_own self.old.cluster value.now) }
-        ensures ok { IfOk result (λ why. Steps K.append_gives replica_rules self.old (apply self.old.cluster self.old.me self.old.durable self.old.volatile (ready_values (length self.old.durable.log) self.old.volatile.early value.now)) why keeper.old keeper.new self.new out.new.list) }
+        ensures ok { IfOk result (λ why. Steps K.append_gives replica_rules self.old (applied_in self.old value.now) why keeper.old keeper.new self.new out.new.list) }
         ensures no_memory { IsErrOf result StepFault.NoMemory → StaysAt K.append_gives self.old self.new keeper.old keeper.new out.new.list }
-        ensures spared { IsErrOf result StepFault.NoMemory → takes_no_memory (apply self.old.cluster self.old.me self.old.durable self.old.volatile (ready_values (length self.old.durable.log) self.old.volatile.early value.now)).why ≡ false }
+        ensures spared { IsErrOf result StepFault.NoMemory → takes_no_memory (applied_in self.old value.now).why ≡ false }
         ensures told { K.tells keeper.new ≡ K.tells keeper.old }
-        ensures failed { IsErrOf result StepFault.Failed → FailsAt K.append_gives (apply self.old.cluster self.old.me self.old.durable self.old.volatile (ready_values (length self.old.durable.log) self.old.volatile.early value.now)) keeper.old keeper.new self.new out.new.list }
+        ensures failed { IsErrOf result StepFault.Failed → FailsAt K.append_gives (applied_in self.old value.now) keeper.old keeper.new self.new out.new.list }
         ensures keeps { IsErrOf result StepFault.Failed → KeepsDurable self.old self.new }
     {
         let values = self.log.ready(self.alloc, value)?;
@@ -76,14 +75,7 @@ impl Replica {
         let rooms = Rooms::new(self.alloc, count)?;
         out.room(count + self.deferred.len())?;
         let record = Record::Log { values };
-        match keeper.append(&record) {
-            Ok(()) => {}
-            Err(KeepFault::NoMemory) => return Err(StepFault::NoMemory),
-            Err(KeepFault::Failed) => {
-                self.live = false;
-                return Err(StepFault::Failed);
-            }
-        }
+        keep(keeper, &mut self.live, &record)?;
         let values = into_values(record);
         let held = self.log.held();
         self.machine.execute_values(&self.cluster, self.me, held, values.as_slice(), rooms, out);

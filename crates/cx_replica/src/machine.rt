@@ -61,7 +61,7 @@ impl Machine {
         self.store.get(key).copied()
     }
 
-    /// Makes room for executing so many values, of which each has at most eight commands.
+    /// Makes room for executing `values` values, of which each has at most eight commands.
     pub fn make_room(&mut self, values: usize) -> Result<(), NoMemory>
         requires { values ≤ 2 ^ 40 }
         ensures left { self.new.left ≡ self.old.left }

@@ -1,4 +1,4 @@
-//! The rows of reads, and of the value that another replica wants.
+//! The rows of reads, and of the value that another replica asks for.
 
 ghost use Rattle.std.specs.Prelude.{◌≡◌, [], IfOk, OnErr, IsTrue, false};
 ghost use Rattle.std.specs.List.{list_any};
@@ -32,7 +32,7 @@ pub fn drop_answered(deferred: &mut Vec<Deferred>, held: u64)
 }
 
 impl Replica {
-    /// A reader asks for a key's text, once so many slots are held. It is answered at once where they are, and else waits.
+    /// A reader asks for a key's text, once the slots that it names are held. It is answered at once where they are, and else waits.
     #[tactic(auto, using(crate::proofs::Values::mark_fits))]
     pub(crate) fn read(&mut self, one: Deferred, out: &mut Outbox) -> Result<Why, NoMemory>
         requires token { IsTrue (field.token.fits one.token) }

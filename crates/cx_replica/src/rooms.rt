@@ -27,7 +27,7 @@ impl Model for Rooms {
 }
 
 impl Rooms {
-    /// Room for the answers of so many values.
+    /// Room for the answers of `values` values.
     #[tactic(auto, using(crate::proofs::Vacant::rooms_more))]
     pub fn new(alloc: Global, values: usize) -> Result<Self, NoMemory>
         ensures { IfOk result (λ rooms. rooms ≡ values) }

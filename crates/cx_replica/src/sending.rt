@@ -40,7 +40,7 @@ pub fn send_results(
     out.push(results(me.index, unbatcher, slot, Few::from_vec(answers)));
 }
 
-/// Tells every leader how many slots are held. It takes no memory.
+/// Reports to every leader how many slots are held. It takes no memory.
 pub fn tell_held(cluster: &Cluster, me: RoleId, mark: u64, out: &mut Outbox)
     requires kind { me.kind ≡ kind.Replica }
     requires mark { IsTrue (field.mark.fits mark) }
@@ -67,7 +67,7 @@ pub fn ask_next(cluster: &Cluster, me: RoleId, mark: u64, out: &mut Outbox)
     }
 }
 
-/// The answer to a read where so many slots are held: the key's text in the map. It takes no memory.
+/// The answer to a read where `held` slots are held: the key's text in the map. It takes no memory.
 #[tactic(auto, unfolding(cx_field::specs::Fields::token))]
 pub fn answer(me: RoleId, held: u64, machine: &Machine, one: &Deferred) -> Datagram
     requires kind { me.kind ≡ kind.Replica }

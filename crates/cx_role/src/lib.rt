@@ -10,7 +10,9 @@ mod names;
 mod outbox;
 mod role;
 
+/// Why a step was not made. After `Failed` nothing was sent, and the role has to be opened again from what the keeper recovers.
+pub use cx_keeper::KeepFault as StepFault;
 pub use keeping::keep;
 pub use names::{is_for, names_grid, names_role, names_round, names_value};
 pub use outbox::Outbox;
-pub use role::{Role, StepFault, WakeFault};
+pub use role::{Role, WakeFault};

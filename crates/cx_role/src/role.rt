@@ -5,51 +5,16 @@ ghost use Rattle.cx_keeper.specs.Keeper.{all_fit};
 ghost use Rattle.cx_model.specs.Names.{names_role};
 ghost use Rattle.cx_model.specs.Rules.{Rules, Running, opened, refused, outcome_of, IsFit};
 ghost use Rattle.cx_msg.specs.declared.input.Input.TheVariants as input;
-ghost use Rattle.cx_role.specs.declared.role.StepFault.TheVariants as fault;
 ghost use Rattle.cx_role.specs.declared.role.WakeFault.TheVariants as wake;
 ghost use Rattle.cx_role.specs.Role.{Steps, Replies, StaysAt, FailsAt, KeepsDurable, takes_no_memory};
 ghost use Rattle.cx_role.specs.Wake.{IsWakeFault, refused_behind, reopened};
 
-use crate::Outbox;
+use crate::{Outbox, StepFault};
 use cx_base::{Cluster, NoMemory, Order, RoleId, Why};
 use cx_keeper::Keeper;
 use cx_msg::{Datagram, Record};
-use std::alloc::{AllocError, AllocFailed, Global};
+use std::alloc::{AllocError, Global};
 use thiserror::Error;
-
-/// Why a step was not made.
-#[derive(Debug, Drop, Error)]
-pub enum StepFault {
-    /// The keeper failed. Nothing was sent, and the role has to be opened again from what the keeper recovers.
-    #[error("a record could not be kept")]
-    Failed,
-    #[error("no memory")]
-    NoMemory,
-}
-
-impl From<NoMemory> for StepFault {
-    ghost from_gives = { λ _ e. e ≡ fault.NoMemory };
-
-    fn from(_: NoMemory) -> Self {
-        StepFault::NoMemory
-    }
-}
-
-impl From<AllocError> for StepFault {
-    ghost from_gives = { λ _ e. e ≡ fault.NoMemory };
-
-    fn from(_: AllocError) -> Self {
-        StepFault::NoMemory
-    }
-}
-
-impl<T: Drop> From<AllocFailed<T>> for StepFault {
-    ghost from_gives = { λ _ e. e ≡ fault.NoMemory };
-
-    fn from(_: AllocFailed<T>) -> Self {
-        StepFault::NoMemory
-    }
-}
 
 /// Why a role could not be opened.
 #[derive(Debug, Drop, Error)]

@@ -7,7 +7,7 @@ ghost use Rattle.cx_base.specs.Cluster.{count_of};
 ghost use Rattle.cx_model.specs.Rules.{Rules, Running, outcome_of, IsFit};
 ghost use Rattle.cx_model.specs.World.{fresh_roles};
 ghost use Rattle.cx_msg.specs.declared.input.Act.TheVariants.{Give, Stop, Wake};
-ghost use Rattle.cx_role.specs.declared.role.StepFault.TheVariants as fault;
+ghost use Rattle.cx_keeper.specs.declared.keeper.KeepFault.TheVariants as fault;
 ghost use Rattle.cx_role.specs.Role.{Steps, StaysAt, FailsAt, KeepsDurable};
 ghost use Rattle.cx_role.specs.Wake.{IsWakeFault, refused_behind, reopened};
 ghost use Rattle.cx_world.specs.Seat.{AreSeats, roles_in, Seat, IsPlace, IsTurned, TurnsAt, seat_turn, volatile_of, why_of_cut};

@@ -16,9 +16,9 @@ own g c =
     subst (λ (vs : List Value). are_own c.self.inside.cluster vs ≡ true) (sym c.in_ok-values.ensures.values)
     (ready_own c.self.inside.cluster (length c.self.inside.log.list) c.self.inside.log.early c.args.value.now (rw (← c.self.view_is) at c.requires.value) c.self.invariant.waiting)
 
-pub append-requires : goal.append-requires
-append-requires g c =
-    let all = own g (goal.at.append-requires g c).In_ok-values in
+pub keep-requires : goal.keep-requires
+keep-requires g c =
+    let all = own g (goal.at.keep-requires g c).In_ok-values in
     values_fit c.in_ok-values.values c.as_slice-count.ensures.some c.as_slice-count.ensures.room (own_fits c.self.inside.cluster c.in_ok-values.values all)
 
 pub execute_values-requires-clause-slots : goal.execute_values-requires-clause-slots
@@ -71,10 +71,11 @@ returns-clause-ok g c =
       why = refl;
       kept = search rules;
       state = subst (λ (s : Running ReplicaDurable ReplicaVolatile).
-          record { cluster = i.cluster; me = i.me; live = i.live; durable = record { log = c.put.new.self.list }; volatile = record { early = c.put.new.self.early; deferred = c.drop_answered.new.deferred.items } }
+          record { cluster = i.cluster; me = i.me; live = c.keep.new.live; durable = record { log = c.put.new.self.list }; volatile = record { early = c.put.new.self.early; deferred = c.drop_answered.new.deferred.items } }
           ≡ running_after replica_rules s (apply s.cluster s.me s.durable s.volatile (ready_values (length s.durable.log) s.volatile.early c.args.value.now))) c.self.view_is
+          (rw c.in_ok-keep.ensures.lives
           (state_behind i.cluster i.me i.live log c.put.new.self.list _ vs c.into_values-values.result i.log.early c.ready.new.self.early c.put.new.self.early i.deferred.items
-          c.drop_answered.new.deferred.items c.held.result new c.into_values-values.ensures ready c.put.ensures.early c.ready.ensures.early c.drop_answered.ensures c.held.ensures.held);
+          c.drop_answered.new.deferred.items c.held.result new c.into_values-values.ensures ready c.put.ensures.early c.ready.ensures.early c.drop_answered.ensures c.held.ensures.held));
       sends = subst (λ (s : Running ReplicaDurable ReplicaVolatile). c.answer_reads.new.out.list
           ≡ (apply s.cluster s.me s.durable s.volatile (ready_values (length s.durable.log) s.volatile.early c.args.value.now)).sends) c.self.view_is
           (sent_behind i.cluster i.me log _ vs c.as_slice.result.now i.machine.left c.make_room.new.self.left c.execute_values.new.self.left c.held-held.result
