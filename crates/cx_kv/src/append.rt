@@ -4,10 +4,10 @@ ghost use Rattle.std.specs.Prelude.{◌≡◌, ◌+◌, ◌++◌, ◌<◌, ◌�
 ghost use Rattle.cx_base.specs.Fold.{map_appended, reply_appended, text_at};
 
 use crate::pairs::Pairs;
-use cx_base::{Key, Reply, Text};
+use cx_base::{Key, Reply, TEXT_LENGTH, Text};
 
 /// How many bytes a text may have.
-const LONGEST: usize = 64;
+const LONGEST: usize = TEXT_LENGTH;
 
 /// Writes one list and then the other at the front of a longer one.
 fn lay(bytes: &mut [u8], one: &[u8], other: &[u8])

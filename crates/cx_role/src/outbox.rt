@@ -2,10 +2,13 @@
 ghost use Rattle.std.specs.Prelude.{◌≡◌, ◌≤◌, ◌<◌, ◌+◌, ◌++◌, ◌∷◌, [], length, OnOk};
 ghost use Rattle.cx_role.specs.Outbox.{Outgoing};
 
-use cx_base::NoMemory;
+use cx_base::{MAX_SENDS, NoMemory};
 use cx_msg::Datagram;
 use std::alloc::Global;
 use std::marker::Model;
+
+// The clauses say the limit as a number.
+const _: () = prove!(MAX_SENDS == 512);
 
 /// The datagrams of a step, in the order of sending, with room that was taken beforehand.
 #[derive(Drop)]
