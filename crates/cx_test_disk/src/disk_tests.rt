@@ -46,13 +46,20 @@ const CASES: [Case; 4] = [
     },
 ];
 
-fn disk(alloc: Global, fails: &[u64], stop: Option<u64>) -> Result<MemDisk, Fail> {
-    let room = Room {
-        bytes: 4,
-        calls: 3,
-        written: 4,
-    };
-    Ok(MemDisk::new(alloc, &[7, 8], room, fails.to_vec(alloc)?, stop)?)
+const ROOM: Room = Room {
+    bytes: 4,
+    calls: 3,
+    written: 4,
+};
+
+pub(crate) fn disk(
+    alloc: Global,
+    bytes: &[u8],
+    room: Room,
+    fails: &[u64],
+    stop: Option<u64>,
+) -> Result<MemDisk, Fail> {
+    Ok(MemDisk::new(alloc, bytes, room, fails.to_vec(alloc)?, stop)?)
 }
 
 fn succeeds(disk: &mut MemDisk, at: u64, bytes: &[u8]) -> bool {
@@ -75,7 +82,7 @@ fn answers(disk: &mut MemDisk, calls: &[Call]) -> bool {
 #[test]
 fn calls_fail_where_it_is_said(rt: HostRuntime) -> Result<(), Fail> {
     for case in &CASES {
-        let mut disk = disk(rt.alloc(), case.fails, case.stop)?;
+        let mut disk = disk(rt.alloc(), &[7, 8], ROOM, case.fails, case.stop)?;
         assert!(rt; answers(&mut disk, case.calls));
         assert_eq!(rt; disk.bytes(), case.bytes);
     }
@@ -94,7 +101,7 @@ const IMAGES: [(Unsynced, &[u8]); 3] = [
 #[test]
 fn a_crash_keeps_loses_or_fills(rt: HostRuntime) -> Result<(), Fail> {
     let alloc = rt.alloc();
-    let mut disk = disk(alloc, &[], None)?;
+    let mut disk = disk(alloc, &[7, 8], ROOM, &[], None)?;
     assert!(rt; answers(&mut disk, &WRITES));
     for (unsynced, bytes) in IMAGES {
         assert_eq!(rt; disk.crash_image(alloc, unsynced)?.as_slice(), bytes);

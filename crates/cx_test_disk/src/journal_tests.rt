@@ -1,8 +1,8 @@
 //! Journals over disks that fail or stop.
 
-use crate::keeper_tests::count_again;
+use crate::disk_tests::disk;
 use cx_base::Kind;
-use cx_disk::{MemDisk, Room};
+use cx_disk::Room;
 use cx_journal::Journal;
 use cx_keeper::{KeepFault, Keeper, OpenFault};
 use cx_msg::record_from;
@@ -12,22 +12,22 @@ use std::test::Fail;
 // A promise of the round (1, 0, 0).
 const PROMISE: [u8; 11] = [1, 0, 0, 0, 1, 0, 0, 0, 0, 0, 0];
 
-fn disk(alloc: Global, bytes: &[u8], fails: &[u64], stop: Option<u64>) -> Result<MemDisk, Fail> {
-    let room = Room {
-        bytes: 64,
-        calls: 12,
-        written: 64,
-    };
-    Ok(MemDisk::new(alloc, bytes, room, fails.to_vec(alloc)?, stop)?)
-}
+const ROOM: Room = Room {
+    bytes: 64,
+    calls: 12,
+    written: 64,
+};
 
-// How many records the bytes have for an acceptor.
+// How many records the bytes have for an acceptor, which can be read again.
 fn count_of(alloc: Global, bytes: &[u8]) -> Result<usize, Fail> {
-    let disk = disk(alloc, bytes, &[], None)?;
-    let Ok((mut journal, _)) = Journal::open(alloc, disk, Kind::Acceptor) else {
+    let disk = disk(alloc, bytes, ROOM, &[], None)?;
+    let Ok((mut journal, records)) = Journal::open(alloc, disk, Kind::Acceptor) else {
         return Err("not opened".into());
     };
-    Ok(count_again(&mut journal).ok_or("not read again")?)
+    if journal.recover().is_err() {
+        return Err("not read again".into());
+    }
+    Ok(records.len())
 }
 
 // Whether the first of two appends fails and the second one succeeds, and how many records are left.
@@ -37,7 +37,7 @@ fn after_appends(
     stop: Option<u64>,
 ) -> Result<(bool, bool, usize), Fail> {
     let what = record_from(alloc, &PROMISE)?;
-    let disk = disk(alloc, &[0, 7], fails, stop)?;
+    let disk = disk(alloc, &[0, 7], ROOM, fails, stop)?;
     let Ok((mut journal, _)) = Journal::open(alloc, disk, Kind::Acceptor) else {
         return Err("not opened".into());
     };
@@ -65,7 +65,7 @@ fn a_failed_append_is_lost_or_kept(rt: HostRuntime) -> Result<(), Fail> {
 }
 
 fn fails_to_open(alloc: Global, fails: &[u64]) -> Result<bool, Fail> {
-    let disk = disk(alloc, &[0, 7], fails, None)?;
+    let disk = disk(alloc, &[0, 7], ROOM, fails, None)?;
     match Journal::open(alloc, disk, Kind::Acceptor) {
         Ok(_) => Ok(false),
         Err(pair) => Ok(matches!(pair.0, OpenFault::Failed)),
