@@ -1,9 +1,10 @@
-//! A depot in memory: openings that fail, and what a store keeps. Files are shown by the stored runs of nodes.
+//! A depot in memory: openings that fail, and what a store keeps. Of files what no stored run of a node does.
 
 use cx_base::{Kind, RoleId};
 use cx_disk::{Disk, MemDisk, Room};
-use cx_edge::{Depot, MemDepot};
+use cx_edge::{Depot, FileDepot, MemDepot};
 use std::alloc::Global;
+use std::fs;
 use std::test::Fail;
 
 const ROOM: Room = Room {
@@ -60,5 +61,35 @@ fn a_depot_in_memory_fails_where_it_is_told_to(rt: HostRuntime) -> Result<(), Fa
     assert!(rt; holds(&depot, acceptor(), &[7, 8]));
     assert!(rt; depot.open(acceptor()).is_ok());
     assert!(rt; depot.open(acceptor()).is_err());
+    Ok(())
+}
+
+const NAME: &str = "compax-acceptor-65535.journal";
+
+fn is_cut(store: &mut impl Disk) -> bool {
+    store.write_at(0, &[1, 2, 3, 4]).is_ok()
+        && store.len() == 4
+        && store.cut(3).is_ok()
+        && store.len() == 3
+}
+
+// Whether the store can be opened, and is written and cut.
+#[tactic(auto, using(cx_edge::proofs::HeldLaws::out_last))]
+fn cuts(depot: &mut impl Depot, role: RoleId) -> bool {
+    let Ok(mut store) = depot.open(role) else {
+        return false;
+    };
+    let is_done = is_cut(&mut store);
+    depot.close(role, store);
+    is_done
+}
+
+#[test]
+fn a_file_is_cut(rt: HostRuntime) -> Result<(), Fail> {
+    let mut depot = FileDepot::new(rt.alloc(), &rt, &[acceptor()])?;
+    assert!(rt; depot.open(RoleId::new(Kind::Acceptor, 0)).is_err());
+    assert!(rt; cuts(&mut depot, acceptor()));
+    assert!(rt; fs::read(&rt, NAME)?.as_slice() == [1, 2, 3].as_slice());
+    fs::remove_file(&rt, NAME)?;
     Ok(())
 }

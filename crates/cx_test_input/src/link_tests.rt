@@ -1,7 +1,7 @@
-//! A link in memory: calls that fail, and what comes out of its queue. Sockets are shown by the stored runs of nodes.
+//! A link in memory: calls that fail, and what comes out of its queue. Of sockets what no stored run of a node does.
 
 use cx_base::{Kind, RoleId};
-use cx_edge::{Front, Link, LinkFailing, LinkRoom, MemLink, TakeEnd};
+use cx_edge::{Front, Link, LinkFailing, LinkRoom, MemLink, TakeEnd, UdpLink};
 use std::alloc::Global;
 use std::test::Fail;
 
@@ -74,5 +74,14 @@ fn a_link_in_memory_fails_where_it_is_told_to(rt: HostRuntime) -> Result<(), Fai
     for step in &STEPS {
         assert!(rt; is_so(&mut link, step));
     }
+    Ok(())
+}
+
+#[test]
+fn a_role_without_a_socket_sends_nothing(rt: HostRuntime) -> Result<(), Fail> {
+    let mut link = UdpLink::new(rt.alloc(), &rt, 1)?;
+    assert!(rt; link.bind(leader(), 0).is_ok());
+    assert!(rt; link.bind(leader(), 0).is_err());
+    assert!(rt; link.send(RoleId::new(Kind::Leader, 1), 1, &[1]).is_err());
     Ok(())
 }
