@@ -1,4 +1,4 @@
-use Rattle.std.proofs.Common.{◌≡◌, ◌/◌, ◌∙◌, Some, None, IfOk, sym}
+use Rattle.std.proofs.Common.{◌≡◌, ◌/◌, Some, None, sym}
 use Rattle.std.specs.List.{slice_get}
 use Rattle.cx_pieces.proofs.Places.{piece_nowhere, piece_there}
 use Rattle.cx_pieces.proofs.pieces.shared_of.Goals as goal

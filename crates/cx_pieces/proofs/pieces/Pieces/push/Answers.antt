@@ -1,5 +1,4 @@
-use Rattle.std.proofs.Common.{◌≡◌, ◌++◌, ◌∷◌, ◌∙◌, [], List, ℕ, ap, sym, subst}
-use Rattle.cx_pieces.specs.Chunks.{AreHeld}
+use Rattle.std.proofs.Common.{◌≡◌, ◌++◌, ◌∷◌, ◌∙◌, [], List, ℕ, ap}
 use Rattle.cx_pieces.proofs.Holding.{held_closed, held_more}
 use Rattle.cx_pieces.proofs.pieces.Pieces.push.Goals as goal
 
