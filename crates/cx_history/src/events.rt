@@ -166,7 +166,7 @@ impl Events {
     }
 
     /// Notes what happened last. Only a request that was sent takes memory. Out of memory, it changes nothing; more than
-    /// 18,446,744,073,709,551,615 events, or 4,294,967,295 bytes of requests, are answered as out of memory too.
+    /// 18,446,744,073,709,551,615 events, or 4,294,967,295 requests, are answered as out of memory too.
     pub fn push(&mut self, happened: &Happened) -> Result<(), NoMemory>
         ensures ok { OnOk result (self.new ≡ self.old ++ happened.now ∷ []) }
         ensures err { OnErr result (self.new ≡ self.old) }

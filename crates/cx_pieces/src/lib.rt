@@ -1,9 +1,12 @@
-//! Strings of bytes in one buffer.
+//! Strings of bytes, held in shared chunks.
 //!
 //! The histories of a run lie in it. Its theorem is: contracts see the list of what was pushed, of
-//! which `Pieces::get` gives the one of a number.
+//! which `Pieces::get` lends the one of a number, and `Pieces::shared` gives it as bytes that share
+//! their chunk.
 #![tactic(auto)]
 
+mod chunk;
+mod filling;
 mod pieces;
 
 pub use pieces::Pieces;

@@ -1,7 +1,7 @@
 use Rattle.std.proofs.Common.{◌≡◌, ◌-◌, ◌∙◌, suc, sym, subst, arith}
 use Rattle.cx_pieces.specs.Ends.{begin_of}
 use Rattle.cx_pieces.proofs.Cuts.{begins_behind, begins_nowhere}
-use Rattle.cx_pieces.proofs.pieces.begin_of.Goals as goal
+use Rattle.cx_pieces.proofs.chunk.begin_of.Goals as goal
 
 pub returns-in-None : goal.returns-in-None
 returns-in-None c =
