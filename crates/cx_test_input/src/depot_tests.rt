@@ -66,30 +66,29 @@ fn a_depot_in_memory_fails_where_it_is_told_to(rt: HostRuntime) -> Result<(), Fa
 
 const NAME: &str = "compax-acceptor-65535.journal";
 
-fn is_cut(store: &mut impl Disk) -> bool {
-    store.write_at(0, &[1, 2, 3, 4]).is_ok()
-        && store.len() == 4
-        && store.cut(3).is_ok()
-        && store.len() == 3
+fn is_cut(store: &mut impl Disk, at: u64) -> bool {
+    at <= store.len() && store.cut(at).is_ok()
 }
 
-// Whether the store can be opened, and is written and cut.
+// Whether the store can be opened, and takes two bytes, of which the second is cut off.
 #[tactic(auto, using(cx_edge::proofs::HeldLaws::out_last))]
-fn cuts(depot: &mut impl Depot, role: RoleId) -> bool {
+fn keeps_the_first(depot: &mut impl Depot, role: RoleId) -> bool {
     let Ok(mut store) = depot.open(role) else {
         return false;
     };
-    let is_done = is_cut(&mut store);
+    let first = writes(&mut store, 0, 1);
+    let second = writes(&mut store, 1, 2);
+    let is_cut = is_cut(&mut store, 1);
     depot.close(role, store);
-    is_done
+    first && second && is_cut
 }
 
 #[test]
 fn a_file_is_cut(rt: HostRuntime) -> Result<(), Fail> {
     let mut depot = FileDepot::new(rt.alloc(), &rt, &[acceptor()])?;
     assert!(rt; depot.open(RoleId::new(Kind::Acceptor, 0)).is_err());
-    assert!(rt; cuts(&mut depot, acceptor()));
-    assert!(rt; fs::read(&rt, NAME)?.as_slice() == [1, 2, 3].as_slice());
+    assert!(rt; keeps_the_first(&mut depot, acceptor()));
+    assert!(rt; fs::read(&rt, NAME)?.as_slice() == [1].as_slice());
     fs::remove_file(&rt, NAME)?;
     Ok(())
 }

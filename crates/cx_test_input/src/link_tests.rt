@@ -20,7 +20,7 @@ enum Step {
 }
 
 // The first bind, the second send and the second take fail, as those without room do.
-const STEPS: [Step; 10] = [
+const STEPS: [Step; 11] = [
     Step::Bind(false),
     Step::Bind(true),
     Step::Bind(false),
@@ -31,6 +31,7 @@ const STEPS: [Step; 10] = [
     Step::Take(TakeEnd::Got(1), [9, 0]),
     Step::Take(TakeEnd::Got(2), [1, 2]),
     Step::Send(&[5, 6, 7, 8, 9], false),
+    Step::Take(TakeEnd::Nothing, [0, 0]),
 ];
 
 fn leader() -> RoleId {
