@@ -48,8 +48,8 @@ fn role_at(bytes: &[u8], at: usize) -> RoleId
     }
 }
 
-// What lies behind so many bytes.
-fn behind(bytes: &[u8], count: usize) -> &[u8]
+// What comes after the first `count` bytes.
+fn after(bytes: &[u8], count: usize) -> &[u8]
     requires { count ≤ length bytes.now }
     ensures { result.now ≡ drop count bytes.now }
 {
@@ -67,7 +67,7 @@ impl<'a> Spelled<'a> {
             kind: bytes[0],
             from: role_at(bytes, 1),
             to: role_at(bytes, 4),
-            body: behind(bytes, 7),
+            body: after(bytes, 7),
         }
     }
 
