@@ -30,7 +30,7 @@ IsRising-parted key map h i j d ij l less = step (cases_eq i j)
     step (inl e) = rw e less
     step (inr n) = is_less-trans (get_or map i d).key (get_or map j d).key key (IsRising-at map i j d h (omega arith) l) less
 
--- a key that is not behind the first key and differs from it comes before all
+-- a key that is not after the first key and differs from it comes before all
 IsBeforeAll-weaker : (key other : List ℕ) (map : List Pair) → is_less key other ≡ true → IsBeforeAll other map → IsBeforeAll key map
 IsBeforeAll-weaker key other [] less h = tt
 IsBeforeAll-weaker key other (p ∷ map) less h = (is_less-trans key other p.key less h.0, IsBeforeAll-weaker key other map less h.1)

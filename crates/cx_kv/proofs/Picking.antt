@@ -258,13 +258,13 @@ pub written : (n : ℕ) (new old : List ℕ) → length new ≡ length old → n
 written n new old same long =
     rw (drop_end (length new) old (omega arith), append-nil new) (take_end n new (omega arith))
 
--- the pair at a place, and those behind it
+-- the pair at a place, and those after it
 pub drop_at : (pairs : List Pair) (i : ℕ) (p : Pair) → i < length pairs → ((d : Pair) → get_or pairs i d ≡ p) → drop i pairs ≡ p ∷ drop (suc i) pairs
 drop_at [] i p l is = absurd (omega arith)
 drop_at (q ∷ pairs) zero p l is = ap (λ (r : Pair). r ∷ pairs) (is p)
 drop_at (q ∷ pairs) (suc i) p l is = drop_at pairs i p (omega arith) is
 
--- a text with more behind it begins as before
+-- a text with more after it begins as before
 pub begins : (old now more new : List ℕ) → new ≡ now ++ more → take (length old) now ≡ old → take (length old) new ≡ old
 begins old now more new is h = rw is (go old now h)
   where

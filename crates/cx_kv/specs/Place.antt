@@ -6,7 +6,7 @@ use Rattle.cx_base.specs.Fold.{is_less}
 use Rattle.cx_base.specs.declared.command.Pair.{Pair}
 use Rattle.cx_kv.specs.Rising.{IsBeforeAll}
 
--- the keys in front of the place come before the key, and those from it on do not
+-- the keys before the place come before the key, and those from it on do not
 pub record IsPlace (key : List ℕ) (map : List Pair) (place : ℕ) : Type 0 where
   pub inside : place ≤ length map
   pub before : AllWithin (λ p. is_less p.key key ≡ true) map 0 place
@@ -18,7 +18,7 @@ pub record IsHeldAt (key : List ℕ) (map : List Pair) (place : ℕ) : Type 0 wh
   pub before : AllWithin (λ p. is_less p.key key ≡ true) map 0 place
   pub same : (p : Pair) → bytes_eq (slice_index_or map place p).key key ≡ true
 
--- the key stands nowhere, and belongs in front of the place
+-- the key stands nowhere, and belongs before the place
 pub record IsFreeAt (key : List ℕ) (map : List Pair) (place : ℕ) : Type 0 where
   pub inside : place ≤ length map
   pub before : AllWithin (λ p. is_less p.key key ≡ true) map 0 place

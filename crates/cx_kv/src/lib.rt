@@ -2,7 +2,7 @@
 //!
 //! Its theorems are: `Store::apply` is one step of the fold of commands, with its reply, and so is
 //! `Pairs::apply`, which can't fail, since room was taken beforehand; `execute` does those commands
-//! of a value that take effect after others, which `Executed` tells without holding all of these.
+//! of a value that take effect after others, which `Executed` knows without holding all of these.
 #![tactic(auto)]
 
 mod acting;

@@ -23,7 +23,7 @@ const MOST: usize = 1 << 32;
 pub struct Pairs {
     // The pairs as they came.
     list: Vec<Pair>,
-    // Their places there, in the rising order of their keys: so a new key moves four bytes for each one behind it, and no pair.
+    // Their places there, in the rising order of their keys: so a new key moves four bytes for each one after it, and no pair.
     order: Vec<u32>,
     spare: usize,
 }
@@ -52,7 +52,7 @@ impl Pairs {
         }
     }
 
-    /// Makes room for so many more keys. Out of memory, or past 2^32 keys, nothing changes.
+    /// Makes room for `count` more keys. Out of memory, or past 2^32 keys, nothing changes.
     pub fn make_room(&mut self, count: usize) -> Result<(), NoMemory>
         ensures pairs { self.new.pairs ≡ self.old.pairs }
         ensures room { OnOk result (count ≤ self.new.spare) }

@@ -86,7 +86,7 @@ fn print_pairs(map: &Pairs, out: &mut Vec<u8>) -> Result<(), NoMemory>
     Ok(())
 }
 
-// What was printed behind so many bytes of a text goes again when out of memory.
+// Out of memory, what was printed after the first `length` bytes of a text is removed again.
 fn undo_part(
     printed: Result<(), NoMemory>,
     out: &mut Vec<u8>,

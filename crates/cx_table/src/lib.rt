@@ -1,6 +1,6 @@
 //! A replica's client table: the last number and answer of each client.
 //!
-//! Only replicas use it. Its theorems are: `Table::judge` tells exactly whether a number is new, the
+//! Only replicas use it. Its theorems are: `Table::judge` says exactly whether a number is new, the
 //! client's last one (which is answered again) or past; `Table::note` puts an answer in the place of
 //! the client's earlier one.
 #![tactic(auto)]

@@ -40,7 +40,7 @@ impl Table {
         }
     }
 
-    /// Makes room for so many more clients. Out of memory, nothing changes.
+    /// Makes room for `count` more clients. Out of memory, nothing changes.
     pub fn make_room(&mut self, count: usize) -> Result<(), NoMemory>
         ensures notes { self.new.notes ≡ self.old.notes }
         ensures room { OnOk result (count ≤ self.new.spare) }
