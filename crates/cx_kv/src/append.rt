@@ -9,7 +9,7 @@ use cx_base::{Key, Reply, TEXT_LENGTH, Text};
 /// How many bytes a text may have.
 const LONGEST: usize = TEXT_LENGTH;
 
-/// Writes one list and then the other at the front of a longer one.
+/// Writes one list and then the other at the start of a longer one.
 fn lay(bytes: &mut [u8], one: &[u8], other: &[u8])
     requires { length one.now + length other.now ≤ length bytes.old }
     ensures { take (length one.now + length other.now) bytes.new ≡ one.now ++ other.now }
