@@ -9,9 +9,8 @@ const ONES: &str =
     "f = 0\nleaders = 1\nproxies = 1\nacceptors = 1\nreplicas = 1\nbatchers = 1\nunbatchers = 1\nreaders = 1\nclients = 1\nbatch = 1\n";
 
 // What stands in front of those lines, how many of their bytes are left out there, and what is told.
-const FAULTS: [(&str, usize, &str); 18] = [
+const FAULTS: [(&str, usize, &str); 10] = [
     ("", 6, "missing key f"),
-    ("f = 4\n", 6, "f = 4 is out of range"),
     ("f = -1\n", 6, "f = -1 is out of range"),
     (
         "f = 9223372036854775807\n",
@@ -19,23 +18,12 @@ const FAULTS: [(&str, usize, &str); 18] = [
         "f = 9223372036854775807 is out of range",
     ),
     ("f = 3\n", 6, "replicas = 1 is out of range"),
-    ("f = 1.0\n", 6, "f is not a number"),
-    ("f = \"0\"\n", 6, "f is not a number"),
     ("f.a = 0\n", 6, "f is not a number"),
-    ("x = 1\n", 0, "unknown key x"),
     ("x = 1\n", 6, "unknown key x"),
     ("y = 1\nX = 1\nx = 1\n", 0, "unknown key X"),
     ("base_port = 1023\n", 0, "base_port = 1023 is out of range"),
-    (
-        "base_port = 60001\n",
-        0,
-        "base_port = 60001 is out of range",
-    ),
     ("base_port = \"a\"\n", 0, "base_port is not a number"),
     ("f = 0\n", 0, "not TOML"),
-    ("f = 00\n", 6, "not TOML"),
-    ("f = 9223372036854775808\n", 6, "not TOML"),
-    ("\u{7}", 0, "not TOML"),
 ];
 
 fn header(alloc: Global, front: &str, left_out: usize) -> Result<String, Fail> {

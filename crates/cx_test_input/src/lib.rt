@@ -1,4 +1,4 @@
-//! Tests of headers, schedules and requests, and of the streams, sockets and files that bytes come from and go to.
+//! Tests of headers, and of sources, sinks, links and depots in memory, whose calls fail.
 //!
 //! Tests that need only public calls stand here and not in the crates that they test, since a crate with tests is proved twice:
 //! once as the library that others build on, and once more with its tests. Nothing builds on this crate.
@@ -8,8 +8,6 @@
 mod cluster_tests;
 #[cfg(test)]
 mod depot_tests;
-#[cfg(test)]
-mod lines_tests;
 #[cfg(test)]
 mod link_tests;
 #[cfg(test)]
