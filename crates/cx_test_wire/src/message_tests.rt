@@ -6,11 +6,12 @@ use cx_msg::{KeptRecord, WireFault, decode, encode_into, record_from, record_int
 use std::alloc::Global;
 use std::test::Fail;
 
+// The value of a hexadecimal digit.
 fn digit(letter: u8) -> u8 {
-    match letter {
-        b'0'..=b'9' => letter - b'0',
-        b'a'..=b'f' => letter - b'a' + 10,
-        _ => 0,
+    if letter < b'a' {
+        letter.wrapping_sub(b'0')
+    } else {
+        letter.wrapping_sub(b'a').wrapping_add(10)
     }
 }
 
@@ -90,11 +91,15 @@ fn is_refused(alloc: Global, is_datagram: bool, bytes: &[u8], fault: WireFault) 
     fault_of(alloc, is_datagram, bytes) == Some(fault)
 }
 
-// A datagram says that its body has this length.
+// Lets a datagram say that its body has this length.
 fn say_length(bytes: &mut [u8], len: usize) {
+    let Ok(said) = u16::try_from(len) else {
+        return;
+    };
+    let said = said.to_be_bytes();
     if bytes.len() >= 12 {
-        bytes[10] = (len >> 8) as u8;
-        bytes[11] = len as u8;
+        bytes[10] = said[0];
+        bytes[11] = said[1];
     }
 }
 
