@@ -28,7 +28,7 @@ use Rattle.cx_model.specs.declared.states.Mode.{Mode}
 use Rattle.cx_model.specs.declared.states.Mode.TheVariants.{Idle, Matching, Phase1, Leading}
 use Rattle.cx_model.specs.declared.states.Promised.{Promised}
 use Rattle.cx_model.specs.Collection.{Collection, collection_from, with_informed, with_forgotten, is_off, is_informing, is_collecting}
-use Rattle.cx_model.specs.Leader.{LeaderDurable, LeaderVolatile, leader_rules, leader_fits, is_idle, is_matching, is_promising, is_leading, round_of, is_own, match_a_to, phase1a_to, leads_to, propose_to, inform_to, garbage_a_to, begin_in, finish, matched_by, match_counted, promise_counted, with_seen, is_past_window, propose_in, held_by, is_settled, collect_in, informed_counted, informed_in, leader_takes, open_values, stage_sends, tick_in, order_row, leader_row, follows}
+use Rattle.cx_model.specs.Leader.{LeaderDurable, LeaderVolatile, leader_rules, leader_fits, is_idle, is_matching, is_promising, is_leading, round_of, is_own, match_a_to, phase1a_to, leads_to, propose_to, inform_to, garbage_a_to, begin_in, finish, matched_by, match_counted, promise_counted, with_seen, is_past_window, propose_in, held_by, is_settled, collect_in, informed_counted, informed_in, leader_takes, open_values, stage_sends, tick_in, order_row, leader_row, follows, has_no_room}
 use Rattle.cx_model.specs.Lists.{number_itself}
 use Rattle.cx_model.specs.Matched.{enough, matchmakers, is_counted, live_entries, is_member_of, members_of, members_in, rows_whole}
 use Rattle.cx_model.specs.Member.{Member}
@@ -182,7 +182,7 @@ module _ (c : Cluster) (me : RoleId) (d : LeaderDurable) (place : me.index < c.l
         (match_counted_good (record v { told = v.told ++ record { matchmaker = from.index; watermark = w; entries = es } ∷ [] }) h told d.own))
     takes_good from (msg.MatchNack i reason other) reports =
         either_way Good (is_idle v.mode || not (is_own d i)) _ _ (calm why.Old (with_seen other v) h)
-        (either_way Good (reason == 2) _ _ (calm why.Full (with_seen other v) h) (calm why.Nacked (record (with_seen other v) { mode = Idle }) h))
+        (either_way Good (has_no_room reason) _ _ (calm why.Full (with_seen other v) h) (calm why.Nacked (record (with_seen other v) { mode = Idle }) h))
     takes_good from (msg.Phase1B i cw votes) reports =
         let p : Promised = record { acceptor = from.index; cw = cw; votes = votes } in
         either_way Good (not (is_promising v.mode && is_own d i)) _ _ (calm why.Old v h)

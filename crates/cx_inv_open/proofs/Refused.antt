@@ -28,7 +28,7 @@ use Rattle.cx_inv_open.specs.Reopened.{refused_as}
 
 module _ {D V : Type 0} (rules : Rules D V) (c : Cluster) (me : RoleId) where
   -- one more record at the end
-  pub one_more : (d : D) (i : ℕ) (rs : List Record) (r : Record) → refused_from rules c me d i rs ≡ None → rules.fits c me (folded_from rules d rs) r ≡ true
+  one_more : (d : D) (i : ℕ) (rs : List Record) (r : Record) → refused_from rules c me d i rs ≡ None → rules.fits c me (folded_from rules d rs) r ≡ true
       → refused_from rules c me d i (rs ++ r ∷ []) ≡ None
   one_more d i [] r none fit = rw fit refl
   one_more d i (x ∷ rs) r none fit = step (rules.fits c me d x) none (λ n. one_more (rules.after d x) (i + 1) rs r n fit)
