@@ -1,12 +1,23 @@
 //! Lines of a trace, and what is left of a text that memory ran out for.
 
 use cx_base::{Command, Cut, Event, Few, Key, Kind, Op, RoleId, Text, Value, Why};
+use cx_history::Sent;
 use cx_kv::{Executed, Store};
-use cx_msg::decode;
-use cx_trace::{
-    Effect, Folded, chosen_into, datagram_into, datagrams_into, event_into, replica_into, slot_into,
-};
+use cx_msg::{Datagram, Spelled, decode};
+use cx_trace::{Effect, Folded, chosen_into, datagram_into, event_into, replica_into, slot_into};
+use std::alloc::Global;
 use std::test::Fail;
+
+// The line of a datagram, from the bytes that are held of it.
+fn line_of(alloc: Global, number: u64, datagram: &Datagram) -> Result<Vec<u8>, Fail> {
+    let mut sent = Sent::new(alloc);
+    sent.push(datagram)?;
+    let mut text = Vec::new(alloc);
+    if let Some(bytes) = sent.spelled(0)? {
+        datagram_into(alloc, number, &Spelled::new(bytes.as_slice()), &mut text)?;
+    }
+    Ok(text)
+}
 
 // Lines of a run with one role of each kind.
 #[test]
@@ -31,25 +42,21 @@ fn prints(rt: HostRuntime) -> Result<(), Fail> {
         b"@7 deliver 4 leader:0 proposed\n".as_slice()
     );
 
-    text.clear();
     let propose = decode(
         alloc,
         b"CX\x01\x0a\x03\0\0\x04\0\0\0/\0\0\0\x01\0\0\0\0\0\0\x01\x01\0\0\0\0\0\0\0\0\0\0\0\0\0\0\0\0\0\0\x01\x01\0\0\0\0\0\0\0\0\0\x01\x01\x01a\x011",
     )?;
-    datagrams_into(alloc, 5, &[propose], &mut text)?;
     assert_eq!(rt;
-        text.as_slice(),
+        line_of(alloc, 5, &propose)?.as_slice(),
         b"+5 leader:0 proxy:0 Propose 0000000100000000000001010000000000000000000000000000000000000101000000000000000000010101610131\n".as_slice()
     );
 
-    text.clear();
     let answer = decode(
         alloc,
         b"CX\x01\x10\x08\0\0\x01\0\0\0\x11\0\0\0\0\0\0\0\x01\0\0\0\0\0\0\0\x01\0",
     )?;
-    datagram_into(alloc, 11, &answer, &mut text)?;
     assert_eq!(rt;
-        text.as_slice(),
+        line_of(alloc, 11, &answer)?.as_slice(),
         b"+11 unbatcher:0 client:0 Answer 0000000000000001000000000000000100\nanswer client:0 1 at 1 ok\n".as_slice()
     );
     Ok(())
