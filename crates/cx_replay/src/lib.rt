@@ -10,6 +10,7 @@ mod generating;
 mod header;
 mod replaying;
 mod running;
+mod sending;
 mod short;
 mod step;
 mod summing;

@@ -7,8 +7,9 @@ ghost use Rattle.cx_model.specs.World.{step};
 ghost use Rattle.cx_replay.specs.Replay.{step_text};
 ghost use Rattle.cx_world.specs.Folded.{folded_of};
 
+use crate::sending::lines_into;
 use cx_base::{Event, NoMemory};
-use cx_trace::{Folded, datagrams_into, event_into};
+use cx_trace::{Folded, event_into};
 use cx_world::World;
 use std::alloc::Global;
 
@@ -27,8 +28,7 @@ pub fn step_into(
 {
     let effect = world.step(event)?;
     event_into(event, &effect, text)?;
-    let sent = world.sent().since(effect.first)?;
-    datagrams_into(alloc, effect.first, &sent, text)
+    lines_into(alloc, world.sent(), effect.first, text)
 }
 
 /// What each replica's kept values leave, the replicas in order.

@@ -6,5 +6,3 @@
 
 #[cfg(test)]
 mod cluster_tests;
-#[cfg(test)]
-mod trace_tests;

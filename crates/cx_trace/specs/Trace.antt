@@ -1,5 +1,5 @@
 -- The lines of the trace: events, and the datagrams that they send.
-use Rattle.std.specs.Prelude.{ℕ, ◌+◌, List, [], ◌∷◌, ◌++◌, codes, decimal, Option, None, Some}
+use Rattle.std.specs.Prelude.{ℕ, Bool, ◌+◌, ◌==◌, ◌||◌, List, [], ◌∷◌, ◌++◌, codes, decimal, Option, None, Some}
 use Rattle.cx_base.specs.Role.{role, role_text}
 use Rattle.cx_base.specs.Why.{why_text}
 use Rattle.cx_base.specs.declared.event.Event.{Event}
@@ -87,6 +87,14 @@ told_text client (PreRead a b) = []
 told_text client (PreReadAck a b c) = []
 told_text client (Read a b c) = []
 
+-- what a datagram tells the client that gets it
+unfoldable pub told_of : Letter → List ℕ
+told_of d = told_text d.to.index d.msg
+
+-- whether messages of a kind tell the client that gets them something: answers, and what reads found
+abbrev pub tells : ℕ → Bool
+tells kind = kind == 16 || kind == 29
+
 -- a number, two roles and a name
 abbrev pub named_text : ℕ → RoleId → RoleId → List ℕ → List ℕ
 named_text n from to name = codes "+" ++ decimal n ++ codes " " ++ role_text from ++ codes " " ++ role_text to ++ codes " " ++ name ++ codes " "
@@ -95,9 +103,9 @@ named_text n from to name = codes "+" ++ decimal n ++ codes " " ++ role_text fro
 unfoldable pub head_text : ℕ → Letter → List ℕ
 head_text n d = named_text n d.from d.to (name_of_message d.msg)
 
--- the line of a datagram, and behind it what it tells a client
+-- the line of a datagram, and after it what it tells a client
 unfoldable pub datagram_text : ℕ → Letter → List ℕ
-datagram_text n d = head_text n d ++ hex (body d) ++ codes "\n" ++ told_text d.to.index d.msg
+datagram_text n d = head_text n d ++ hex (body d) ++ codes "\n" ++ told_of d
 
 -- the lines of datagrams, whose numbers rise from n
 abbrev pub datagrams_text : ℕ → List Letter → List ℕ
