@@ -1,6 +1,6 @@
 //! The lines of the datagrams that were sent.
 
-ghost use Rattle.std.specs.Prelude.{◌≡◌, ◌≤◌, ◌++◌, OnOk, drop, length, slice_get};
+ghost use Rattle.std.specs.Prelude.{◌≡◌, ◌++◌, OnOk, drop, slice_get};
 ghost use Rattle.cx_replay.specs.Sending.{line_text};
 ghost use Rattle.cx_trace.specs.Trace.{datagrams_text};
 
@@ -27,7 +27,6 @@ pub fn lines_into(
     first: u64,
     text: &mut Vec<u8>,
 ) -> Result<(), NoMemory>
-    requires { first ≤ length sent.now }
     ensures { OnOk result (text.new.items ≡ text.old.items ++ datagrams_text first (drop first sent.now)) }
 {
     for number in first..sent.len() {
