@@ -255,7 +255,9 @@ class SupervisorTest(ClusterTrial):
     HEADER = SMALL
 
     def node(self) -> Process:
-        process = self.state().notes[0].process
+        """The node of the one process, which may just be started again."""
+        until(lambda: self.running(0) is not None, "process 0 runs")
+        process = self.running(0)
         assert process
         return process
 
