@@ -20,6 +20,8 @@ pub enum Why {
     Asking,
     /// The gathered commands went to a leader.
     Batched,
+    /// The leader goes on from its round before, and asks no acceptor.
+    Bypassed,
     /// A value is now known to be chosen.
     Chosen,
     /// The round is below the watermark.
@@ -123,6 +125,7 @@ impl Why {
             Why::Asked => "asked",
             Why::Asking => "asking",
             Why::Batched => "batched",
+            Why::Bypassed => "bypassed",
             Why::Chosen => "chosen",
             Why::Collected => "collected",
             Why::Collecting => "collecting",
