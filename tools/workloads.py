@@ -102,10 +102,10 @@ def carried_by_column(n, command):
 
 
 def changed(n, grid):
-    """The leader begins its next round with a grid of the same four acceptors: datagrams n to n + 8.
+    """The leader begins its next round with a grid of the same four acceptors: datagrams n to n + 2.
 
-    They are MatchA, MatchB, four Phase1A, the Phase1B of acceptors 0 and 1, which are a row, and Leads."""
-    return [f"change leader:0 {grid}", *delivered(n, n + 1, n + 2, n + 3, n + 6, n + 7, n + 8)]
+    They are MatchA, MatchB and Leads: all that it proposed is held, so it proposes nothing again."""
+    return [f"change leader:0 {grid}", *delivered(n, n + 1, n + 2)]
 
 
 def retired(n):
@@ -123,8 +123,8 @@ def changes():
         yield from carried_by_column(n, put(at))
         n += 12
         if at % 4 == 3:
-            yield from [*changed(n, next(grids)), *retired(n + 9)]
-            n += 17
+            yield from [*changed(n, next(grids)), *retired(n + 3)]
+            n += 11
 
 
 def ticks():
