@@ -63,8 +63,8 @@ class WorkloadsTest(unittest.TestCase):
         self.assertEqual(len(set(trace.answers)), 30)
 
     def test_changes(self) -> None:
-        trace = Trace("changes", LED + 3 * (4 * 12 + 8 + 7))
-        self.has(trace, applied=12, voted=24, started=4, retired=3, raised=3)
+        trace = Trace("changes", LED + 3 * (4 * 12 + 4 + 7))
+        self.has(trace, applied=12, voted=24, started=4, bypassed=3, promised=0, retired=3, raised=3)
         self.assertEqual(len(set(trace.answers)), 12)
 
     def test_folds(self) -> None:
