@@ -11,8 +11,8 @@ use Rattle.cx_field.specs.Fields as field
 use Rattle.cx_phase1.specs.Window.{IsWindow, is_used_up}
 use Rattle.cx_ring.specs.Ring.{RingState, value_at}
 
--- the chosen watermark and the next free slot; the slot before which it proposed when its first phase was done; what it proposed
--- from the watermark on, and which of these slots it knows to be chosen
+-- the chosen watermark and the next free slot; the slot before which it proposed when it began to lead; what it proposed from the
+-- watermark on, and which of these slots it knows to be chosen
 pub record Proposing : Type 0 where
   pub cw : ℕ
   pub next : ℕ
@@ -27,6 +27,10 @@ nothing_from cw = record { cw = cw; next = cw; end = cw; proposed = []; chosen =
 -- what a plan proposes
 abbrev pub planned : Plan → Proposing
 planned p = record { cw = p.cw; next = p.end; end = p.end; proposed = placed_from p.cw p.values; chosen = [] }
+
+-- what it proposed, proposed again in the next round, where nothing is known to be chosen yet
+abbrev pub led_on : Proposing → Proposing
+led_on p = record p { end = p.next; chosen = [] }
 
 -- a value at the next slot
 abbrev pub with_value : Value → Proposing → Proposing
@@ -50,7 +54,7 @@ raised cw p =
       chosen = filter (λ s. nat_le (max p.cw cw) s) p.chosen;
     }
 
--- whether all that it proposed when its first phase was done is known to be chosen, or held
+-- whether all that it proposed when it began to lead is known to be chosen, or held
 abbrev pub is_settled : Proposing → Bool
 is_settled p = are_known p.chosen p.cw p.end
 

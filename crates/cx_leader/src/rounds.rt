@@ -35,7 +35,7 @@ pub fn round_of(own: &Option<Entry>) -> Round
     }
 }
 
-fn is_changed(own: Round, round: Round) -> bool
+fn is_next(own: Round, round: Round) -> bool
     ensures { result ≡ same_round round (record own { s = own.s + 1 }) }
 {
     match Round::change_after(own) {
@@ -47,7 +47,7 @@ fn is_changed(own: Round, round: Round) -> bool
 fn follows(own: Round, round: Round) -> bool
     ensures { result ≡ follows own round }
 {
-    own.is_before(&round) && round.s == 0 || is_changed(own, round)
+    own.is_before(&round) && round.s == 0 || is_next(own, round)
 }
 
 /// Whether a leader with this last round may begin that one with this grid.
