@@ -12,7 +12,7 @@ use Rattle.cx_field.specs.declared.parts.NackReason.TheVariants as nack
 use Rattle.cx_msg.specs.Letter.{letter}
 use Rattle.cx_msg.specs.declared.kept.Record.TheVariants as kept
 use Rattle.cx_msg.specs.declared.message.Msg.TheVariants as msg
-use Rattle.cx_model.specs.Examples.{Line, IsRun, one_of_each, client, batcher, leader, acceptor, matchmaker, replica, reader, round, first, single, lead, change, collect, deliver, left, hold, ◌⇒◌, ◌keeping◌by◌, ◌sending◌}
+use Rattle.cx_model.specs.Examples.{Line, IsRun, one_of_each, client, batcher, leader, acceptor, matchmaker, replica, reader, round, first, single, lead, collect, deliver, left, hold, ◌⇒◌, ◌keeping◌by◌, ◌sending◌}
 use Rattle.cx_model.specs.Matchmaker.{entry}
 use Rattle.cx_model.specs.Reader.{token}
 
@@ -30,7 +30,7 @@ cluster =
     }
 
 abbrev pub next : Round
-next = round 1 0 1
+next = round 2 0 0
 
 abbrev pub column : Shape
 column = make_grid 2 1 (1 ∷ 2 ∷ [])
@@ -51,7 +51,7 @@ story =
     ∷ deliver 3 ⇒ why.Counted
     ∷ deliver 4 ⇒ why.Leads
     sending letter (leader 0) (batcher 0) (msg.Leads first)  -- 5
-    ∷ change 0 column ⇒ why.Started
+    ∷ lead 0 column ⇒ why.Started
     keeping kept.Round next column by leader 0
     sending letter (leader 0) (matchmaker 0) (msg.MatchA next column)  -- 6
     sending letter (leader 0) (matchmaker 1) (msg.MatchA next column)  -- 7

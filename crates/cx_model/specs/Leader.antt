@@ -44,8 +44,9 @@ pub record LeaderDurable : Type 0 where
 
 -- What it is doing; the greatest round that it heard of; the greatest number of slots that each replica reported; the
 -- matchmakers' and the acceptors' answers that it counted; the chosen watermark and the next free slot; the slot before which it
--- proposed when its first phase was done; the values that it proposed from the watermark on, by slot, and which of these slots it
--- knows to be chosen in its round; and how far it is in retiring the earlier rounds.
+-- proposed when it began to lead; the values that it proposed from the watermark on, by slot, in its round or, while it goes on
+-- to another grid, in the round before; which of these slots it knows to be chosen in its round; and how far it is in retiring
+-- the earlier rounds.
 pub record LeaderVolatile : Type 0 where
   pub mode : Mode
   pub seen : Round
@@ -148,10 +149,24 @@ matched_by c me own v [] = finish c me own v
 matched_by c me own v (e ∷ es) =
     replied why.Phase1 (record v { mode = Phase1 }) (map (phase1a_to me own.round) (members_of c (e ∷ es)))
 
+-- Whether a round came by a change: a round of a lead has s = 0, and only a leader that leads goes on to the next s.
+abbrev pub is_changed : Round → Bool
+is_changed i = nat_lt 0 i.s
+
+-- A round that came by a change asks no acceptor. Between it and its leader's round before there is no other, so it begins with what that
+-- one proposed from the watermark on (phase 1 bypassing, JSys 2021).
+abbrev pub bypass : Cluster → RoleId → Entry → LeaderVolatile → Outcome LeaderVolatile
+bypass c me own v =
+    replied why.Bypassed
+    (record v { mode = Leading; end = v.next; chosen = [] })
+    (map (propose_to c me own v.cw) v.proposed ++ map (leads_to me own.round) (below c.batchers))
+
 abbrev pub match_counted : Cluster → RoleId → Option Entry → LeaderVolatile → Outcome LeaderVolatile
 match_counted c me None v = answered why.Old v
 match_counted c me (Some own) v =
-    if nat_lt (length v.told) (enough c) then answered why.Counted v else matched_by c me own v (live_entries v.told)
+    if nat_lt (length v.told) (enough c) then answered why.Counted v
+    else if is_changed own.round then bypass c me own v
+    else matched_by c me own v (live_entries v.told)
 
 -- a matchmaker answers
 abbrev pub match_b_row : Cluster → RoleId → LeaderDurable → LeaderVolatile → RoleId → Round → Round → List Entry → Outcome LeaderVolatile

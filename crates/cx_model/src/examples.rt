@@ -130,7 +130,7 @@ pub fn lower_round_is_refused()
     ensures { LowerRoundIsRefused }
 {}
 
-/// Two of three matchmakers are enough, and a leader goes on with another grid and retires its round before. A matchmaker
+/// Two of three matchmakers are enough, and a leader leads again with another grid and retires its round before. A matchmaker
 /// that never heard of the new round forgets all earlier ones and has an entry of the new one.
 pub fn own_entry_stays()
     ensures { OwnEntryStays }
