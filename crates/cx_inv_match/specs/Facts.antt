@@ -26,7 +26,7 @@ use Rattle.cx_model.specs.declared.states.Stage.TheVariants.{Off, Informing, Col
 use Rattle.cx_model.specs.Acceptor.{AcceptorDurable, acceptor_rules}
 use Rattle.cx_model.specs.Collection.{Collection}
 use Rattle.cx_model.specs.Facts.{HasVoted, IsProposed, IsRetiring, LeaderWasTold, ProxyWasTold, BatcherWasTold, ReplicaWasTold, ReaderWasTold}
-use Rattle.cx_model.specs.Leader.{LeaderVolatile, leader_rules, round_of, is_idle}
+use Rattle.cx_model.specs.Leader.{LeaderVolatile, leader_rules, round_of, is_idle, is_changed}
 use Rattle.cx_model.specs.Matchmaker.{MatchmakerDurable, matchmaker_rules, entry}
 use Rattle.cx_model.specs.Member.{Member}
 use Rattle.cx_model.specs.Promises.{HasKept, IsConfig}
@@ -60,7 +60,7 @@ abbrev pub told_by : List MatchAnswer → List ℕ
 told_by [] = []
 told_by (a ∷ told) = a.matchmaker ∷ told_by told
 
--- a leader before the end of its first phase: nothing of its round was proposed, nobody was asked to forget earlier ones for it, and it isn't
+-- a leader that doesn't lead yet: nothing of its round was proposed, nobody was asked to forget earlier ones for it, and it isn't
 -- retiring them
 pub record IsMatching (c : Cluster) (sent : List Letter) (own : Entry) (v : LeaderVolatile) : Type 0 where
   pub unproposed : (s : ℕ) (u : Value) → IsProposed sent own.round s u → ⊥
@@ -79,6 +79,14 @@ InStage c history sent own end k Off = Unit {0}
 InStage c history sent own end k Informing = IsInforming history own end k
 InStage c history sent own end k Collecting = IsCollected c history sent own.round
 InStage c history sent own end k Retired = Unit {0}
+
+-- a leader that goes on with another grid: what it proposed in the round before may be proposed in this one, and from the next slot on any value
+pub record IsReady (c : Cluster) (history : List KeptRecord) (sent : List Letter) (own : Entry) (v : LeaderVolatile) : Type 0 where
+  pub once : (s : ℕ) (u w : Value) → Member {X = Placed} (record { slot = s; value = u }) v.proposed → Member {X = Placed} (record { slot = s; value = w }) v.proposed → u ≡ w
+  pub window : (p : Placed) → Member p v.proposed → (v.cw ≤ p.slot) × (p.slot < v.next)
+  pub safe : (p : Placed) → Member p v.proposed → IsSafe c history sent own.round p.slot p.value
+  pub free : (s : ℕ) (u : Value) → v.next ≤ s → IsSafe c history sent own.round s u
+  pub cw_next : v.cw ≤ v.next
 
 pub record IsLeading (c : Cluster) (history : List KeptRecord) (sent : List Letter) (own : Entry) (v : LeaderVolatile) : Type 0 where
   pub config : IsConfig history own.round own.grid
@@ -100,7 +108,7 @@ pub record IsLeading (c : Cluster) (history : List KeptRecord) (sent : List Lett
 abbrev pub InMode : Cluster → List KeptRecord → List Letter → Option Entry → LeaderVolatile → Mode → Type 0
 InMode c history sent None v mode = is_idle mode ≡ true
 InMode c history sent (Some own) v Idle = Unit {0}
-InMode c history sent (Some own) v Matching = IsMatching c sent own v
+InMode c history sent (Some own) v Matching = IsMatching c sent own v × (is_changed own.round ≡ true → IsReady c history sent own v)
 InMode c history sent (Some own) v Phase1 = IsMatching c sent own v × (c.f < length v.told)
 InMode c history sent (Some own) v Leading = IsLeading c history sent own v
 
