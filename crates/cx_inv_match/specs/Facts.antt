@@ -60,8 +60,8 @@ abbrev pub told_by : List MatchAnswer → List ℕ
 told_by [] = []
 told_by (a ∷ told) = a.matchmaker ∷ told_by told
 
--- a leader that doesn't lead yet: nothing of its round was proposed, nobody was asked to forget earlier ones for it, and it isn't
--- retiring them
+-- a leader that still asks matchmakers or acceptors: nothing of its round was proposed, nobody was asked to forget earlier ones for it, and it
+-- isn't retiring them
 pub record IsMatching (c : Cluster) (sent : List Letter) (own : Entry) (v : LeaderVolatile) : Type 0 where
   pub unproposed : (s : ℕ) (u : Value) → IsProposed sent own.round s u → ⊥
   pub unended : IsRetiring sent own.round → ⊥
@@ -97,7 +97,7 @@ pub record IsLeading (c : Cluster) (history : List KeptRecord) (sent : List Lett
   pub once : (s : ℕ) (u w : Value) → Member {X = Placed} (record { slot = s; value = u }) v.proposed → Member {X = Placed} (record { slot = s; value = w }) v.proposed → u ≡ w
   pub window : (p : Placed) → Member p v.proposed → (v.cw ≤ p.slot) × (p.slot < v.next)
   pub safe : (p : Placed) → Member p v.proposed → IsSafe c history sent own.round p.slot p.value
-  -- from the end of its first phase on any value is safe, and the next slot is not before that
+  -- from the slot on that was the next one when it began to lead any value is safe, and the next slot is not before that
   pub free : (s : ℕ) (u : Value) → v.end ≤ s → IsSafe c history sent own.round s u
   pub end_next : v.end ≤ v.next
   pub cw_next : v.cw ≤ v.next
