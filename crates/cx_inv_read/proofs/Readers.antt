@@ -49,7 +49,7 @@ from_within c d k h e =
     ltb-true d.from.index (count_of c k) (subst (λ x. nat_lt d.from.index (count_of c x) ≡ true) e b.0)
 
 module _ (c : Cluster) (asked : List KeptRecord) (sent0 : List Letter) (states0 : RoleId → State) (facts0 : Facts c asked sent0 states0) (t : Token)
-    (history : List KeptRecord) (sent : List Letter) (states : RoleId → State) (known : Known c history sent states) (reads : Reads c asked t history sent states) where
+    (history : List KeptRecord) (sent : List Letter) (states : RoleId → State) (known : Known c history sent states) (reads : Reads c asked sent0 t history sent states) where
   abbrev facts : Facts c history sent states
   facts = known.1
 
@@ -91,13 +91,13 @@ module _ (c : Cluster) (asked : List KeptRecord) (sent0 : List Letter) (states0 
 
   -- acceptors that answered
   row_acks : (w : Round) (acks : List Acked) (one : Acked) → Member one acks → ((a : Acked) → Member a acks → IsAcked sent t w (role kind.Acceptor a.acceptor) a.mark)
-      → AreAcks c asked history w acks
+      → AreAcks c asked sent0 history w acks
   row_acks w acks one m h = record {
     covered = λ a k. let x = h a k in (reads.says _ x.1 refl).0;
     collected = elim (reads.evidence w) [
       | inl e ↦ inl e
       | inr (inl none) ↦ absurd (none (role kind.Acceptor one.acceptor) one.mark (h one m))
-      | inr (inr k) ↦ inr (k.0, k.1, k.2, k.3, λ a n. k.4 (role kind.Acceptor a.acceptor) a.mark (h a n))
+      | inr (inr k) ↦ inr (k.past, k.told, k.within, k.longer, k.wider, k.collected, λ a n. k.covers (role kind.Acceptor a.acceptor) a.mark (h a n))
     ];
   }
 
@@ -190,9 +190,9 @@ module _ (c : Cluster) (asked : List KeptRecord) (sent0 : List Letter) (states0 
     reader_good (input.Order order) given = record { sends = nothing; reads = all }
 
   pub reader_lands : (r : ℕ) (v : ReaderVolatile) (i : Input) → states (role kind.Reader r) ≡ ReaderIn v → Given sent (role kind.Reader r) i
-      → Lands (Since c asked t) history sent states (role kind.Reader r) ReaderIn (reader_row c (role kind.Reader r) tt v i)
+      → Lands (Since c asked sent0 t) history sent states (role kind.Reader r) ReaderIn (reader_row c (role kind.Reader r) tt v i)
   reader_lands r v i up given =
       let me : RoleId = role kind.Reader r in
       let good = reader_good me v (subst (λ s. InReader c s) up (reads.readers me)) (subst (λ s. InState c history sent me s) up (facts.running me)).0 i given in
-      lands c asked t history sent states facts reads me ReaderIn _ good.sends
-      (no_acks c asked t history sent states facts reads me _ (λ e. cc) (reader_kinds c me refl v i)) good.reads
+      lands c asked sent0 t history sent states facts reads me ReaderIn _ good.sends
+      (no_acks c asked sent0 t history sent states facts reads me _ (λ e. cc) (reader_kinds c me refl v i)) good.reads

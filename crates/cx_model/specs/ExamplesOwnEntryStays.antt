@@ -1,4 +1,4 @@
--- Two of three matchmakers are enough, and a leader goes on with another grid and retires its round before. A matchmaker that never heard
+-- Two of three matchmakers are enough, and a leader leads again with another grid and retires its round before. A matchmaker that never heard
 -- of the new round forgets all earlier ones and has an entry of the new one.
 use Rattle.std.specs.Prelude.{List, [], ◌∷◌, codes, None}
 use Rattle.std.proofs.Common.{lit≤}

@@ -84,9 +84,13 @@ may_recorders c history i = length (filter (λ m. has_matched history m i || not
 abbrev pub IsOpen : Cluster → List KeptRecord → Round → Type 0
 IsOpen c history i = c.f + 1 ≤ may_recorders c history i
 
--- A value can still be chosen in a round: the round is open, and each member of some column of its grid voted for it in the round or has
--- promised no later one.
-pub record CanBeChosen (c : Cluster) (history : List KeptRecord) (j : Round) (s : ℕ) (v : Value) : Type 0 where
+-- this value was proposed for the slot in this round
+abbrev pub IsProposed : List Letter → Round → ℕ → Value → Type 0
+IsProposed sent i s v = (from : RoleId) × (to : RoleId) × (g : Shape) × (cw : ℕ) × Member (letter from to (msg.Propose i g s cw v)) sent
+
+-- A value can still be chosen in a round: the round is open; each member of some column of its grid voted for it in the round or has promised no
+-- later one; and it was proposed in the round, or the round's leader has begun no later one.
+pub record CanBeChosen (c : Cluster) (history : List KeptRecord) (sent : List Letter) (j : Round) (s : ℕ) (v : Value) : Type 0 where
   pub is_open : IsOpen c history j
   pub grid : Shape
   pub config : IsConfig history j grid
@@ -95,11 +99,9 @@ pub record CanBeChosen (c : Cluster) (history : List KeptRecord) (j : Round) (s 
   pub in_grid : column < grid.cols
   pub members : (a : ℕ) → Member a (column_of grid column)
       → HasVoted history (role kind.Acceptor a) j s v ⊎ (is_before j (acceptor_of history a).promise ≡ false)
+  pub may : IsProposed sent j s v ⊎ ((i : Round) (g : Shape) → HasKept history (role kind.Leader j.id) (kept.Round i g) → is_before j i ≡ false)
 
 -- words on datagrams
-
-abbrev pub IsProposed : List Letter → Round → ℕ → Value → Type 0
-IsProposed sent i s v = (from : RoleId) × (to : RoleId) × (g : Shape) × (cw : ℕ) × Member (letter from to (msg.Propose i g s cw v)) sent
 
 -- a round's value for a slot is in a proposal, in the asking for votes, or in a vote
 abbrev pub Carries : World → Round → ℕ → Value → Type 0
@@ -252,7 +254,7 @@ pub record WatermarkFacts (c : Cluster) (w : World) : Type 0 where
 -- Open rounds: what can still be chosen in an earlier round is what a finished round proposes, from its watermark on.
 pub record OpenRoundFacts (c : Cluster) (es : List Event) : Type 0 where
   pub proposed : (i : Round) (cw end : ℕ) → IsFinished c es i cw end
-      → (j : Round) (s : ℕ) (v : Value) → is_before j i ≡ true → cw ≤ s → CanBeChosen c (run c es).kept j s v
+      → (j : Round) (s : ℕ) (v : Value) → is_before j i ≡ true → cw ≤ s → CanBeChosen c (run c es).kept (run c es).sent j s v
       → (s < end) × IsProposed (run c es).sent i s v
   pub from_watermark_on : (i : Round) (cw end : ℕ) → IsFinished c es i cw end → (s : ℕ) (v : Value) → IsProposed (run c es).sent i s v → cw ≤ s
 

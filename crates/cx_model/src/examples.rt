@@ -6,6 +6,11 @@
 #![tactic(auto, unfolding(crate::specs::World::step))]
 
 ghost use Rattle.cx_model.specs.ExamplesAnswersOfOtherRounds.{AnswersOfOtherRounds};
+ghost use Rattle.cx_model.specs.ExamplesChangeAsksNobody.{ChangeAsksNobody};
+ghost use Rattle.cx_model.specs.ExamplesChangeIsForgotten.{ChangeIsForgotten};
+ghost use Rattle.cx_model.specs.ExamplesChangeJumpsOverHeldSlots.{ChangeJumpsOverHeldSlots};
+ghost use Rattle.cx_model.specs.ExamplesChangeLeavesHeldSlots.{ChangeLeavesHeldSlots};
+ghost use Rattle.cx_model.specs.ExamplesChangeSettlesAnew.{ChangeSettlesAnew};
 ghost use Rattle.cx_model.specs.ExamplesCommandActsOnce.{CommandActsOnce};
 ghost use Rattle.cx_model.specs.ExamplesDeferredRead.{DeferredRead};
 ghost use Rattle.cx_model.specs.ExamplesEachAnswerCountsOnce.{EachAnswerCountsOnce};
@@ -23,6 +28,7 @@ ghost use Rattle.cx_model.specs.ExamplesOnePut.{OnePut};
 ghost use Rattle.cx_model.specs.ExamplesOvertakenCommand.{OvertakenCommand};
 ghost use Rattle.cx_model.specs.ExamplesOwnEntryStays.{OwnEntryStays};
 ghost use Rattle.cx_model.specs.ExamplesReaderForgets.{ReaderForgets};
+ghost use Rattle.cx_model.specs.ExamplesRefusedChange.{RefusedChange};
 ghost use Rattle.cx_model.specs.ExamplesRepeatsChangeNothing.{RepeatsChangeNothing};
 ghost use Rattle.cx_model.specs.ExamplesRetireEarlierRounds.{RetireEarlierRounds};
 ghost use Rattle.cx_model.specs.ExamplesRetiredGridIsNotAsked.{RetiredGridIsNotAsked};
@@ -170,6 +176,41 @@ pub fn late_requests_are_refused()
 /// ones.
 pub fn answers_of_other_rounds()
     ensures { AnswersOfOtherRounds }
+{}
+
+/// A leader goes on with another grid while a value has no answer yet. The next round asks no acceptor and proposes the same
+/// value to the new grid. The vote of the earlier round comes late and counts no more.
+pub fn change_asks_nobody()
+    ensures { ChangeAsksNobody }
+{}
+
+/// A leader that crashed while it went on with another grid has given up that round.
+pub fn change_is_forgotten()
+    ensures { ChangeIsForgotten }
+{}
+
+/// While a leader goes on with another grid it hears that its first slot is held: the next round proposes from the second one
+/// on. It goes on once more, and proposes what both of its rounds before proposed there.
+pub fn change_leaves_held_slots()
+    ensures { ChangeLeavesHeldSlots }
+{}
+
+/// While a leader goes on with another grid a later leader has a value chosen and held, in a slot that the first one never
+/// proposed at. The next round proposes nothing there, and gives a batch the slot after it.
+pub fn change_jumps_over_held_slots()
+    ensures { ChangeJumpsOverHeldSlots }
+{}
+
+/// A leader knew its value to be chosen, and goes on with another grid. It proposes the value again, and retires its round
+/// before only when it knows the value to be chosen in the new grid too.
+pub fn change_settles_anew()
+    ensures { ChangeSettlesAnew }
+{}
+
+/// A leader goes on with another grid, and the matchmaker refuses: a later round is recorded. The leader gives up, and can
+/// only lead anew, in a round that asks the acceptors.
+pub fn refused_change()
+    ensures { RefusedChange }
 {}
 
 /// A leader and a replica have a window of 32 slots, a matchmaker records 16 rounds, and the numbers of rounds end.
