@@ -84,7 +84,7 @@ is_bypassed why.Bypassed = true
 is_bypassed other = false
 
 -- another word is not this one
-other_word : {A : Type 0} {y : Why} → is_bypassed y ≡ false → y ≡ why.Bypassed → A
+pub other_word : {A : Type 0} {y : Why} → is_bypassed y ≡ false → y ≡ why.Bypassed → A
 other_word f e = absurd (true≢false (sym (ap is_bypassed e) ∙ f))
 
 -- the last round of a leader once a record is kept
@@ -254,8 +254,8 @@ module _ (c : Cluster) (me : RoleId) (sent : List Letter) (d : LeaderDurable) (v
   begin_full : (g : Shape) (next : Option Round)
       → ((i : Round) → next ≡ Some i → is_changed i ≡ true → (j : Round) × (change_after j ≡ Some i) × IsFull sent j v.cw v.next v.proposed)
       → Good (begin_in c me v g next)
-  begin_full g None by = same why.End refl
-  begin_full g (Some i) by = (still_full sent _ i v.cw v.next v.proposed Matching (by i refl), other_word refl)
+  begin_full g None ready = same why.End refl
+  begin_full g (Some i) ready = (still_full sent _ i v.cw v.next v.proposed Matching (ready i refl), other_word refl)
 
   -- by the input
 

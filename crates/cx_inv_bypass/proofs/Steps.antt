@@ -48,7 +48,7 @@ use Rattle.cx_inv_run.proofs.Steps.{run_cluster}
 use Rattle.cx_inv_bypass.specs.Bypassed.{Bypasses, GoesOn, BypassedRounds}
 use Rattle.cx_inv_bypass.specs.Full.{IsFull, FullIn, FullState, Full}
 use Rattle.cx_inv_bypass.proofs.Keep.{full_runs}
-use Rattle.cx_inv_bypass.proofs.Rows.{IsBypassing, bypassing}
+use Rattle.cx_inv_bypass.proofs.Rows.{IsBypassing, bypassing, other_word}
 use Rattle.cx_inv_bypass.proofs.Windows.{slots_of}
 
 -- what the datagrams of that row are
@@ -79,11 +79,18 @@ module _ (c : Cluster) (me : RoleId) (own : Entry) (cw : ℕ) (ps : List Placed)
       (me, _, own.grid, cw, Member-first _ (map (propose_to c me own cw) ps) (map (leads_to me own.round) (below c.batchers)) (map-Member (propose_to c me own cw) p ps m))
 
   -- each proposal is of one of the values
-  asked_for : (j : Round) (s : ℕ) (v : Value) → IsProposed sends j s v → (j ≡ own.round) × ((p : Placed) × Member p ps × (s ≡ p.slot) × (v ≡ p.value))
+  record IsOne (j : Round) (s : ℕ) (v : Value) : Type 0 where
+    round : j ≡ own.round
+    placed : Placed
+    member : Member placed ps
+    slot : s ≡ placed.slot
+    value : v ≡ placed.value
+
+  asked_for : (j : Round) (s : ℕ) (v : Value) → IsProposed sends j s v → IsOne j s v
   asked_for j s v h = elim (Member-cases _ (map (propose_to c me own cw) ps) (map (leads_to me own.round) (below c.batchers)) h.4) [
     | inl x ↦ (let r = Member-map (propose_to c me own cw) _ ps x in
         let same = propose_parts j own.round h.2 own.grid s (r.0).slot h.3 cw v (r.0).value (ap (λ (d : Letter). d.msg) r.2) in
-        (same.0, (r.0, r.1, same.1, same.2)))
+        record { round = same.0; placed = r.0; member = r.1; slot = same.1; value = same.2 })
     | inr y ↦ (let r = Member-map (leads_to me own.round) _ (below c.batchers) y in absurd (true≢false (ap (λ (d : Letter). is_proposal d.msg) r.2)))
   ]
 
@@ -144,14 +151,14 @@ module _ (c : Cluster) (w : World) (is_c : w.cluster ≡ c) (full : HoldsIn Full
               );
           only = λ k s u h.
               let found = asked_for c me own last.cw last.proposed k s u h in
-              let p = found.1 in
-              let there = numbers-Member (p.0).slot last.cw (last.next - last.cw)
-                  (subst (λ (ns : List ℕ). Member (p.0).slot ns) window.slots (map-Member (λ (q : Placed). q.slot) p.0 last.proposed p.1)) in
+              let p = found.placed in
+              let there = numbers-Member p.slot last.cw (last.next - last.cw)
+                  (subst (λ (ns : List ℕ). Member p.slot ns) window.slots (map-Member (λ (q : Placed). q.slot) p last.proposed found.member)) in
               (
-                found.0 ∙ same,
-                let low = there.0 in let at = p.2 in omega arith,
-                let high = there.1 in let low = there.0 in let at = p.2 in let l = window.window in omega arith,
-                subst (λ n. IsProposed w.sent j n u) (sym p.2) (subst (λ x. IsProposed w.sent j (p.0).slot x) (sym p.3) (window.each p.0 p.1)),
+                found.round ∙ same,
+                let low = there.0 in let at = found.slot in omega arith,
+                let high = there.1 in let low = there.0 in let at = found.slot in let l = window.window in omega arith,
+                subst (λ n. IsProposed w.sent j n u) (sym found.slot) (subst (λ x. IsProposed w.sent j p.slot x) (sym found.value) (window.each p found.member)),
               );
         }
 
@@ -165,8 +172,8 @@ module _ (c : Cluster) (w : World) (is_c : w.cluster ≡ c) (full : HoldsIn Full
         → Did w (of_leader me w.roles (turn_done me w.roles.leaders (turn_with cut r (leader_row c me d v i)))) (round_of d.own)
     cut_did i cut None word = whole_did i word
     cut_did i Whole (Some r) word = whole_did i word
-    cut_did i Torn (Some r) word = cc
-    cut_did i Kept (Some r) word = cc
+    cut_did i Torn (Some r) word = other_word refl word
+    cut_did i Kept (Some r) word = other_word refl word
 
   -- an act at a leader
   module _ (l : ℕ) (act : Act) where
@@ -175,16 +182,16 @@ module _ (c : Cluster) (w : World) (is_c : w.cluster ≡ c) (full : HoldsIn Full
 
     turn_did : (x : Act) (running : Option LeaderVolatile) → slice_get w.roles.leaders l ≡ Some running
         → DoneBy (turn_done (role kind.Leader l) w.roles.leaders (turn leader_rules c (role kind.Leader l) (durable_part leader_rules (role kind.Leader l) w.kept) x running))
-    turn_did (Give i cut) None found word = cc
+    turn_did (Give i cut) None found word = other_word refl word
     turn_did (Give i cut) (Some v) found word = cut_did l v found i cut _ word
-    turn_did Stop None found word = cc
-    turn_did Stop (Some v) found word = cc
-    turn_did Wake None found word = cc
-    turn_did Wake (Some v) found word = cc
+    turn_did Stop None found word = other_word refl word
+    turn_did Stop (Some v) found word = other_word refl word
+    turn_did Wake None found word = other_word refl word
+    turn_did Wake (Some v) found word = other_word refl word
 
     leader_did : (o : Option (Option LeaderVolatile)) → slice_get w.roles.leaders l ≡ o
         → DoneBy (turn_found leader_rules c (role kind.Leader l) w.kept act w.roles.leaders o)
-    leader_did None found word = cc
+    leader_did None found word = other_word refl word
     leader_did (Some running) found word = turn_did act running found word
 
   -- an event at a leader `who`
@@ -196,7 +203,7 @@ module _ (c : Cluster) (w : World) (is_c : w.cluster ≡ c) (full : HoldsIn Full
     no_leader a k other is e = other (sym is ∙ subst (λ (x : RoleId). x.kind ≡ kind.Leader) (sym (same_Some a who e)) leads)
 
     act_did : (act : Act) (a : RoleId) (k : Kind) → a.kind ≡ k → DidSo (act_of c w.roles w.kept act a k)
-    act_did act a kind.Client is at word = cc
+    act_did act a kind.Client is at word = other_word refl word
     act_did act a kind.Leader is at word =
         let own : a ≡ role kind.Leader a.index = named kind.Leader a is in
         subst (λ (x : RoleId). Did w (act_of c w.roles w.kept act a kind.Leader) (last_round x)) (same_Some a who at)
@@ -214,7 +221,7 @@ module _ (c : Cluster) (w : World) (is_c : w.cluster ≡ c) (full : HoldsIn Full
     at_did act a = subst (λ (x : Cluster). DidSo (act_of x w.roles w.kept act a a.kind)) (sym is_c) (act_did act a a.kind refl)
 
     come_did : (cut : Cut) (o : Option Letter) → DidSo (come w cut o)
-    come_did cut None at word = cc
+    come_did cut None at word = other_word refl word
     come_did cut (Some x) at word = at_did (Give (input.Take x) cut) x.to at word
 
     ask_did : (e : Event) (t : Token) → DidSo (ask w e (Some t))
@@ -222,7 +229,7 @@ module _ (c : Cluster) (w : World) (is_c : w.cluster ≡ c) (full : HoldsIn Full
         either_way DidSo (is_stale t e w.events)
         (nothing (Some (role kind.Client t.client)) w.roles why.Stale)
         (record { who = Some (role kind.Client t.client); why = why.Sent; roles = w.roles; kept = []; sends = request e })
-        (λ at word. cc) (λ at word. cc)
+        (λ at word. other_word refl word) (λ at word. other_word refl word)
 
     event_did : (e : Event) → DidSo (change w e)
     event_did (event.Write command batcher) = ask_did (event.Write command batcher) (record { client = command.client; seq = command.seq })

@@ -35,11 +35,19 @@ slots-more ps p cw l e =
 
 -- those below a mark dropped
 
+taken : (b : Bool) (n : ℕ) (ns : List ℕ) → b ≡ true → cond b (n ∷ ns) ns ≡ n ∷ ns
+taken true n ns t = refl
+taken false n ns t = cc
+
+dropped : (b : Bool) (n : ℕ) (ns : List ℕ) → b ≡ false → cond b (n ∷ ns) ns ≡ ns
+dropped true n ns f = cc
+dropped false n ns f = refl
+
 filter-kept : (mark : ℕ) (n : ℕ) (ns : List ℕ) → mark ≤ n → filter (λ s. nat_le mark s) (n ∷ ns) ≡ n ∷ filter (λ s. nat_le mark s) ns
-filter-kept mark n ns l = let t : nat_le mark n ≡ true = grind (arith, nat_tests) in rw t refl
+filter-kept mark n ns l = taken (nat_le mark n) n (filter (λ s. nat_le mark s) ns) (grind (arith, nat_tests))
 
 filter-dropped : (mark : ℕ) (n : ℕ) (ns : List ℕ) → n < mark → filter (λ s. nat_le mark s) (n ∷ ns) ≡ filter (λ s. nat_le mark s) ns
-filter-dropped mark n ns l = let f : nat_le mark n ≡ false = grind (arith, nat_tests) in rw f refl
+filter-dropped mark n ns l = dropped (nat_le mark n) n (filter (λ s. nat_le mark s) ns) (grind (arith, nat_tests))
 
 numbers-all : (mark first count : ℕ) → mark ≤ first → filter (λ s. nat_le mark s) (numbers first count) ≡ numbers first count
 numbers-all mark first zero l = refl
