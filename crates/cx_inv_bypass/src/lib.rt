@@ -2,7 +2,8 @@
 //!
 //! Between a leader's round and its next one there is no other, so it knows already what a first
 //! phase could report. Its theorem is `bypassed_rounds_law`: in every run a step that answers
-//! `bypassed` asks no acceptor, and its round begins with the proposals of the round before.
+//! `bypassed` asks no acceptor, and its round proposes in each slot from its watermark to its end
+//! what the round before proposed there, and nothing else.
 #![tactic(auto)]
 
 ghost use Rattle.cx_model.specs.Promises.{OfEveryRun};

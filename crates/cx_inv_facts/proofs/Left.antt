@@ -24,7 +24,7 @@ use Rattle.cx_model.specs.Outcome.{Outcome}
 use Rattle.cx_model.specs.Promises.{HasKept}
 use Rattle.cx_model.specs.Replica.{replica_rules}
 use Rattle.cx_model.specs.Request.{request}
-use Rattle.cx_model.specs.World.{World, step, run}
+use Rattle.cx_model.specs.World.{World, run}
 use Rattle.cx_inv_run.specs.Kinds.{OfKind}
 use Rattle.cx_inv_run.specs.Laws.{Lands, Laws, HoldsAlong}
 use Rattle.cx_inv_run.specs.States.{State, BatcherIn, LeaderIn, ProxyIn, ReplicaIn, ReaderIn, plain, durable_of, HoldsIn}
