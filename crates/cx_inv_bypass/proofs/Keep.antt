@@ -97,8 +97,9 @@ full_laws c = record {
   batcher = λ kept sent states b v i known h is given. lands_full kept sent states h (role kind.Batcher b) BatcherIn _ tt;
   leader = λ kept sent states l v i known h is given.
       let me = role kind.Leader l in
-      lands_full kept sent states h me LeaderIn _
-      (row_state kept _ me _ _
+      let o = leader_row c me (durable_of leader_rules me kept) v i in
+      lands_full kept sent states h me LeaderIn o
+      (row_state kept (sent ++ o.sends) me o.kept o.volatile
       (leader_full c me sent (durable_of leader_rules me kept) v (subst (λ (s : State). FullState kept sent me s) is (h me)) i));
   proxy = λ kept sent states p v i known h is given. lands_full kept sent states h (role kind.Proxy p) ProxyIn _ tt;
   acceptor = λ kept sent states a i known h is given. lands_full kept sent states h (role kind.Acceptor a) plain _ tt;
