@@ -128,10 +128,14 @@ module _ (c : Cluster) (me : RoleId) (sent : List Letter) (d : LeaderDurable) (v
 
   asked : (own : Entry) (cw : ℕ) (ps : List Placed) (more : List Letter) (p : Placed) → Member p ps
       → IsProposed (sent ++ (map (propose_to c me own cw) ps ++ more)) own.round p.slot p.value
-  asked own cw ps more p m =
-      (me, _, own.grid, cw,
-      Member-second _ sent (map (propose_to c me own cw) ps ++ more)
-      (Member-first _ (map (propose_to c me own cw) ps) more (map-Member (propose_to c me own cw) p ps m)))
+  asked own cw ps more p m = (
+    me,
+    _,
+    own.grid,
+    cw,
+    Member-second _ sent (map (propose_to c me own cw) ps ++ more)
+        (Member-first _ (map (propose_to c me own cw) ps) more (map-Member (propose_to c me own cw) p ps m)),
+  )
 
   led : (own : Entry) → d.own ≡ Some own → (cw next : ℕ) (ps : List Placed) → cw ≤ next → slots_of ps ≡ numbers cw (next - cw)
       → FullIn (sent ++ (map (propose_to c me own cw) ps ++ map (leads_to me own.round) (below c.batchers))) (round_of d.own) cw next ps Leading
@@ -148,8 +152,7 @@ module _ (c : Cluster) (me : RoleId) (sent : List Letter) (d : LeaderDurable) (v
       → w.cw ≡ v.cw → w.next ≡ v.next → w.proposed ≡ v.proposed → Good (bypass c me own w)
   bypass_full own e changed t w cw next proposed =
       let old = while_matching t (subst (λ (o : Option Entry). is_changed (round_of o) ≡ true) (sym e) changed) in
-      let full : IsFull sent old.0 w.cw w.next w.proposed = rw (cw, next, proposed) old.2 in
-      (
+      let full : IsFull sent old.0 w.cw w.next w.proposed = rw (cw, next, proposed) old.2 in (
         led own e w.cw w.next w.proposed full.window full.slots,
         λ p. record {
           own = own;

@@ -139,22 +139,20 @@ module _ (c : Cluster) (w : World) (is_c : w.cluster ≡ c) (full : HoldsIn Full
               (get_set_same w.roles.leaders l (Some v) (Some ((bypass c me own last).volatile)) running);
           proposes = λ s low high.
               let there = Member-map (λ (p : Placed). p.slot) s last.proposed
-                  (subst (λ (ns : List ℕ). Member s ns) (sym window.slots)
-                  (Member-numbers s last.cw (last.next - last.cw) low (let l = window.window in omega arith))) in
-              let p = there.0 in
-              (
+              (subst (λ (ns : List ℕ). Member s ns) (sym window.slots)
+              (Member-numbers s last.cw (last.next - last.cw) low (let l = window.window in omega arith))) in
+              let p = there.0 in (
                 p.value,
                 subst (λ n. IsProposed w.sent j n p.value) (sym there.2) (window.each p there.1),
                 subst (λ n. IsProposed (sends c me own last.cw last.proposed) (round_of d.own) n p.value) (sym there.2)
-                (subst (λ (x : Round). IsProposed (sends c me own last.cw last.proposed) x p.slot p.value) same
-                (asks_for c me own last.cw last.proposed p there.1)),
+                    (subst (λ (x : Round). IsProposed (sends c me own last.cw last.proposed) x p.slot p.value) same
+                    (asks_for c me own last.cw last.proposed p there.1)),
               );
           only = λ k s u h.
               let found = asked_for c me own last.cw last.proposed k s u h in
               let p = found.placed in
               let there = numbers-Member p.slot last.cw (last.next - last.cw)
-                  (subst (λ (ns : List ℕ). Member p.slot ns) window.slots (map-Member (λ (q : Placed). q.slot) p last.proposed found.member)) in
-              (
+              (subst (λ (ns : List ℕ). Member p.slot ns) window.slots (map-Member (λ (q : Placed). q.slot) p last.proposed found.member)) in (
                 found.round ∙ same,
                 let low = there.0 in let at = found.slot in omega arith,
                 let high = there.1 in let low = there.0 in let at = found.slot in let l = window.window in omega arith,
