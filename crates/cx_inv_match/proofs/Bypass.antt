@@ -1,6 +1,6 @@
 -- Going on with another grid: what a leading leader proposed may be proposed in its next round, before anybody is asked; and when enough matchmakers
 -- recorded that round, it leads.
-use Rattle.std.proofs.Common.{◌≡◌, ℕ, ◌+◌, ◌<◌, ◌≤◌, true, false, ◌⊎◌, List, [], ◌∷◌, inl, inr, sym, subst, refl, arith}
+use Rattle.std.proofs.Common.{◌≡◌, ℕ, ◌+◌, ◌<◌, ◌≤◌, true, ◌⊎◌, List, [], inl, inr, sym, subst, arith}
 use Rattle.std.proofs.lemmas.Bool.Decides.{nat_tests}
 use Rattle.cx_base.specs.declared.cluster.Cluster.{Cluster}
 use Rattle.cx_base.specs.declared.command.Placed.{Placed}
@@ -15,7 +15,6 @@ use Rattle.cx_msg.specs.Letter.{Letter}
 use Rattle.cx_msg.specs.declared.input.KeptRecord.{KeptRecord}
 use Rattle.cx_msg.specs.declared.kept.Record.TheVariants as kept
 use Rattle.cx_model.specs.declared.states.Mode.TheVariants.{Matching, Leading}
-use Rattle.cx_model.specs.declared.states.Stage.TheVariants.{Off}
 use Rattle.cx_model.specs.Collection.{not_collecting}
 use Rattle.cx_model.specs.Facts.{IsProposed}
 use Rattle.cx_model.specs.Leader.{LeaderVolatile}

@@ -24,7 +24,7 @@ use Rattle.cx_inv_run.proofs.Members.{Member-cases, Member-first, Member-both, M
 use Rattle.cx_inv_run.proofs.Histories.{kept_longer, set_running}
 use Rattle.cx_inv_run.proofs.Rounds.{same_round-true, same_round-itself}
 use Rattle.cx_inv_match.specs.Facts.{Facts}
-use Rattle.cx_inv_read.specs.Reads.{Has, HasSent, Covers, IsRaised, IsReadAnswer, ReadSays, IsAcked, IsSeen, HasEvidence, InReader, Reads}
+use Rattle.cx_inv_read.specs.Reads.{Has, HasSent, Covers, IsRaised, IsReadAnswer, ReadSays, IsAcked, HasEvidence, InReader, Reads}
 use Rattle.cx_inv_read.proofs.Rows.{Each, same_read-true}
 
 -- from the asking on
