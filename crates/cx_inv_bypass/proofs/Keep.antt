@@ -1,5 +1,5 @@
 -- Each step keeps the windows of all leaders full.
-use Rattle.std.proofs.Common.{◌≡◌, ℕ, false, ◌⊎◌, List, [], ◌∷◌, ◌++◌, Option, None, Some, ap, sym, subst, refl, inl, inr, append-nil}
+use Rattle.std.proofs.Common.{◌≡◌, false, ◌⊎◌, List, [], ◌++◌, Option, None, Some, sym, subst, inl, inr, append-nil}
 use Rattle.cx_base.specs.declared.cluster.Cluster.{Cluster}
 use Rattle.cx_base.specs.declared.event.Event.{Event}
 use Rattle.cx_base.specs.declared.role.Kind.{Kind}
@@ -7,7 +7,6 @@ use Rattle.cx_base.specs.declared.role.Kind.TheVariants as kind
 use Rattle.cx_base.specs.declared.role.RoleId.{RoleId}
 use Rattle.cx_base.specs.Role.{role, same_role}
 use Rattle.cx_msg.specs.Letter.{Letter}
-use Rattle.cx_msg.specs.declared.input.Input.{Input}
 use Rattle.cx_msg.specs.declared.input.KeptRecord.{KeptRecord}
 use Rattle.cx_msg.specs.declared.kept.Record.{Record}
 use Rattle.cx_model.specs.Leader.{LeaderDurable, LeaderVolatile, leader_rules, leader_row, round_of}
@@ -15,8 +14,8 @@ use Rattle.cx_model.specs.Outcome.{Outcome}
 use Rattle.cx_model.specs.Request.{request}
 use Rattle.cx_model.specs.World.{run}
 use Rattle.cx_inv_run.specs.Laws.{Lands, Laws, anything}
-use Rattle.cx_inv_run.specs.States.{State, Down, Plain, BatcherIn, LeaderIn, ProxyIn, ReplicaIn, ReaderIn, plain, fresh_state, set_state, entry_by, with_record, durable_of, Given, HoldsIn}
-use Rattle.cx_inv_run.proofs.Histories.{durable_own, durable_other, set_running, by_role}
+use Rattle.cx_inv_run.specs.States.{State, Down, Plain, BatcherIn, LeaderIn, ProxyIn, ReplicaIn, ReaderIn, plain, fresh_state, set_state, with_record, durable_of, HoldsIn}
+use Rattle.cx_inv_run.proofs.Histories.{durable_own, durable_other, set_running}
 use Rattle.cx_inv_run.proofs.Steps.{always}
 use Rattle.cx_inv_bypass.specs.Full.{FullIn, FullState, Full}
 use Rattle.cx_inv_bypass.proofs.Rows.{still_full, round_after, leader_full}

@@ -1,6 +1,6 @@
 -- The word `bypassed` of an event is that of a leader's row, so the event does what the row does.
-use Rattle.std.proofs.Common.{◌≡◌, ◌≤◌, ◌<◌, ℕ, ◌+◌, ◌-◌, Bool, true, false, ◌⊎◌, List, [], ◌∷◌, ◌++◌, map, reverse, Option, Some, None, ap, sym, ◌∙◌, subst, refl, inl, inr, arith}
-use Rattle.std.specs.Prelude.{slice_get, slice_set, length}
+use Rattle.std.proofs.Common.{◌≡◌, ◌≤◌, ◌<◌, ℕ, ◌+◌, ◌-◌, Bool, true, false, List, [], ◌∷◌, ◌++◌, map, reverse, Option, Some, None, ap, sym, ◌∙◌, subst, refl, inl, inr, arith}
+use Rattle.std.specs.Prelude.{slice_get, length}
 use Rattle.std.proofs.lemmas.Bool.{true≢false}
 use Rattle.std.proofs.lemmas.Option.{same_Some}
 use Rattle.cx_base.specs.declared.cluster.Cluster.{Cluster}
@@ -14,10 +14,9 @@ use Rattle.cx_base.specs.declared.role.Kind.{Kind}
 use Rattle.cx_base.specs.declared.role.Kind.TheVariants as kind
 use Rattle.cx_base.specs.declared.role.RoleId.{RoleId}
 use Rattle.cx_base.specs.declared.round.Round.{Round}
-use Rattle.cx_base.specs.declared.why.Why.{Why}
 use Rattle.cx_base.specs.declared.why.Why.TheVariants as why
 use Rattle.cx_base.specs.Grid.{Shape}
-use Rattle.cx_base.specs.Lists.{below, numbers}
+use Rattle.cx_base.specs.Lists.{below}
 use Rattle.cx_base.specs.Role.{role}
 use Rattle.cx_base.specs.Round.{change_after}
 use Rattle.cx_field.specs.declared.parts.Entry.{Entry}
@@ -31,7 +30,7 @@ use Rattle.cx_msg.specs.declared.kept.Record.{Record}
 use Rattle.cx_msg.specs.declared.message.Msg.{Msg}
 use Rattle.cx_msg.specs.declared.message.Msg.TheVariants as msg
 use Rattle.cx_model.specs.Facts.{IsProposed}
-use Rattle.cx_model.specs.History.{Finish, finish_with, finish_of, finish_by}
+use Rattle.cx_model.specs.History.{finish_with, finish_by}
 use Rattle.cx_model.specs.Leader.{LeaderDurable, LeaderVolatile, leader_rules, leader_row, round_of, bypass, leads_to, propose_to}
 use Rattle.cx_model.specs.Lists.{get_set_same}
 use Rattle.cx_model.specs.Member.{Member}
@@ -40,7 +39,7 @@ use Rattle.cx_model.specs.Promises.{OfEveryRun}
 use Rattle.cx_model.specs.Request.{is_stale, request}
 use Rattle.cx_model.specs.Turn.{turn, turn_with, whole_turn}
 use Rattle.cx_model.specs.World.{World, Change, Turns, change, come, ask, nothing, act_at, act_of, of_leader, turn_found, turn_done, durable_part, run}
-use Rattle.cx_inv_run.specs.States.{State, LeaderIn, state_found, states_of, durable_of, HoldsIn}
+use Rattle.cx_inv_run.specs.States.{State, LeaderIn, state_found, HoldsIn}
 use Rattle.cx_inv_run.proofs.Histories.{durable_by_time}
 use Rattle.cx_inv_run.proofs.Members.{Member-cases, Member-first, Member-map, map-Member, Member-numbers, numbers-Member}
 use Rattle.cx_inv_run.proofs.Sends.{named}
@@ -49,7 +48,6 @@ use Rattle.cx_inv_bypass.specs.Bypassed.{Bypasses, GoesOn, BypassedRounds}
 use Rattle.cx_inv_bypass.specs.Full.{IsFull, FullIn, FullState, Full}
 use Rattle.cx_inv_bypass.proofs.Keep.{full_runs}
 use Rattle.cx_inv_bypass.proofs.Rows.{IsBypassing, bypassing, other_word}
-use Rattle.cx_inv_bypass.proofs.Windows.{slots_of}
 
 -- what the datagrams of that row are
 

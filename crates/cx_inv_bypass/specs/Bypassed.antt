@@ -9,10 +9,10 @@ use Rattle.cx_base.specs.declared.role.RoleId.{RoleId}
 use Rattle.cx_base.specs.declared.round.Round.{Round}
 use Rattle.cx_base.specs.declared.why.Why.TheVariants as why
 use Rattle.cx_base.specs.Round.{change_after}
-use Rattle.cx_msg.specs.Letter.{Letter, letter}
+use Rattle.cx_msg.specs.Letter.{letter}
 use Rattle.cx_msg.specs.declared.message.Msg.TheVariants as msg
 use Rattle.cx_model.specs.Facts.{IsProposed}
-use Rattle.cx_model.specs.History.{Finish, finish_at}
+use Rattle.cx_model.specs.History.{finish_at}
 use Rattle.cx_model.specs.Leader.{leader_rules, round_of}
 use Rattle.cx_model.specs.Member.{Member}
 use Rattle.cx_model.specs.World.{World, change, run, durable_part}

@@ -10,7 +10,7 @@ use Rattle.cx_msg.specs.declared.input.KeptRecord.{KeptRecord}
 use Rattle.cx_model.specs.declared.states.Mode.{Mode}
 use Rattle.cx_model.specs.declared.states.Mode.TheVariants.{Matching, Leading}
 use Rattle.cx_model.specs.Facts.{IsProposed}
-use Rattle.cx_model.specs.Leader.{LeaderVolatile, leader_rules, is_changed, round_of}
+use Rattle.cx_model.specs.Leader.{leader_rules, is_changed, round_of}
 use Rattle.cx_model.specs.Member.{Member}
 use Rattle.cx_inv_run.specs.States.{State, LeaderIn, durable_of}
 

@@ -35,13 +35,13 @@ use Rattle.cx_model.specs.declared.states.Promised.{Promised}
 use Rattle.cx_model.specs.declared.states.Stage.TheVariants.{Collecting, Retired}
 use Rattle.cx_model.specs.Collection.{Collection, collection_from, with_informed, with_forgotten, is_off, is_informing, is_collecting, is_retired}
 use Rattle.cx_model.specs.Facts.{LeaderWasTold}
-use Rattle.cx_model.specs.Leader.{LeaderDurable, LeaderVolatile, round_of, is_own, is_idle, is_matching, is_promising, is_leading, begin_in, finish, is_changed, bypass, matched_by, match_counted, promise_counted, with_seen, propose_in, collect_in, informed_counted, informed_in, forgotten_counted, is_past_window, is_settled, reaching, greatest_of, held_by, raised_to, leader_takes, tick_in, order_row, leader_row, has_no_room}
+use Rattle.cx_model.specs.Leader.{LeaderDurable, LeaderVolatile, round_of, is_own, is_idle, is_matching, is_promising, is_leading, begin_in, finish, is_changed, matched_by, match_counted, promise_counted, with_seen, propose_in, collect_in, informed_counted, informed_in, forgotten_counted, is_past_window, is_settled, reaching, greatest_of, held_by, raised_to, leader_takes, tick_in, order_row, leader_row, has_no_room}
 use Rattle.cx_model.specs.Matched.{enough, is_counted, live_entries, is_member_of, rows_whole}
 use Rattle.cx_model.specs.Member.{Member}
 use Rattle.cx_model.specs.Names.{names, names_grid}
 use Rattle.cx_model.specs.Outcome.{Outcome, answered, replied, by_test, either_way}
 use Rattle.cx_model.specs.Plan.{promised_by, has_promised, votes_told, greatest_cw, best_vote, voted_value, plan, placed_from}
-use Rattle.cx_model.specs.Proxy.{ProxyVolatile, pending_at, propose_over, propose_row, vote_counted, vote_for, proxy_takes, proxy_tick, proxy_row}
+use Rattle.cx_model.specs.Proxy.{ProxyVolatile, pending_at, propose_over, vote_for, proxy_takes, proxy_tick, proxy_row}
 use Rattle.cx_model.specs.Proxy as proxy
 use Rattle.cx_inv_run.specs.Kinds.{Kinds}
 use Rattle.cx_inv_run.specs.States.{State, Given}
