@@ -35,13 +35,13 @@ use Rattle.cx_model.specs.declared.states.Promised.{Promised}
 use Rattle.cx_model.specs.declared.states.Stage.TheVariants.{Collecting, Retired}
 use Rattle.cx_model.specs.Collection.{Collection, collection_from, with_informed, with_forgotten, is_off, is_informing, is_collecting, is_retired}
 use Rattle.cx_model.specs.Facts.{LeaderWasTold}
-use Rattle.cx_model.specs.Leader.{LeaderDurable, LeaderVolatile, round_of, is_own, is_idle, is_matching, is_promising, is_leading, begin_in, finish, matched_by, match_counted, promise_counted, with_seen, propose_in, collect_in, informed_counted, informed_in, forgotten_counted, is_past_window, is_settled, reaching, greatest_of, held_by, raised_to, leader_takes, tick_in, order_row, leader_row, has_no_room}
+use Rattle.cx_model.specs.Leader.{LeaderDurable, LeaderVolatile, round_of, is_own, is_idle, is_matching, is_promising, is_leading, begin_in, finish, is_changed, matched_by, match_counted, promise_counted, with_seen, propose_in, collect_in, informed_counted, informed_in, forgotten_counted, is_past_window, is_settled, reaching, greatest_of, held_by, raised_to, leader_takes, tick_in, order_row, leader_row, has_no_room}
 use Rattle.cx_model.specs.Matched.{enough, is_counted, live_entries, is_member_of, rows_whole}
 use Rattle.cx_model.specs.Member.{Member}
 use Rattle.cx_model.specs.Names.{names, names_grid}
 use Rattle.cx_model.specs.Outcome.{Outcome, answered, replied, by_test, either_way}
 use Rattle.cx_model.specs.Plan.{promised_by, has_promised, votes_told, greatest_cw, best_vote, voted_value, plan, placed_from}
-use Rattle.cx_model.specs.Proxy.{ProxyVolatile, pending_at, propose_over, propose_row, vote_counted, vote_for, proxy_takes, proxy_tick, proxy_row}
+use Rattle.cx_model.specs.Proxy.{ProxyVolatile, pending_at, propose_over, vote_for, proxy_takes, proxy_tick, proxy_row}
 use Rattle.cx_model.specs.Proxy as proxy
 use Rattle.cx_inv_run.specs.Kinds.{Kinds}
 use Rattle.cx_inv_run.specs.States.{State, Given}
@@ -129,6 +129,9 @@ module _ (c : Cluster) (history : List KeptRecord) (sent : List Letter) (states 
   moded : (mode : Mode) (u : LeaderVolatile) → Noted u → Noted (record u { mode = mode })
   moded mode u h = record { seen = h.seen; proposed = h.proposed; cw = h.cw; once = h.once; retired = h.retired }
 
+  bypassed : (u : LeaderVolatile) → Noted u → Noted (record u { mode = Leading; end = u.next; chosen = [] })
+  bypassed u h = record { seen = h.seen; proposed = h.proposed; cw = h.cw; once = h.once; retired = h.retired }
+
   -- a round that it heard of
   heard : (mode : Mode) (j : Round) → IsNamed sent me j → Noted (record (with_seen j v) { mode = mode })
   heard mode j named = record {
@@ -196,7 +199,9 @@ module _ (c : Cluster) (history : List KeptRecord) (sent : List Letter) (states 
   answers_counted : (o : Option Entry) (u : LeaderVolatile) → Noted u → AreTold u.promises → NotesOn (match_counted c me o u)
   answers_counted None u h promises = goes_on why.Old u [] h
   answers_counted (Some own) u h promises =
-      either_way NotesOn (nat_lt (length u.told) (enough c)) _ _ (goes_on why.Counted u [] h) (matched own u h promises (live_entries u.told))
+      either_way NotesOn (nat_lt (length u.told) (enough c)) _ _ (goes_on why.Counted u [] h)
+      (either_way NotesOn (is_changed own.round) _ _ (goes_on why.Bypassed (record u { mode = Leading; end = u.next; chosen = [] }) _ (bypassed u h))
+      (matched own u h promises (live_entries u.told)))
 
   promises_counted : (o : Option Entry) (u : LeaderVolatile) → Noted u → AreTold u.promises → NotesOn (promise_counted c me o u)
   promises_counted None u h promises = goes_on why.Old u [] h

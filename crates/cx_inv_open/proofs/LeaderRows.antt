@@ -1,7 +1,7 @@
 -- A leader keeps rounds that follow its own, and proposes in the window of its watermark.
 use Rattle.std.specs.Prelude.{◌≡◌, ℕ, ◌+◌, ◌-◌, ◌<◌, ◌≤◌, ◌==◌, Bool, true, false, not, ◌&&◌, ◌||◌, max, nat_lt, nat_le, map, List, [], ◌∷◌, ◌++◌, length, slice_index_or, slice_set, Option, None, Some, if◌then◌else◌, refl}
 use Rattle.std.proofs.Common.{ap, sym, subst, ◌∙◌, arith}
-use Rattle.std.proofs.lemmas.Bool.{and_from, or_left, or_right, not-false}
+use Rattle.std.proofs.lemmas.Bool.{and_from, and_parts, or_left, or_right, not-false}
 use Rattle.std.proofs.lemmas.Bool.Decides.{nat_tests}
 use Rattle.std.proofs.lemmas.Option.{same_Some}
 use Rattle.cx_base.specs.declared.cluster.Cluster.{Cluster}
@@ -28,7 +28,7 @@ use Rattle.cx_model.specs.declared.states.Mode.{Mode}
 use Rattle.cx_model.specs.declared.states.Mode.TheVariants.{Idle, Matching, Phase1, Leading}
 use Rattle.cx_model.specs.declared.states.Promised.{Promised}
 use Rattle.cx_model.specs.Collection.{Collection, collection_from, with_informed, with_forgotten, is_off, is_informing, is_collecting}
-use Rattle.cx_model.specs.Leader.{LeaderDurable, LeaderVolatile, leader_rules, leader_fits, is_idle, is_matching, is_promising, is_leading, round_of, is_own, match_a_to, phase1a_to, leads_to, propose_to, inform_to, garbage_a_to, begin_in, finish, matched_by, match_counted, promise_counted, with_seen, is_past_window, propose_in, held_by, is_settled, collect_in, informed_counted, informed_in, leader_takes, open_values, stage_sends, tick_in, order_row, leader_row, follows, has_no_room}
+use Rattle.cx_model.specs.Leader.{LeaderDurable, LeaderVolatile, leader_rules, leader_fits, is_idle, is_matching, is_promising, is_leading, round_of, is_own, match_a_to, phase1a_to, leads_to, propose_to, inform_to, garbage_a_to, begin_in, finish, is_changed, bypass, matched_by, match_counted, promise_counted, with_seen, is_past_window, propose_in, held_by, is_settled, collect_in, informed_counted, informed_in, leader_takes, open_values, stage_sends, tick_in, order_row, leader_row, follows, has_no_room}
 use Rattle.cx_model.specs.Lists.{number_itself}
 use Rattle.cx_model.specs.Matched.{enough, matchmakers, is_counted, live_entries, is_member_of, members_of, members_in, rows_whole}
 use Rattle.cx_model.specs.Member.{Member}
@@ -136,10 +136,22 @@ module _ (c : Cluster) (me : RoleId) (d : LeaderDurable) (place : me.index < c.l
     matched_good own told (e ∷ es) =
         sending why.Phase1 (record v { mode = Phase1 }) (map (phase1a_to me own.round) (members_of c (e ∷ es))) h (phase1_in own.round (members_of c (e ∷ es)))
 
-    match_counted_good : AllReported v.promises → (o : Option Entry) → Good (match_counted c me o v)
-    match_counted_good told None = calm why.Old v h
-    match_counted_good told (Some own) =
-        either_way Good (nat_lt (length v.told) (enough c)) _ _ (calm why.Counted v h) (matched_good own told (live_entries v.told))
+    -- without one: what it proposed in the round before lies before its next slot
+    bypass_good : (own : Entry) → ((p : Placed) → Member p v.proposed → p.slot < v.next) → Good (bypass c me own v)
+    bypass_good own proposed =
+        let near = h.0 in
+        let few = h.1 in
+        sending why.Bypassed _ _ h
+        (both_in (map (propose_to c me own v.cw) v.proposed) (map (leads_to me own.round) (below c.batchers))
+        (each_in (propose_to c me own v.cw) v.proposed (λ p m. let l = proposed p m in (omega arith, omega arith))) (leads_in own.round))
+
+    match_counted_good : AllReported v.promises → (o : Option Entry)
+        → ((own : Entry) → o ≡ Some own → is_changed own.round ≡ true → (p : Placed) → Member p v.proposed → p.slot < v.next)
+        → Good (match_counted c me o v)
+    match_counted_good told None ready = calm why.Old v h
+    match_counted_good told (Some own) ready =
+        either_way Good (nat_lt (length v.told) (enough c)) _ _ (calm why.Counted v h)
+        (by_test Good (is_changed own.round) _ _ (λ changed. bypass_good own (ready own refl changed)) (λ f. matched_good own told (live_entries v.told)))
 
     promise_counted_good : AllReported v.promises → (o : Option Entry) → Good (promise_counted c me o v)
     promise_counted_good told None = calm why.Old v h
@@ -174,12 +186,14 @@ module _ (c : Cluster) (me : RoleId) (d : LeaderDurable) (place : me.index < c.l
 
   -- by the input
 
-  module _ (v : LeaderVolatile) (h : IsNext v.next v.cw) (told : AllReported v.promises) where
+  module _ (v : LeaderVolatile) (h : IsNext v.next v.cw) (told : AllReported v.promises)
+      (ready : is_matching v.mode ≡ true → (own : Entry) → d.own ≡ Some own → is_changed own.round ≡ true → (p : Placed) → Member p v.proposed → p.slot < v.next) where
     takes_good : (from : RoleId) (m : Msg) → Reports m → Good (leader_takes c me d v from m)
     takes_good from (msg.MatchB i w es) reports =
-        either_way Good (not (is_matching v.mode && is_own d i)) _ _ (calm why.Old v h)
-        (either_way Good (is_counted from.index v.told) _ _ (calm why.Same v h)
-        (match_counted_good (record v { told = v.told ++ record { matchmaker = from.index; watermark = w; entries = es } ∷ [] }) h told d.own))
+        by_test Good (not (is_matching v.mode && is_own d i)) _ _ (λ t. calm why.Old v h)
+        (λ f. either_way Good (is_counted from.index v.told) _ _ (calm why.Same v h)
+        (match_counted_good (record v { told = v.told ++ record { matchmaker = from.index; watermark = w; entries = es } ∷ [] }) h told d.own
+        (ready (and_parts (is_matching v.mode) (is_own d i) (not-false _ f)).0)))
     takes_good from (msg.MatchNack i reason other) reports =
         either_way Good (is_idle v.mode || not (is_own d i)) _ _ (calm why.Old (with_seen other v) h)
         (either_way Good (has_no_room reason) _ _ (calm why.Full (with_seen other v) h) (calm why.Nacked (record (with_seen other v) { mode = Idle }) h))

@@ -17,7 +17,7 @@ use Rattle.cx_msg.specs.declared.message.Msg.{Msg}
 use Rattle.cx_msg.specs.declared.message.Msg.TheVariants as msg
 use Rattle.cx_model.specs.declared.states.Mode.{Mode}
 use Rattle.cx_model.specs.declared.states.Mode.TheVariants.{Idle, Matching, Phase1, Leading}
-use Rattle.cx_model.specs.Leader.{LeaderDurable, LeaderVolatile, leader_rules, is_idle, is_leading, leader_row}
+use Rattle.cx_model.specs.Leader.{LeaderDurable, LeaderVolatile, leader_rules, is_idle, is_matching, is_leading, is_changed, leader_row}
 use Rattle.cx_model.specs.Member.{Member}
 use Rattle.cx_model.specs.Replica.{replica_rules}
 use Rattle.cx_inv_run.specs.Laws.{Lands}
@@ -38,6 +38,12 @@ not_idle Idle t s = cc
 not_idle Matching t s = cc
 not_idle Phase1 t s = cc
 not_idle Leading t s = cc
+
+matching_is : (m : Mode) → is_matching m ≡ true → m ≡ Matching
+matching_is Idle t = cc
+matching_is Matching t = refl
+matching_is Phase1 t = cc
+matching_is Leading t = cc
 
 -- a list whose places are all below a number is no longer
 no_longer : {X : Type 0} (most : ℕ) (xs : List X) → ((i : ℕ) (x : X) → slice_get xs i ≡ Some x → i < most) → length xs ≤ most
@@ -93,6 +99,12 @@ module _ (c : Cluster) (history : List KeptRecord) (sent : List Letter) (states 
     proposed own e leads p m =
         ((subst (λ o. InMode c history sent o v Leading) e (subst (λ mode. InMode c history sent d.own v mode) leads state.1)).window p m).1
 
+    -- while it goes on to another grid, what it proposed in the round before
+    ready : is_matching v.mode ≡ true → (own : Entry) → d.own ≡ Some own → is_changed own.round ≡ true → (p : Placed) → Member p v.proposed → p.slot < v.next
+    ready matches own e changed p m =
+        (((subst (λ o. InMode c history sent o v Matching) e
+        (subst (λ mode. InMode c history sent d.own v mode) (matching_is v.mode matches) state.1)).1 changed).window p m).1
+
     given : (i : Input) → Given sent me i → (x : Letter) → i ≡ input.Take x → Reports x.msg
     given (input.Take y) g x e = let same : y ≡ x = cc in subst (λ (z : Letter). Reports z.msg) same (reports y.from y.to y.msg g.1)
     given input.Tick g x e = cc
@@ -102,5 +114,5 @@ module _ (c : Cluster) (history : List KeptRecord) (sent : List Letter) (states 
     leader_lands i g =
         let next = subst (λ (s : State). InRange c s) is (fitting.running me) in
         let low = leader_low c history me d v (subst (λ (s : State). LowState c history s) is (lows.running me)) sent lows.says i g in
-        let fine = row_good c me d place v next (λ p m. reports _ _ _ (state.0.promises p m)) mine has_round proposed i (given i g) (stored_few _ low.state.cw) in
+        let fine = row_good c me d place v next (λ p m. reports _ _ _ (state.0.promises p m)) ready mine has_round proposed i (given i g) (stored_few _ low.state.cw) in
         lands c history sent states fitting me LeaderIn _ (new_fits leader_rules c history me (λ r x. x) _ fine.keeps) fine.next fine.sends

@@ -6,6 +6,7 @@ use Rattle.cx_model.specs.Chosen.{chosen_prefix}
 use Rattle.cx_model.specs.World.{run, log_of}
 use Rattle.cx_inv_vote.proofs.Agree.{agreement}
 use Rattle.cx_inv_announce.proofs.Steps.{announced}
+use Rattle.cx_inv_bypass.proofs.Steps.{bypassed_rounds}
 use Rattle.cx_inv_held.proofs.Steps.{kept_watermarks}
 use Rattle.cx_inv_open.proofs.Steps.{roles_reopen}
 use Rattle.cx_inv_list.proofs.Answers.{answers_are_of_a_log, one_list, reads_tell}
@@ -36,6 +37,7 @@ lawful c es = record {
   rounds_ask_later = rounds_ask_later c es;
   reads_ask_later = reads_ask_later c es;
   announced = announced c es;
+  bypassed_rounds = bypassed_rounds c es;
   roles_reopen = roles_reopen c es;
 }
 
