@@ -1,4 +1,4 @@
--- The words for what a step came to.
+-- The words for the result of a step.
 use Rattle.std.specs.Prelude.{ℕ, List, codes}
 use Rattle.cx_base.specs.declared.why.Why.{Why}
 use Rattle.cx_base.specs.declared.why.Why.TheVariants.{Absent, Again, Answered, Applied, Asked, Asking, Batched, Bypassed, Chosen, Collected, Collecting, Counted, Crashed, Deferred, Done, Down, Early, End, Fetched, Full, Heard, Held, Idle, Informed, Informing, Kept, Later, Leads, Matched, Nack, Nacked, Old, Opened, Past, Phase1, Promised, Proposed, Raised, Resent, Retired, Same, Sent, Stale, Started, Stranger, Torn, Unasked, Unbatched, Up, Voted, Waiting, Window}

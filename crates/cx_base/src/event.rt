@@ -67,7 +67,7 @@ pub enum Event {
     Restart(RoleId),
 }
 
-/// An event of the history, with what it came to.
+/// An event of the history, with its result.
 #[derive(Clone, Copy)]
 pub struct Happened {
     pub event: Event,

@@ -1,9 +1,9 @@
-//! What a step came to, in one word.
+//! The result of a step, in one word.
 
 ghost use Rattle.std.specs.Prelude.{◌≡◌};
 ghost use Rattle.cx_base.specs.Why.{why_text};
 
-/// The word that says what a step came to.
+/// The word that says the result of a step.
 #[derive(Clone, Copy, Debug, PartialEq, Eq)]
 pub enum Why {
     /// No such datagram was sent yet.

@@ -12,7 +12,7 @@ use cx_msg::{Datagram, Msg};
 use cx_role::{Outbox, is_for};
 use std::marker::Model;
 
-/// What a datagram came to, and whether it completed the outstanding request.
+/// The result of a datagram, and whether it completed the outstanding request.
 #[derive(Clone, Copy, Debug, PartialEq, Eq)]
 pub struct Taken {
     pub why: Why,

@@ -60,7 +60,7 @@ pub record GivesLast (max : ℕ) (left left_after : Option (List ℕ)) (old new 
   pub none_held : new.held ≡ []
   pub at_end : IsAtEnd left_after
 
--- What `next` comes to: nothing is lost, and where no line is handed out, all that was read is held.
+-- The result of `next`: nothing is lost, and where no line is handed out, all that was read is held.
 abbrev pub Gives : ℕ → Option (List ℕ) → Option (List ℕ) → LinesState → LinesState → Next → Type 0
 Gives max left left_after old new Line = GivesLine max left left_after old new
 Gives max left left_after old new Last = GivesLast max left left_after old new
@@ -97,7 +97,7 @@ Cuts max old new (first.Line len size) = CutsLine max old new
 Cuts max old new first.Long = (new.held ≡ old.held) × BeginsLong max new.held
 Cuts max old new first.Open = (new.held ≡ old.held) × IsOpen max new.held
 
--- this many bytes of a source stand after those that are held, none only at its end
+-- this many bytes of a source come after those that are held, none only at its end
 pub record GetsBehind (left left_after : Option (List ℕ)) (held : ℕ) (old new : List ℕ) (count : ℕ) : Type 0 where
   pub read : List ℕ
   pub size : length read ≡ count

@@ -34,7 +34,7 @@ pub record GetsAll (limit : ℕ) (old new : Option (List ℕ)) (bytes : List ℕ
 abbrev pub ConsumesSome : Option (List ℕ) → Option (List ℕ) → Type 0
 ConsumesSome old new = (bytes : List ℕ) × Consumes old new bytes
 
--- what a whole reading came to; too long are more bytes than the limit
+-- the result of a whole reading; too long are more bytes than the limit
 abbrev pub ReadsAll : ℕ → Option (List ℕ) → Option (List ℕ) → ReadAll → Type 0
 ReadsAll limit old new (Whole bytes) = GetsAll limit old new bytes.items
 ReadsAll limit old new (TooLong bytes) = (limit < length bytes.items) × Consumes old new bytes.items

@@ -149,7 +149,7 @@ impl Notes {
     }
 }
 
-/// How many bytes the fronts have.
+/// How many bytes the datagrams have that are put in front.
 fn bytes_in(fronts: &[Front]) -> usize {
     let mut count = 0usize;
     for front in fronts {
@@ -158,7 +158,7 @@ fn bytes_in(fronts: &[Front]) -> usize {
     count
 }
 
-/// Adds the bytes of each front, and says where they stand.
+/// Adds the bytes of each datagram that is put in front, and says where they are.
 fn front_rows(
     alloc: Global,
     bytes: &mut Vec<u8>,

@@ -2,7 +2,7 @@
 
 use cx_base::RoleId;
 
-/// So many bytes from a place on.
+/// A number of bytes from a place on.
 #[derive(Clone, Copy)]
 pub(crate) struct Piece {
     pub(crate) start: usize,

@@ -5,7 +5,7 @@ ghost use Rattle.cx_base.specs.Faults.{Rises};
 ghost use Rattle.cx_edge.specs.declared.sink.WriteEnd.TheVariants.{Failed};
 ghost use Rattle.cx_edge.specs.Sink.{Writes, WriteKeepsCount, WritesAll};
 
-/// So many bytes were taken, or the write failed.
+/// This many bytes were taken, or the write failed.
 #[derive(Clone, Copy, Debug, PartialEq, Eq)]
 pub enum WriteEnd {
     /// The first bytes of the piece, this many.

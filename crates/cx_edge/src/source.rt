@@ -7,7 +7,7 @@ ghost use Rattle.cx_edge.specs.Source.{Reads, ReadKeepsCount, ReadsAll, ReadAllT
 
 use std::alloc::{AllocError, Global};
 
-/// So many bytes were read, or the read failed.
+/// This many bytes were read, or the read failed.
 #[derive(Clone, Copy, Debug, PartialEq, Eq)]
 pub enum ReadEnd {
     /// This many bytes, which are now the first of the buffer.
@@ -33,7 +33,7 @@ pub trait Source {
         ensures later { faults self.old ≤ faults self.new };
 }
 
-/// What a whole reading came to.
+/// The result of a whole reading.
 #[derive(Drop)]
 pub enum ReadAll {
     /// These are all bytes that were left.

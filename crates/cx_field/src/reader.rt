@@ -44,7 +44,7 @@ impl<'a> Reader<'a> {
         self.rest
     }
 
-    /// Passes over so many bytes.
+    /// Passes over this many bytes.
     pub fn skip(&mut self, count: usize)
         requires { count ≤ length self.old }
         ensures { self.new ≡ drop count self.old }

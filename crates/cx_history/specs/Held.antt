@@ -9,7 +9,7 @@ use Rattle.cx_history.specs.declared.own.Standing.{Standing}
 abbrev pub IsIndex : List Noted → List (List ℕ) → Bool → Type 0
 IsIndex requests clients in_order = in_order ≡ true → AreByClient requests clients
 
--- how one more request stands to its client's own
+-- how one more request compares to its client's own
 abbrev pub IsStanding : List Noted → List (List ℕ) → Bool → Noted → Standing → Type 0
 IsStanding requests clients in_order m one = in_order ≡ true → Stands (requests_at requests (get_or clients m.token.client [])) m one
 

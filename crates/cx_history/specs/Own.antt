@@ -65,7 +65,7 @@ pub record IsOneMore (client number : ℕ) (clients others : List (List ℕ)) : 
   pub its : get_or others client [] ≡ get_or clients client [] ++ number ∷ []
   pub other : (c : ℕ) → (c ≡ client → ⊥) → get_or others c [] ≡ get_or clients c []
 
--- how one more request stands to its client's own
+-- how one more request compares to its client's own
 abbrev pub Stands : List Noted → Noted → Standing → Type 0
 Stands own m Last = (i : ℕ) (n : Noted) → slice_get own i ≡ Some n → n.token.seq < m.token.seq
 Stands own m Repeat = (i : ℕ) × (slice_get own i ≡ Some m)

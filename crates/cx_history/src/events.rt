@@ -15,8 +15,8 @@ use cx_ring::{Tells, Told};
 use std::alloc::Global;
 use std::marker::Model;
 
-/// What happened, event by event. The list of all events stands in proofs alone; what is held is how many they are and those that
-/// are requests that were sent. Beside these stand the numbers of each client's own by rising number, so that a request is judged by
+/// What happened, event by event. The list of all events is in proofs alone; what is held is how many they are and those that
+/// are requests that were sent. Beside these are the numbers of each client's own by rising number, so that a request is judged by
 /// its place among them. Once one was sent that no run has, which these can't hold, all requests are looked at.
 #[derive(Drop)]
 pub struct Events {
@@ -85,7 +85,7 @@ fn next(count: u64) -> Result<u64, NoMemory>
     count.checked_add(1).ok_or(NoMemory)
 }
 
-// How a request stands to its client's own.
+// How a request compares to its client's own.
 fn standing_in(
     requests: &Requests,
     by_client: &ByClient,

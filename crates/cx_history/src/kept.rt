@@ -33,7 +33,7 @@ impl Model for Kept {
     ghost invariant = { λ k. IsKept k.roles.items k.records };
 }
 
-// Puts a record behind the other pieces, by way of its bytes. Out of memory, it puts none.
+// Puts a record after the other pieces, by way of its bytes. Out of memory, it puts none.
 fn put_record(
     alloc: Global,
     what: &Record,

@@ -1,4 +1,4 @@
-//! One client's requests, and where another stands among them.
+//! One client's requests, and where another is among them.
 
 ghost use Rattle.std.specs.Prelude.{◌≡◌, ◌↔◌, ◌<◌, IsTrue, length, option_map, slice_get};
 ghost use Rattle.cx_history.specs.Own.{AreNumbers, AreOwn, IsPlaceOf, Stands, is_less_at, is_stale_at, requests_at};
@@ -29,7 +29,7 @@ impl<'a> Model for Own<'a> {
     ghost invariant = { λ o. AreNumbers o.requests.now o.numbers.now };
 }
 
-/// How a request stands to those of its client that were sent before.
+/// How a request compares to those of its client that were sent before.
 pub enum Standing {
     /// Its number is above theirs.
     Last,
@@ -73,7 +73,7 @@ fn is_less(own: &Own<'_>, place: usize, seq: u64) -> bool
     }
 }
 
-// Where a number stands among a client's rising ones, or would stand. The last is asked first, since most numbers are above it.
+// Where a number is among a client's rising ones, or would be. The last is asked first, since most numbers are above it.
 fn place_of(client: u16, own: &Own<'_>, seq: u64) -> usize
     requires { AreOwn client own.now }
     ensures { IsPlaceOf seq own.now result }
@@ -113,7 +113,7 @@ pub fn is_stale_by(own: &Own<'_>, token: Token, event: &Event) -> bool
     is_stale_at(own, place, token, bytes.as_bytes())
 }
 
-/// How a request stands to those of its client. It takes no memory.
+/// How a request compares to those of its client. It takes no memory.
 pub fn standing_of(own: &Own<'_>, token: Token, event: &Event) -> Standing
     requires { AreOwn token.client own.now }
     ensures { Stands own.now (record { token = token; asks = asked event.now }) result }

@@ -11,7 +11,7 @@ use Rattle.cx_journal.specs.declared.split.Stop.TheVariants as stop
 use Rattle.cx_keeper.specs.declared.keeper.OpenFault.{OpenFault}
 use Rattle.cx_keeper.specs.declared.keeper.OpenFault.TheVariants as fault
 
--- the records stand in the bytes, each gate at its place
+-- the records are in the bytes, each gate at its place
 pub record IsFound (k : Option Kind) (bytes : List ℕ) (found : Found) : Type 0 where
   pub stands : StandsFor (payloads found.records.items) bytes
   pub fit : all_kept_by k found.records.items ≡ true

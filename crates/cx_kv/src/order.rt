@@ -1,4 +1,4 @@
-//! Where a key stands in the order of pairs.
+//! Where a key is in the order of pairs.
 
 ghost use Rattle.std.specs.Prelude.{◌≡◌, ◌<◌, ℕ, length, slice_get, slice_index_or, IfErr, IfOk};
 ghost use Rattle.std.specs.Str.{bytes_eq};
@@ -22,7 +22,7 @@ pub fn same_key(one: &Key, other: &Key) -> bool
     one == other
 }
 
-/// Where the pair at a place of the order stands.
+/// Where the pair at a place of the order is.
 #[tactic(auto, using(crate::proofs::Picking::inside_at))]
 pub fn index_at(order: &[u32], place: usize) -> usize
     requires { place < length order.now }
@@ -51,7 +51,7 @@ fn comes_before(list: &[Pair], index: u32, key: &Key) -> bool
     }
 }
 
-/// The place of a key in the order, or where it would stand.
+/// The place of a key in the order, or where it would be.
 pub fn place_of(list: &[Pair], order: &[u32], key: &Key) -> usize
     requires { IsOrdered list.now order.now }
     ensures { IsPlace key.now (picked list.now order.now) result }
@@ -59,7 +59,7 @@ pub fn place_of(list: &[Pair], order: &[u32], key: &Key) -> usize
     order.partition_point(|index| comes_before(list, *index, key))
 }
 
-/// Where a key stands in the order, or else where it belongs.
+/// Where a key is in the order, or else where it belongs.
 pub fn look_up(list: &[Pair], order: &[u32], key: &Key) -> Result<usize, usize>
     requires { IsOrdered list.now order.now }
     ensures held { IfOk result (IsHeldAt key.now (picked list.now order.now)) }

@@ -1,4 +1,4 @@
--- What a part of a node's run came to: it was done whole, or the first of its actions were done and something failed.
+-- The result of a part of a node's run: it was done whole, or the first of its actions were done and something failed.
 use Rattle.std.specs.Prelude.{◌≡◌, ◌⊎◌, ℕ, true, List, [], ◌∷◌, length, Option, None, Some, option_map, Result, Ok, Err, IfErr, OnOk}
 use Rattle.cx_base.specs.Faults.{Rises}
 use Rattle.cx_base.specs.declared.cluster.Cluster.{Cluster}

@@ -43,7 +43,7 @@ name_of (ReplicaAt s) = s.me
 name_of (UnbatcherAt s) = s.me
 name_of (ReaderAt s) = s.me
 
--- What a step of a role comes to: what follows, the records that are kept, the datagrams that are sent, and the text that is printed.
+-- The result of a step of a role: what follows, the records that are kept, the datagrams that are sent, and the text that is printed.
 pub record Step : Type 0 where
   pub next : Hosted
   pub kept : List KeptRecord
@@ -64,7 +64,7 @@ by_row rules make s i =
       text = [];
     }
 
--- what a client's move comes to
+-- the result of a client's move
 abbrev pub by_client : ClientMoved → List ℕ → Step
 by_client m text = record { next = ClientAt m.state; kept = []; sends = m.sends; text = text }
 

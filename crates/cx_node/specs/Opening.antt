@@ -57,7 +57,7 @@ IsBadAs c me file at kind.Matchmaker = IsBadStore matchmaker_rules c me file at
 IsBadAs c me file at kind.Replica = IsBadStore replica_rules c me file at
 IsBadAs c me file at other = ⊥
 
--- the first of these roles whose store is none of its own, and the place of the first fault in it
+-- the first of these roles whose store is not one of its own, and the place of the first fault in it
 pub record IsFirstBad (roles : List RoleId) (c : Cluster) (held : RoleId → List ℕ) (role : RoleId) (at : ℕ) : Type 0 where
   pub place : ℕ
   pub here : slice_get roles place ≡ Some role

@@ -19,7 +19,7 @@ use Rattle.cx_node.specs.declared.doing.Doing.TheVariants.{Begin, Give}
 use Rattle.cx_node.specs.Action.{Action, Took, step_actions}
 use Rattle.cx_node.specs.Hosted.{Hosted, ClientAt, Step, does, is_idle_leader, name_of}
 
--- What a part of a run comes to: what follows, and what was done, in order.
+-- The result of a part of a run: what follows, and what was done, in order.
 pub record Moved (S : Type 0) : Type 0 where
   pub next : S
   pub actions : List Action

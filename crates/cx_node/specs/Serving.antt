@@ -1,4 +1,4 @@
--- What serving came to.
+-- The result of serving.
 use Rattle.std.specs.Prelude.{◌≡◌, ◌⊎◌, ℕ, Bool, true, List, ◌++◌, map, take, Option, None, Some, IfSome, slice_get}
 use Rattle.std.specs.Io.KnownBytes.{Appends, IsAtEnd}
 use Rattle.cx_base.specs.declared.cluster.Cluster.{Cluster}
@@ -141,7 +141,7 @@ pub record Answered (roles : List RoleId) (tend : Option ℕ) (turns : ℕ) (old
   pub link_fault : s ≡ status.LinkFault → Rises old.links new.links × EndsEarly roles tend turns old new
   pub write_fault : s ≡ status.WriteFault → Rises old.writes new.writes × EndsEarly roles tend turns old new
   pub store_fault : (role : RoleId) → s ≡ status.StoreFault role → Rises (old.stores role) (new.stores role) × EndsEarly roles tend turns old new
-  -- The first store that is none of its role's is reported with the place of its first fault.
+  -- The first store that isn't one of its role's is reported with the place of its first fault.
   pub bad_store : (role : RoleId) (at : ℕ) → s ≡ status.BadStore role at → EndsEarly roles tend turns old new
   pub bad_place : (role : RoleId) (at : ℕ) → s ≡ status.BadStore role at → old.tells ≡ true → (c : Cluster) × (events : List Event) × Says roles old.left c events × IsFirstBad roles c old.held role at
   pub no_memory : s ≡ status.NoMemory → IsUntouched old new ⊎ EndsEarly roles tend turns old new
@@ -178,7 +178,7 @@ EndsWell other = ⊥
 abbrev pub Completes : List RoleId → Outside → Outside → Status → Type 0
 Completes roles old new s = NoFault old new → IsGood roles old → EndsWell s
 
--- Where the whole input is known and accepted and nothing fails, a store that is none of its role's is always reported, or memory ran out.
+-- Where the whole input is known and accepted and nothing fails, a store that isn't one of its role's is always reported, or memory ran out.
 abbrev pub TellsBad : List RoleId → Outside → Outside → Status → Type 0
 TellsBad roles old new s =
     NoFault old new → old.tells ≡ true → (all : List ℕ) → old.left ≡ Some all → (c : Cluster) (events : List Event) (role : RoleId) (at : ℕ)

@@ -181,7 +181,7 @@ beat_over k = record k { turns = 0; empty = 0 }
 unfoldable pub others_tick : List Hosted → Moved (List Hosted)
 others_tick hs = those_tick (λ i h. not (is_client h)) hs
 
--- how the leader's watermark stands, and whether a slot is open
+-- where the leader's watermark is, and whether a slot is open
 unfoldable pub leader_noted : ℕ → Bool → Care → Care
 leader_noted cw opened k = if nat_lt k.cw cw || not opened then record k { cw = cw; stuck = 0 } else record k { stuck = one_more k.stuck }
 

@@ -1,4 +1,4 @@
--- What a part of a tended turn came to: what its roles did, and what it counted.
+-- The result of a part of a tended turn: what its roles did, and what it counted.
 use Rattle.std.specs.Prelude.{◌≡◌, ℕ, Bool, false, not, List, [], ◌∷◌, Option, Result, Ok, Err, OnOk}
 use Rattle.std.specs.Option.{option_map_or}
 use Rattle.cx_base.specs.declared.cluster.Cluster.{Cluster}

@@ -9,7 +9,7 @@ use cx_base::NoMemory;
 use std::alloc::Global;
 use std::marker::Model;
 
-// So many takes that gave nothing make a beat.
+// How many takes that gave nothing make a beat.
 const BEAT: u32 = 64;
 
 /// What a tended node has counted.
@@ -104,7 +104,7 @@ impl Care {
         self.empty = 0;
     }
 
-    /// Notes at a beat where the leader stands: its watermark, and whether a slot is open.
+    /// Notes at a beat where the leader is: its watermark, and whether a slot is open.
     #[tactic(auto, unfolding(crate::specs::Tending::leader_noted))]
     pub fn note_leader(&mut self, watermark: u64, has_open: bool)
         ensures { self.new ≡ leader_noted watermark has_open self.old }

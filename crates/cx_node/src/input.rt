@@ -127,7 +127,7 @@ fn bad_line(line: Option<u64>) -> Option<Refusal>
     }
 }
 
-// Why lines after a header are refused: a role outside the cluster stands before the first bad line.
+// Why lines after a header are refused: a role outside the cluster comes before the first bad line.
 fn refused(roles: &[RoleId], cluster: &Cluster, schedule: &Schedule) -> Option<Refusal>
     ensures { result ≡ refused_of roles.now (Lines cluster.now schedule.now) }
 {
@@ -171,7 +171,7 @@ fn answer_bytes(
 
 /// Reads the input to its end, and answers its cluster and requests, for a node of these roles. It is refused, in this order, for
 /// its header, for a role outside the cluster, and for its first bad line; `ReadFault` comes only where the source's count rose,
-/// and none of these stands before it.
+/// and none of these comes before it.
 pub fn listen<S: Source>(
     alloc: Global,
     roles: &[RoleId],

@@ -177,7 +177,7 @@ fn give<K: Keeper>(
     Ok(())
 }
 
-// How a leader stands.
+// What a leader reports.
 fn standing_in(leader: &Leader) -> Standing
     ensures { result ≡ standing_of leader.now }
 {
@@ -249,7 +249,7 @@ impl<K: Keeper> Seat<K> {
         }
     }
 
-    /// How its leader stands, if it is one. It takes no memory.
+    /// What its leader reports, if it is one. It takes no memory.
     pub fn standing(&self) -> Option<Standing>
         ensures { result ≡ option_map standing_of (leader_of (hosted_of self.now)) }
     {

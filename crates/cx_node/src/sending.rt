@@ -10,7 +10,7 @@ use cx_msg::{Datagram, encode_into};
 use cx_role::names_role;
 use std::alloc::Global;
 
-// How many roles stand before those of a kind.
+// How many roles come before those of a kind.
 fn before(cluster: &Cluster, kind: Kind) -> u16
     ensures { result ≡ before cluster.now kind }
 {

@@ -1,6 +1,6 @@
 //! What a beat asks of a leader.
 
-/// How a leader stands: whether it may be ordered to lead, its chosen watermark, whether it gave away a slot that too few replicas
+/// What a beat asks of a leader: whether it may be ordered to lead, its chosen watermark, whether it gave away a slot that too few replicas
 /// hold, whether its ticks can do no more for such slots, and whether an order to collect would begin.
 #[derive(Clone, Copy)]
 pub struct Standing {

@@ -73,7 +73,7 @@ fn completed_by<K: Keeper>(alloc: Global, seats: &[Seat<K>]) -> Result<Vec<u64>,
     Ok(marks)
 }
 
-// The order that the leader gets. How it stands is noted.
+// The order that the leader gets. What it reports is noted.
 #[tactic(auto, unfolding(crate::specs::Tending::leader_asked))]
 fn leader_order(cluster: &Cluster, standing: Standing, care: &mut Care) -> Option<Order>
     ensures care { care.new ≡ leader_cared standing care.old }
@@ -130,7 +130,7 @@ impl<K: Keeper + Drop> Node<K> {
         self.seats[place].can_collect()
     }
 
-    // How leader 0 stands, where it is hosted.
+    // What leader 0 reports, where it is hosted.
     fn standing(&self) -> Option<Standing>
         ensures { result ≡ option_map standing_of (first_leader (hosted_in self.now.guests)) }
     {

@@ -17,7 +17,7 @@ pub record Counting : Type 0 where
 abbrev pub are_ids : List Entry → Bool
 are_ids live = list_all (λ (e : Entry). list_all (λ id. nat_lt id 64) e.grid.members) live
 
--- what one more answer comes to
+-- the result of one more answer
 abbrev pub told_by : Counting → Promised → Told
 told_by k p =
     if not (is_member_of k.live p.acceptor) then Unasked

@@ -1,6 +1,6 @@
-//! What an acceptor's answer comes to.
+//! The result of an acceptor's answer.
 
-/// What an acceptor's answer comes to.
+/// The result of an acceptor's answer.
 #[derive(Clone, Copy, Debug, PartialEq, Eq)]
 pub enum Told {
     /// It counts, and each live grid now has a whole row.

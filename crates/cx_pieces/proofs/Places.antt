@@ -5,7 +5,7 @@ use Rattle.std.proofs.lemmas.Nat.{div-add-mod'}
 use Rattle.std.proofs.lemmas.List.{append-nil}
 use Rattle.cx_pieces.specs.Chunks.{AreFull, all_of}
 
--- ---- an element of one list behind another
+-- ---- an element of one list after another
 
 pub in_first : {A : Type 0} (xs ys : List A) (n : ℕ) → n < length xs → slice_get (xs ++ ys) n ≡ slice_get xs n
 in_first [] ys n l = absurd (omega (arith, l))

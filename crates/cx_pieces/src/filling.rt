@@ -38,7 +38,7 @@ fn end_after(total: usize, more: usize) -> Result<u32, NoMemory>
 }
 
 impl Filling {
-    /// No pieces, with room for so many pieces and bytes.
+    /// No pieces, with room for this many pieces and bytes.
     pub fn with_capacity(alloc: Global, pieces: usize, bytes: usize) -> Result<Self, NoMemory>
         ensures { IfOk result (λ filling. filling ≡ []) }
     {

@@ -1,4 +1,4 @@
-//! The lines behind a header are run, one by one.
+//! The lines after a header are run, one by one.
 
 ghost use Rattle.std.specs.Prelude.{◌≡◌, ℕ, Option, List, IsTrue, false};
 ghost use Rattle.std.specs.Io.KnownBytes.{Appends};
@@ -18,7 +18,7 @@ use cx_script::{line, spelled_events_are_taken};
 use cx_world::World;
 use std::alloc::Global;
 
-/// What running an event came to.
+/// The result of running an event.
 #[derive(Clone, Copy)]
 pub enum RunEnd {
     Done,
@@ -103,7 +103,7 @@ pub fn run_none<W: Sink>(alloc: Global, cluster: Cluster, out: &mut W) -> Status
     }
 }
 
-/// Reads the lines behind a header, runs each of them as it comes, and writes its text, and the summary at the end.
+/// Reads the lines after a header, runs each of them as it comes, and writes its text, and the summary at the end.
 pub fn run_lines<S: Source, W: Sink>(
     alloc: Global,
     cluster: Cluster,

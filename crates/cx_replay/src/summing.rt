@@ -1,4 +1,4 @@
-//! The summary of a run is written line by line, so that no more than one slot's or one replica's stands in memory.
+//! The summary of a run is written line by line, so that no more than one slot's or one replica's is in memory.
 
 ghost use Rattle.std.specs.Prelude.{◌≡◌, ◌++◌, ℕ, List, [], map, slice_get, Some, IsOk, OnOk};
 ghost use Rattle.cx_base.specs.Fold.{commands_of};

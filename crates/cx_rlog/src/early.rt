@@ -13,7 +13,7 @@ use std::alloc::Global;
 /// The most values that may follow the next one at once.
 const FOLLOWING: u64 = WINDOW - 1;
 
-/// A value that waits stands at its slot.
+/// A value that waits is at its slot.
 pub struct Waiting;
 
 impl Slotted<Placed> for Waiting {

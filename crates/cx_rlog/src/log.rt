@@ -18,7 +18,7 @@ use std::marker::Model;
 /// Slots are below 2^40, and a value waits at most 31 slots ahead (this project's own limits).
 #[derive(Drop)]
 pub struct Log {
-    // A batch of one short command stands in place here.
+    // A batch of one short command is held in place here.
     list: Vec<Packed>,
     // Its window begins at the slots held.
     early: Early,

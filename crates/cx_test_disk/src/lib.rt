@@ -1,6 +1,6 @@
 //! Tests of disks, keepers and journals: calls that fail or stop, and what is read again.
 //!
-//! They need only public calls, so they stand here and not in the crates that they test: a crate with tests is proved twice.
+//! They need only public calls, so they are here and not in the crates that they test: a crate with tests is proved twice.
 //! Nothing builds on this crate.
 #![tactic(auto)]
 

@@ -40,7 +40,7 @@ happening_text (event.Order leader order cut) who = order_text order ++ role_tex
 happening_text (event.Crash r) who = codes "crash " ++ role_text r
 happening_text (event.Restart r) who = codes "restart " ++ role_text r
 
--- the line of an event, with its number and what it came to
+-- the line of an event, with its number and its result
 unfoldable pub event_text : Event → Effect → List ℕ
 event_text e effect =
     codes "@" ++ decimal effect.event ++ codes " " ++ happening_text e effect.who ++ codes " " ++ why_text effect.why ++ codes "\n"

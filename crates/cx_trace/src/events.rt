@@ -82,7 +82,7 @@ fn put_event(text: &mut Vec<u8>, event: &Event, effect: &Effect) -> Result<(), N
     put(text, b"\n")
 }
 
-/// Appends the line of an event (this project's own format): its number, what happened to whom, and what it came to. An
+/// Appends the line of an event (this project's own format): its number, what happened to whom, and its result. An
 /// `Err` appends nothing.
 pub fn event_into(event: &Event, effect: &Effect, out: &mut Vec<u8>) -> Result<(), NoMemory>
     ensures ok { OnOk result (out.new.items ≡ out.old.items ++ event_text event.now effect.now) }

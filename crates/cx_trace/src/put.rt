@@ -16,7 +16,7 @@ pub fn put(text: &mut Vec<u8>, piece: &[u8]) -> Result<(), NoMemory>
     Ok(())
 }
 
-// What was put behind so many bytes of a text goes again when out of memory.
+// What was put after this many bytes of a text is taken away again when out of memory.
 pub fn undo_part(
     put: Result<(), NoMemory>,
     text: &mut Vec<u8>,

@@ -1,4 +1,4 @@
--- A seat's role stands over the records of its keeper: after a whole step and after a failed one.
+-- A seat's role is as the records of its keeper leave it: after a whole step and after a failed one.
 use Rattle.std.proofs.Common.{◌≡◌, ◌≤◌, Bool, true, false, List, [], ◌∷◌, ◌++◌, length, drop, Option, None, Some, Err, ap, sym, ◌∙◌, subst, append-nil, refl, inl, inr, arith}
 use Rattle.std.specs.Option.{option_to_list}
 use Rattle.std.specs.Prelude.{if◌then◌else◌}

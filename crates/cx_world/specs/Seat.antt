@@ -48,7 +48,7 @@ pub record IsUp {S D V : Type 0} (state : S → Running D V) (role : Option S) (
   pub there : (s : S) × (role ≡ Some s) × ((state s).live ≡ true)
   pub knows : behind ≡ None
 
--- a seat's role, whether it runs, and the record behind what it knows, over the records of its keeper
+-- a seat's role, whether it runs, and the record after what it knows, over the records of its keeper
 pub record Sits {S D V : Type 0} (rules : Rules D V) (state : S → Running D V) (c : Cluster) (who : RoleId) (rs : List Record) (role : Option S) (runs : Bool) (behind : Option Record) : Type 0 where
   pub stands : ForSome role (λ s. Stands rules c who rs behind (state s))
   pub fits : all_fit (option_to_list behind) ≡ true

@@ -178,7 +178,7 @@ fn give(input: Input, cut: Cut) -> Act
     Act::Give { input, cut }
 }
 
-/// One event, which the world takes: what it does to the roles, told of every world that has these seats and histories.
+/// One event, which the world takes: what it does to the roles, said of every world that has these seats and histories.
 pub fn change(
     seats: &mut Seats,
     sent: &Sent,

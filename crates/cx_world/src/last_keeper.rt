@@ -25,7 +25,7 @@ impl<'a> Tells<(&'a Told<Record>, &'a Record), Record> for OneMore {
     ghost told = { λ x. x.0.now.items ++ x.1.now ∷ [] };
 }
 
-/// Lets an append fail where it is told to, and holds the last record alone: whoever has it notes the others elsewhere.
+/// Lets an append fail where `cut` says so, and holds the last record alone: whoever has it notes the others elsewhere.
 #[derive(Drop)]
 pub struct LastKeeper {
     alloc: Global,
@@ -78,7 +78,7 @@ impl LastKeeper {
         self.count
     }
 
-    /// The record that was kept since there were so many, if one was.
+    /// The record that was kept since there were this many, if one was.
     pub fn kept_since(&self, count: usize) -> Result<Option<Record>, NoMemory>
         requires least { count ≤ length self.now.kept }
         requires most { length self.now.kept ≤ count + 1 }
@@ -145,7 +145,7 @@ impl Keeper for LastKeeper {
         }
     }
 
-    /// It fails: the records stand in the world's history, and a role that stopped still knows its own.
+    /// It fails: the records are in the world's history, and a role that stopped still knows its own.
     fn recover(&mut self) -> Result<Vec<Record>, OpenFault> {
         self.faults.add();
         Err(OpenFault::Failed)

@@ -84,7 +84,7 @@ fn step<R: Role>(
     }
 }
 
-// The role as it is opened again, with the record behind what it knows.
+// The role as it is opened again, with the record after what it knows.
 fn reopened<R: Role>(role: R, behind: &Option<Record>) -> Result<R, WakeFault>
     requires { IsTrue (all_fit (option_to_list behind.now)) }
     ensures role { IfOk result (λ opened. R.state opened ≡ reopened R.rules (R.state role) (option_to_list behind.now)) }

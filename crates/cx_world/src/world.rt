@@ -26,7 +26,7 @@ use cx_trace::{Effect, Folded};
 use std::alloc::Global;
 use std::marker::Model;
 
-/// All roles of a cluster with their keepers, and the histories: events with what they came to, records that were kept, and
+/// All roles of a cluster with their keepers, and the histories: events with their results, records that were kept, and
 /// datagrams that were sent, numbered from 0.
 #[derive(Drop)]
 pub struct World {
