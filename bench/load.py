@@ -1,10 +1,12 @@
 #!/usr/bin/env python3
 """Puts a cluster under load for some seconds, and prints one line of figures; bench/node.sh calls it for each of its lines.
 
-Use: bench/load.py [--seconds S] [--folder F] compax PROGRAM one|five CLIENTS BATCH [WORD..]
+Use: bench/load.py [--seconds S] [--folder F] [--clients-tend N] compax PROGRAM one|five CLIENTS BATCH [WORD..]
      bench/load.py [--seconds S] [--folder F] idle PROGRAM [WORD..]
      bench/load.py [--seconds S] [--folder F] etcd CLIENTS
      bench/load.py [--folder F] starts PROGRAM [WORD..]
+
+The words, as `--tend 1024`, are passed to each node. With --clients-tend a process of clients alone has this number in place of theirs.
 """
 import argparse
 import base64
@@ -25,13 +27,13 @@ LINES = 60_000                  # of a node's input, which has at most 65,535
 TICKS = os.sysconf("SC_CLK_TCK")
 STARTS = 100
 
-# The leader's process is the one that all commands pass, so it has what no write can do without, and no replica: of the 8 syncs of a
-# slot, one in two slots is its acceptor's pair, and a replica would add two in each slot.
+# A replica beside the leader has what comes to the leader wait in its sockets while it syncs. Without one the window of 32 slots is
+# full more often, and what comes to a full window is dropped: of 64 clients in batches of 1 some then wait for seconds.
 SERVERS = {
-    "first": "batcher:0 leader:0 proxy:0 proxy:1 acceptor:0 match:0 unbatcher:0 reader:0",
-    "second": "acceptor:1 match:1",
-    "third": "acceptor:2 match:2 replica:0",
-    "fourth": "acceptor:3 replica:1",
+    "first": "batcher:0 leader:0 proxy:0 acceptor:0 match:0 replica:0 unbatcher:0 reader:0",
+    "second": "proxy:1 acceptor:1 match:1 replica:1",
+    "third": "acceptor:2 match:2",
+    "fourth": "acceptor:3",
 }
 
 
@@ -149,7 +151,15 @@ def node(program, words, roles):
     return [program, "node", "--turns", "1000000000", *words, *roles.split()]
 
 
-def compax(folder, seconds, program, layout, clients, batch, words):
+def clients_words(words, tend):
+    """The words for a process of clients alone."""
+    if tend is None or "--tend" not in words:
+        return words
+    at = words.index("--tend") + 1
+    return [*words[:at], str(tend), *words[at + 1:]]
+
+
+def compax(folder, seconds, program, layout, clients, batch, words, tend=None):
     own = " ".join(f"client:{client}" for client in range(clients))
     servers = SERVERS if layout == "five" else {}
     roles = own if servers else " ".join([own, *SERVERS.values()])
@@ -162,7 +172,7 @@ def compax(folder, seconds, program, layout, clients, batch, words):
         for server in servers.values():
             start(node(program, words, server), folder, nothing.open())
         time.sleep(0.5 if servers else 0)
-        asking = start(node(program, words, roles), folder, asked.open(), subprocess.PIPE)
+        asking = start(node(program, clients_words(words, tend) if servers else words, roles), folder, asked.open(), subprocess.PIPE)
         pipe, held, ends = asking.stdout.fileno(), b"", time.monotonic() + seconds
         while (left := ends - time.monotonic()) > 0:
             if not select.select([pipe], [], [], left)[0]:
@@ -294,6 +304,7 @@ def parsed():
     parser = argparse.ArgumentParser(description=__doc__, formatter_class=argparse.RawDescriptionHelpFormatter)
     parser.add_argument("--seconds", type=float, default=3)
     parser.add_argument("--folder", default=None)
+    parser.add_argument("--clients-tend", type=int, default=None)
     kinds = parser.add_subparsers(dest="kind", required=True)
     one = kinds.add_parser("compax")
     one.add_argument("program")
@@ -314,7 +325,7 @@ def parsed():
 def measured(args, folder):
     match args.kind:
         case "compax":
-            return compax(folder, args.seconds, args.program, args.layout, args.clients, args.batch, args.words)
+            return compax(folder, args.seconds, args.program, args.layout, args.clients, args.batch, args.words, args.clients_tend)
         case "idle":
             return idle_line(idle(folder, args.seconds, args.program, args.words))
         case "starts":

@@ -12,7 +12,7 @@ import bars
 import load
 from bars import ALONE, ALONE_8, MANY, MANY_1, SOME, Round
 
-BARS = 12
+BARS = 13
 RATES = {ALONE: 300.0, ALONE_8: 310.0, SOME: 2000.0, MANY: 2000.0, MANY_1: 1.0}
 PEERS = {1: 300.0, 16: 2000.0, 64: 2000.0}
 
@@ -67,12 +67,18 @@ class BarsTest(unittest.TestCase):
             self.assertEqual(self.missed(self.with_one(change, 3)), wanted)
             self.assertEqual(self.missed(self.with_one(change, 2)), [])             # the median is good
         for which in (MANY, MANY_1):
-            self.assertEqual(self.missed(self.with_one(line(which, silence=2.0), 1)), ["none of 64 clients waits for 2 seconds"])
+            self.assertEqual(self.missed(self.with_one(line(which, silence=2.0), 1)), [f"{bars.named(which)}: none waits for 2 seconds"])
         self.assertEqual(self.missed([a_round()], load.STARTS - 1), ["100 starts in one folder"])
 
     def test_without_the_peer(self) -> None:
         rounds = self.with_one(lambda it: it.peers.clear(), 5)
         self.assertEqual(self.missed(rounds), [f"{bars.named(line)}: not below etcd" for line in (ALONE, ALONE_8, SOME, MANY)])
+
+    def test_words_of_clients(self) -> None:
+        """A process of clients gets another number, where it is tended."""
+        self.assertEqual(load.clients_words(["--tend", "1024", "--turns", "9"], 256), ["--tend", "256", "--turns", "9"])
+        self.assertEqual(load.clients_words(["--tend", "1024"], None), ["--tend", "1024"])
+        self.assertEqual(load.clients_words([], 256), [])
 
     def test_silences(self) -> None:
         """From the first answer of all to the end, the longest time that a client had none."""
