@@ -1,13 +1,17 @@
 #!/usr/bin/env python3
 """Puts a cluster under load for some seconds, and prints one line of figures; bench/node.sh calls it for each of its lines.
 
-Use: bench/load.py [--seconds S] [--folder F] compax PROGRAM one|five CLIENTS BATCH [WORD..]
+Use: bench/load.py [--seconds S] [--folder F] [--clients-tend N] compax PROGRAM one|five CLIENTS BATCH [WORD..]
      bench/load.py [--seconds S] [--folder F] idle PROGRAM [WORD..]
      bench/load.py [--seconds S] [--folder F] etcd CLIENTS
+     bench/load.py [--folder F] starts PROGRAM [WORD..]
+
+The words, as `--tend 1024`, are passed to each node. With --clients-tend a process of clients alone has this number in place of theirs.
 """
 import argparse
 import base64
 import contextlib
+import dataclasses
 import json
 import os
 import pathlib
@@ -21,6 +25,10 @@ import time
 
 LINES = 60_000                  # of a node's input, which has at most 65,535
 TICKS = os.sysconf("SC_CLK_TCK")
+STARTS = 100
+
+# A replica beside the leader has what comes to the leader wait in its sockets while it syncs. Without one the window of 32 slots is
+# full more often, and what comes to a full window is dropped: of 64 clients in batches of 1 some then wait for seconds.
 SERVERS = {
     "first": "batcher:0 leader:0 proxy:0 acceptor:0 match:0 replica:0 unbatcher:0 reader:0",
     "second": "proxy:1 acceptor:1 match:1 replica:1",
@@ -69,12 +77,34 @@ def processes():
             process.wait()
 
 
+@dataclasses.dataclass
+class Figures:
+    """What a line says of so many seconds: answers a second, milliseconds from one answer of a client to its next, milliseconds of
+    processor time a command, how many clients got no answer, and the longest time in seconds that one was without an answer."""
+
+    what: str
+    rate: float
+    median: float
+    late: float
+    cost: float
+    unanswered: int
+    silence: float
+    slots: float | None = None      # a command
+    syncs: float | None = None
+
+    def __str__(self):
+        kept = "" if self.slots is None else f", slots {self.slots:6.2f} and syncs {self.syncs:7.2f} a command"
+        return (f"{self.what}: {self.rate:7.0f} a second, median {self.median:8.2f} ms, 99 of 100 {self.late:8.2f} ms, "
+                f"processor {self.cost:6.2f} ms a command, unanswered {self.unanswered}, longest silence {self.silence:5.2f} s{kept}")
+
+
 class Times:
     """When each client was answered."""
 
     def __init__(self):
         self.last = {}
-        self.gaps = []
+        self.gaps = []              # of one client, from an answer to the next
+        self.begun = []             # from the first answer of all to the first of each
         self.count = 0
         self.first = None
 
@@ -83,6 +113,8 @@ class Times:
         self.first = self.first or now
         if client in self.last:
             self.gaps.append(now - self.last[client])
+        else:
+            self.begun.append(now - self.first)
         self.last[client] = now
         self.count += 1
 
@@ -91,11 +123,17 @@ class Times:
         gaps = sorted(self.gaps)
         return 1000 * gaps[min(len(gaps) - 1, int(len(gaps) * part))] if gaps else float("nan")
 
-    def line(self, ended, spent, clients):
-        rate = self.count / (ended - self.first) if self.first else 0
+    def silence(self, ended, clients):
+        """The longest time that one of the clients had no answer, from the first answer of any of them on."""
+        if not self.first:
+            return float("inf")
+        waits = [ended - at for at in self.last.values()] + [ended - self.first] * (clients - len(self.last))
+        return max(self.gaps + self.begun + waits)
+
+    def figures(self, what, ended, spent, clients):
+        rate = self.count / (ended - self.first) if self.first else 0.0
         cost = 1000 * spent / self.count if self.count else float("nan")
-        return (f"{rate:7.0f} a second, median {self.below(0.5):8.2f} ms, 99 of 100 {self.below(0.99):8.2f} ms, "
-                f"processor {cost:6.2f} ms a command, unanswered {clients - len(self.last)}")
+        return Figures(what, rate, self.below(0.5), self.below(0.99), cost, clients - len(self.last), self.silence(ended, clients))
 
 
 def records(folder):
@@ -113,21 +151,29 @@ def node(program, words, roles):
     return [program, "node", "--turns", "1000000000", *words, *roles.split()]
 
 
-def compax(args, folder):
-    clients, own = args.clients, " ".join(f"client:{client}" for client in range(args.clients))
-    servers = SERVERS if args.layout == "five" else {}
+def clients_words(words, tend):
+    """The words for a process of clients alone."""
+    if tend is None or "--tend" not in words:
+        return words
+    at = words.index("--tend") + 1
+    return [*words[:at], str(tend), *words[at + 1:]]
+
+
+def compax(folder, seconds, program, layout, clients, batch, words, tend=None):
+    own = " ".join(f"client:{client}" for client in range(clients))
+    servers = SERVERS if layout == "five" else {}
     roles = own if servers else " ".join([own, *SERVERS.values()])
-    head = header(clients, args.batch)
+    head = header(clients, batch)
     nothing, asked = pathlib.Path(folder, "nothing"), pathlib.Path(folder, "writes")
     nothing.write_text(head)
     asked.write_text(head + "".join(writes(clients)))
     times, slots, spent = Times(), 0, 0.0
     with processes() as (start, running):
         for server in servers.values():
-            start(node(args.program, args.words, server), folder, nothing.open())
+            start(node(program, words, server), folder, nothing.open())
         time.sleep(0.5 if servers else 0)
-        asking = start(node(args.program, args.words, roles), folder, asked.open(), subprocess.PIPE)
-        pipe, held, ends = asking.stdout.fileno(), b"", time.monotonic() + args.seconds
+        asking = start(node(program, clients_words(words, tend) if servers else words, roles), folder, asked.open(), subprocess.PIPE)
+        pipe, held, ends = asking.stdout.fileno(), b"", time.monotonic() + seconds
         while (left := ends - time.monotonic()) > 0:
             if not select.select([pipe], [], [], left)[0]:
                 break
@@ -142,23 +188,45 @@ def compax(args, folder):
         ended = time.monotonic()
         spent = sum(processor_time(process) for process in running)
     count = max(times.count, 1)
-    what = f"compax in {args.layout:>4}, {clients:2} clients, batch {args.batch}"
-    return (f"{what}: {times.line(ended, spent, clients)}, "
-            f"slots {slots / count:6.2f} and syncs {2 * records(folder) / count:7.2f} a command")
+    figures = times.figures(f"compax in {layout:>4}, {clients:2} clients, batch {batch}", ended, spent, clients)
+    return dataclasses.replace(figures, slots=slots / count, syncs=2 * records(folder) / count)
 
 
-def idle(args, folder):
+def idle(folder, seconds, program, words):
+    """How much of a processor, in hundredths, each process takes that nobody asks anything."""
     nothing = pathlib.Path(folder, "nothing")
     nothing.write_text(header(1, 1))
     with processes() as (start, running):
         for server in SERVERS.values():
-            start(node(args.program, args.words, server), folder, nothing.open())
+            start(node(program, words, server), folder, nothing.open())
         time.sleep(1)
         before, began = [processor_time(process) for process in running], time.monotonic()
-        time.sleep(args.seconds)
+        time.sleep(seconds)
         passed = time.monotonic() - began
-        shares = [100 * (processor_time(process) - old) / passed for process, old in zip(running, before)]
+        return [100 * (processor_time(process) - old) / passed for process, old in zip(running, before)]
+
+
+def idle_line(shares):
     return "idle: " + ", ".join(f"{share:.1f}" for share in shares) + " % of a processor in each of four processes"
+
+
+def starts(folder, program, words):
+    """Starts all roles in one folder, again and again, each time with one write. Gives how many of them were answered, and the
+    longest time that one took, in seconds."""
+    head, answered, longest = header(1, 1), 0, 0.0
+    roles = " ".join(["client:0", *SERVERS.values()])
+    for number in range(1, STARTS + 1):
+        began = time.monotonic()
+        with contextlib.suppress(subprocess.TimeoutExpired):
+            ran = subprocess.run(node(program, words, roles), cwd=folder, text=True, capture_output=True, timeout=10,
+                                 input=f"{head}write client:0 {number} batcher:0 put k v{number}\n")
+            answered += ran.returncode == 0 and ran.stdout.startswith(f"answer client:0 {number} at ")
+        longest = max(longest, time.monotonic() - began)
+    return answered, longest
+
+
+def starts_line(answered, longest):
+    return f"starts: {answered} of {STARTS} starts in one folder were answered, each within {longest:.1f} s"
 
 
 def put_request(client, number):
@@ -199,18 +267,18 @@ def members(start, folder):
     sys.exit("load.py: etcd takes no put")
 
 
-def etcd(args, folder):
+def etcd(folder, seconds, clients):
     times = Times()
     with processes() as (start, running), selectors.DefaultSelector() as waiting:
         port = members(start, folder)
         before = sum(processor_time(process) for process in running)
         held, numbers = {}, {}
-        for client in range(args.clients):
+        for client in range(clients):
             connection = socket.create_connection(("127.0.0.1", port))
             waiting.register(connection, selectors.EVENT_READ, client)
             connection.sendall(put_request(client, 0))
             held[client], numbers[client] = b"", 0
-        ends = time.monotonic() + args.seconds
+        ends = time.monotonic() + seconds
         while (left := ends - time.monotonic()) > 0:
             for key, _ in waiting.select(left):
                 client = key.data
@@ -223,13 +291,20 @@ def etcd(args, folder):
         spent = sum(processor_time(process) for process in running) - before
         for key in list(waiting.get_map().values()):
             key.fileobj.close()
-    return f"etcd, three members, {args.clients:2} clients: {times.line(ended, spent, args.clients)}"
+    return times.figures(f"etcd, three members, {clients:2} clients", ended, spent, clients)
+
+
+@contextlib.contextmanager
+def new_folder(place):
+    with tempfile.TemporaryDirectory(prefix="load.", dir=place) as folder:
+        yield folder
 
 
 def parsed():
     parser = argparse.ArgumentParser(description=__doc__, formatter_class=argparse.RawDescriptionHelpFormatter)
     parser.add_argument("--seconds", type=float, default=3)
     parser.add_argument("--folder", default=None)
+    parser.add_argument("--clients-tend", type=int, default=None)
     kinds = parser.add_subparsers(dest="kind", required=True)
     one = kinds.add_parser("compax")
     one.add_argument("program")
@@ -240,16 +315,31 @@ def parsed():
     still = kinds.add_parser("idle")
     still.add_argument("program")
     still.add_argument("words", nargs=argparse.REMAINDER)
+    again = kinds.add_parser("starts")
+    again.add_argument("program")
+    again.add_argument("words", nargs=argparse.REMAINDER)
     kinds.add_parser("etcd").add_argument("clients", type=int)
     return parser.parse_args()
+
+
+def measured(args, folder):
+    match args.kind:
+        case "compax":
+            return compax(folder, args.seconds, args.program, args.layout, args.clients, args.batch, args.words, args.clients_tend)
+        case "idle":
+            return idle_line(idle(folder, args.seconds, args.program, args.words))
+        case "starts":
+            return starts_line(*starts(folder, args.program, args.words))
+        case "etcd":
+            return etcd(folder, args.seconds, args.clients)
 
 
 def main():
     args = parsed()
     if "program" in args:
         args.program = os.path.abspath(args.program)
-    with tempfile.TemporaryDirectory(prefix="load.", dir=args.folder) as folder:
-        print({"compax": compax, "idle": idle, "etcd": etcd}[args.kind](args, folder), flush=True)
+    with new_folder(args.folder) as folder:
+        print(measured(args, folder), flush=True)
 
 
 if __name__ == "__main__":
