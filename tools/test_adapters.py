@@ -62,12 +62,14 @@ class AdaptersTest(Trial):
                 it.kill()
 
     def asked(self, it: socket.socket, kind: int, acceptor: Role, body: bytes) -> bytes:
-        """What an acceptor answers to the leader. It may not have bound its port yet, so it is asked until it does."""
+        """What an acceptor answers to the leader, from its own port. It may not have bound it yet, so it is asked until it does."""
         it.settimeout(0.2)
         for _ in range(int(LONGEST / 0.2)):
             with contextlib.suppress(OSError):
                 it.sendto(datagram(kind, LEADER, acceptor, body), ("127.0.0.1", self.port(acceptor)))
-                return it.recv(65_536)
+                answer, sender = it.recvfrom(65_536)
+                self.assertEqual(sender, ("127.0.0.1", self.port(acceptor)))
+                return answer
         raise AssertionError(f"{acceptor} does not answer")
 
     def file_of(self, acceptor: Role) -> pathlib.Path:

@@ -158,6 +158,11 @@ class RunsTest(unittest.TestCase):
         self.store("one", {**ONE, "outside": "folder journal\n", "stdout": "replay fast\na\nb\njournal\nlog\n"})
         self.passes(1)
 
+    def test_device(self):
+        self.program.write_text("#!/bin/sh\nhead -c 3 journal | od -An -tx1\n")
+        self.store("one", {"args": "", "outside": "device journal\n", "stdout": " 00 00 00\n"})
+        self.passes(1)
+
     def test_taken_port(self):
         with socket.socket(socket.AF_INET, socket.SOCK_DGRAM) as other:
             other.bind(("127.0.0.1", 0))

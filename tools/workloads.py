@@ -32,6 +32,7 @@ Journals of a cluster of one of each role in which the first SIZE slots are chos
     leader, matchmaker, acceptor, replica
     informed    of an acceptor that has no votes, and was told that they are chosen
     long-votes  of an acceptor whose votes are for eight commands of the greatest size each
+    long-window the same, where it was told of no slot that is chosen, so that it holds all its votes
     longest     of a replica whose log has them in records of 32 values, with eight commands of the greatest size each
 """
 import itertools
@@ -324,10 +325,10 @@ def journal(records):
     return b"".join(b"\1" + struct.pack(">I", len(record)) + record for record in records) + b"\0"
 
 
-def votes(size, voted=value_at):
-    """The votes of the first round. With each goes what the acceptor is told: how many slots are chosen and held."""
+def votes(size, voted=value_at, told=16):
+    """The votes of the first round. With each goes what the acceptor is told: how many slots are chosen and held, a multiple of `told`."""
     for slot in range(size):
-        yield b"\2" + ROUND + struct.pack(">QQ", slot, slot - slot % 16) + voted(slot)
+        yield b"\2" + ROUND + struct.pack(">QQ", slot, slot - slot % told) + voted(slot)
 
 
 def long_records(size):
@@ -343,6 +344,7 @@ JOURNALS = {
     "replica": lambda size: (b"\7\1" + value_at(slot) for slot in range(size)),
     "informed": lambda size: [b"\3" + ROUND + struct.pack(">Q", size)],
     "long-votes": lambda size: votes(size, long_value_at),
+    "long-window": lambda size: votes(size, long_value_at, told=size),
     "longest": long_records,
 }
 
