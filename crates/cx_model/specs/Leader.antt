@@ -270,7 +270,7 @@ held_row c v from n =
 abbrev pub are_known : List ℕ → ℕ → ℕ → Bool
 are_known chosen first end = list_all (λ s. is_in s chosen) (numbers first (end - first))
 
--- whether all that it proposed when its first phase was done is known to be chosen, or held
+-- whether all that it proposed when it began to lead is known to be chosen, or held
 abbrev pub is_settled : LeaderVolatile → Bool
 is_settled v = are_known v.chosen v.cw v.end
 
