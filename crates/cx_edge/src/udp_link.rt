@@ -25,7 +25,7 @@ struct Bound {
 }
 
 /// Carries datagrams over one socket of 127.0.0.1 for each bound role. While datagrams come, a take doesn't wait. Where none
-/// comes, it waits for one, a millisecond at most. Its history isn't known.
+/// comes, it waits for one, a millisecond at most, and asks no socket where the wait reported none. Its history isn't known.
 #[derive(Drop)]
 pub struct UdpLink<N> {
     net: N,
@@ -33,8 +33,9 @@ pub struct UdpLink<N> {
     events: Events<Global>,
     sockets: Vec<Bound>,
     first: usize,
-    // Whether the last take found nothing.
+    // Whether the last take found nothing, and how many waits since then asked no socket.
     is_calm: bool,
+    unasked: u32,
     faults: Faults,
     losses: Faults,
 }
@@ -63,6 +64,7 @@ impl<N: Net> UdpLink<N> {
             sockets: Vec::with_capacity(alloc, room)?,
             first: 0,
             is_calm: false,
+            unasked: 0,
             faults: Faults::none(),
             losses: Faults::none(),
         })
@@ -155,11 +157,31 @@ const GATHER: u64 = 50;
 /// How long each further one waits, in microseconds.
 const WAIT: u64 = 1_000;
 
-/// Waits for a datagram, for at most this time. An event only ends the wait, since the poll reports each one once: which sockets
-/// have a datagram is asked of the sockets. A failure ends it too.
-fn wait<A: Allocator>(poll: &mut Option<Poll>, events: &mut Events<A>, micros: u64) {
+/// After so many waits without an event the sockets are asked all the same.
+const UNASKED: u32 = 16;
+
+/// Waits for a datagram, for at most this time, and says whether one may have come. An event only ends the wait, since the poll
+/// reports each one once: which sockets have a datagram is asked of the sockets. A failure ends it too, and drops no event.
+fn wait<A: Allocator>(poll: &mut Option<Poll>, events: &mut Events<A>, micros: u64) -> bool {
     if let Some(poll) = poll {
         let _ = poll.poll(events, Some(Duration::from_micros(micros)));
+    }
+    !events.is_empty()
+}
+
+impl<N> UdpLink<N> {
+    // Waits for a datagram, and says whether the sockets are to be asked. No socket had one before the wait, so where it ends
+    // without an event none has; but an error of the network hides a datagram that came after it, until the sockets are asked again.
+    fn is_due(&mut self) -> bool
+        ensures { self.new ≡ self.old }
+    {
+        let has_come = wait(&mut self.poll, &mut self.events, WAIT);
+        if !has_come && self.unasked < UNASKED {
+            self.unasked += 1;
+            return false;
+        }
+        self.unasked = 0;
+        true
     }
 }
 
@@ -194,7 +216,9 @@ impl<N: Net + Clock> Link for UdpLink<N> {
     fn take(&mut self, buffer: &mut [u8]) -> TakeEnd {
         let (mut first, mut end) = (self.first, TakeEnd::Nothing);
         if self.is_calm {
-            wait(&mut self.poll, &mut self.events, WAIT);
+            if !self.is_due() {
+                return TakeEnd::Nothing;
+            }
         } else {
             (first, end) = asked_in_turn(&self.sockets, first, buffer);
             if let TakeEnd::Nothing = end {
