@@ -160,12 +160,14 @@ const WAIT: u64 = 1_000;
 /// After so many waits without an event the sockets are asked all the same.
 const UNASKED: u32 = 16;
 
-/// Waits for a datagram, for at most this time, and says whether one may have come. An event only ends the wait, since the poll
-/// reports each one once: which sockets have a datagram is asked of the sockets. A failure ends it too, and drops no event.
+/// Waits for a datagram, for at most this time, and says whether one may have come; without a poll it can't tell. An event only
+/// ends the wait, since the poll reports each one once: which sockets have a datagram is asked of the sockets. A failure ends it
+/// too, and drops no event.
 fn wait<A: Allocator>(poll: &mut Option<Poll>, events: &mut Events<A>, micros: u64) -> bool {
-    if let Some(poll) = poll {
-        let _ = poll.poll(events, Some(Duration::from_micros(micros)));
-    }
+    let Some(poll) = poll else {
+        return true;
+    };
+    let _ = poll.poll(events, Some(Duration::from_micros(micros)));
     !events.is_empty()
 }
 
