@@ -1,4 +1,4 @@
--- Each row of a leader leaves its window full while it leads, and while it goes on to another grid; and the word `bypassed` is that of one row.
+-- Each row of a leader leaves its window full while it leads, and while it goes on with another grid; and the word `bypassed` is that of one row.
 use Rattle.std.proofs.Common.{◌≡◌, ◌≤◌, ◌+◌, ◌-◌, ℕ, Bool, true, false, not, ◌&&◌, ◌||◌, max, ◌==◌, List, [], ◌∷◌, ◌++◌, map, filter, Option, None, Some, ap, sym, subst, ◌∙◌, refl, inl, inr, arith}
 use Rattle.std.specs.Prelude.{nat_le, nat_lt, length, if◌then◌else◌, slice_index_or, slice_set}
 use Rattle.std.proofs.lemmas.Bool.{true≢false, and_parts, not-false}

@@ -1,4 +1,4 @@
--- What is promised of a leader that goes on to another grid without a first phase, in one run, that of the events `es` over the cluster `c`.
+-- What is promised of a leader that goes on with another grid without a first phase, in one run, that of the events `es` over the cluster `c`.
 -- Nothing of it is proved here.
 use Rattle.std.specs.Prelude.{◌≡◌, ℕ, ◌+◌, ◌<◌, ◌≤◌, List, [], ◌∷◌, ◌++◌, length, Some}
 use Rattle.cx_base.specs.declared.cluster.Cluster.{Cluster}
@@ -17,7 +17,7 @@ use Rattle.cx_model.specs.Leader.{leader_rules, round_of}
 use Rattle.cx_model.specs.Member.{Member}
 use Rattle.cx_model.specs.World.{World, change, run, durable_part}
 
--- the step of an event answers `bypassed`, in this round
+-- the step of an event answers `bypassed`, which only a leader's row does, in this round
 pub record Bypasses (w : World) (e : Event) (i : Round) : Type 0 where
   pub who : RoleId
   pub kind_is : who.kind ≡ kind.Leader

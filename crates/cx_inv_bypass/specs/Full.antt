@@ -1,4 +1,4 @@
--- What is so of the values that a leader remembers, at a moment, while it leads and while it goes on to another grid.
+-- What is so of the values that a leader remembers, at a moment, while it leads and while it goes on with another grid.
 use Rattle.std.specs.Prelude.{◌≡◌, ℕ, ◌-◌, ◌≤◌, true, map, List, Some}
 use Rattle.cx_base.specs.declared.command.Placed.{Placed}
 use Rattle.cx_base.specs.declared.role.RoleId.{RoleId}
@@ -20,7 +20,7 @@ pub record IsFull (sent : List Letter) (i : Round) (cw next : ℕ) (proposed : L
   pub slots : map (λ (p : Placed). p.slot) proposed ≡ numbers cw (next - cw)
   pub each : (p : Placed) → Member p proposed → IsProposed sent i p.slot p.value
 
--- in the leader's own round while it leads; in the round before while it goes on to another grid
+-- in the leader's own round while it leads; in the round before while it goes on with another grid
 abbrev pub FullIn : List Letter → Round → ℕ → ℕ → List Placed → Mode → Type 0
 FullIn sent i cw next proposed Leading = IsFull sent i cw next proposed
 FullIn sent i cw next proposed Matching =

@@ -2,8 +2,8 @@
 //!
 //! Between a leader's round and its next one there is no other, so it knows already what a first
 //! phase could report. Its theorem is `bypassed_rounds_law`: in every run a step that answers
-//! `bypassed` asks no acceptor, and its round proposes in each slot from its watermark to its end
-//! what the round before proposed there, and nothing else.
+//! `bypassed` asks no acceptor, and proposes in each slot from the watermark to the end what its
+//! leader's round before proposed there, and nothing else.
 #![tactic(auto)]
 
 ghost use Rattle.cx_model.specs.Promises.{OfEveryRun};

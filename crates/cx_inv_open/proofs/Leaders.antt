@@ -99,7 +99,7 @@ module _ (c : Cluster) (history : List KeptRecord) (sent : List Letter) (states 
     proposed own e leads p m =
         ((subst (λ o. InMode c history sent o v Leading) e (subst (λ mode. InMode c history sent d.own v mode) leads state.1)).window p m).1
 
-    -- while it goes on to another grid, what it proposed in the round before
+    -- while it goes on with another grid, what it proposed in the round before
     ready : is_matching v.mode ≡ true → (own : Entry) → d.own ≡ Some own → is_changed own.round ≡ true → (p : Placed) → Member p v.proposed → p.slot < v.next
     ready matches own e changed p m =
         (((subst (λ o. InMode c history sent o v Matching) e

@@ -84,6 +84,8 @@ may_recorders c history i = length (filter (λ m. has_matched history m i || not
 abbrev pub IsOpen : Cluster → List KeptRecord → Round → Type 0
 IsOpen c history i = c.f + 1 ≤ may_recorders c history i
 
+-- words on datagrams, and on both
+
 -- this value was proposed for the slot in this round
 abbrev pub IsProposed : List Letter → Round → ℕ → Value → Type 0
 IsProposed sent i s v = (from : RoleId) × (to : RoleId) × (g : Shape) × (cw : ℕ) × Member (letter from to (msg.Propose i g s cw v)) sent
@@ -100,8 +102,6 @@ pub record CanBeChosen (c : Cluster) (history : List KeptRecord) (sent : List Le
   pub members : (a : ℕ) → Member a (column_of grid column)
       → HasVoted history (role kind.Acceptor a) j s v ⊎ (is_before j (acceptor_of history a).promise ≡ false)
   pub may : IsProposed sent j s v ⊎ ((i : Round) (g : Shape) → HasKept history (role kind.Leader j.id) (kept.Round i g) → is_before j i ≡ false)
-
--- words on datagrams
 
 -- a round's value for a slot is in a proposal, in the asking for votes, or in a vote
 abbrev pub Carries : World → Round → ℕ → Value → Type 0
