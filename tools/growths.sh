@@ -1,9 +1,9 @@
 #!/usr/bin/env bash
 # Refuses each growth of memory in turn, and says how many were refused, how the runs ended, and what stood after each.
 #   tools/growths.sh CRATE..                   while the tests of a crate run, which `rt test` proves and builds first. A run may fail its test, by an
-#                                              error or an assertion, since a call answers that memory is wanting; it must not fault or hang.
-#   tools/growths.sh --program PROGRAM WORD..  of one run of a program, whose input is this script's own. It must end with the status of want of
-#                                              memory, or with 0. What it wrote must be whole lines, a front of what it writes where nothing is refused
+#                                              error or an assertion, since a call answers that it is out of memory; it must not fault or hang.
+#   tools/growths.sh --program PROGRAM WORD..  of one run of a program, whose input is this script's own. It must end with the status of `no
+#                                              memory`, or with 0. What it wrote must be whole lines, a prefix of what it writes where nothing is refused
 #                                              (a node's text depends on its sockets: of it the lines alone are looked at), and a second run in its
 #                                              folder, with nothing refused, must end well (a node's within 500 turns): its stores stand.
 set -u
@@ -30,8 +30,8 @@ stands() {
   local size
   size=$(stat -c %s "$room/out")
   [[ -z $(tail -c 1 "$room/out") ]] || { echo "a line is cut"; return 1; }
-  [[ $2 == node ]] || cmp -s -n "$size" "$room/out" "$room/whole" || { echo "the text is no front of the whole run's"; return 1; }
-  # A client's earlier commands, asked for again behind its last one, get no answer: a node's second run is cut short.
+  [[ $2 == node ]] || cmp -s -n "$size" "$room/out" "$room/whole" || { echo "the text is no prefix of the whole run's"; return 1; }
+  # A client's earlier commands, asked for again after its last one, get no answer: a node's second run is cut short.
   [[ $2 == node ]] && set -- "$1" node --turns 500 "${@:3}"
   (cd "$room/run" && exec timeout 60 "$@" >"$room/again" 2>"$room/err" <"$room/in")
   status=$?

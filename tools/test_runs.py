@@ -140,12 +140,27 @@ class RunsTest(unittest.TestCase):
         self.store("one", {**ONE, "outside": "stdin folder\n", "stdout": "replay fast\nunreadable\nlog\n"})
         self.passes(1)
 
+    def test_input_that_breaks(self):
+        self.store("one", {**ONE, "outside": "stdin reset\n", "stdout": "replay fast\na\nb\nunreadable\nlog\n"})
+        self.passes(1)
+
+    def test_words_that_are_no_text(self):
+        self.store("one", ONE)
+        (self.runs / "one" / "args").write_bytes(b"replay\n\xff\n")
+        (self.runs / "one" / "stdout").write_bytes(b"replay \xff\na\nb\nlog\n")
+        self.passes(1)
+
     def test_full_streams(self):
         self.store("one", {**ONE, "outside": "stdout full\nstderr full\n", "stdout": "", "stderr": ""})
         self.passes(1)
 
     def test_folder(self):
         self.store("one", {**ONE, "outside": "folder journal\n", "stdout": "replay fast\na\nb\njournal\nlog\n"})
+        self.passes(1)
+
+    def test_device(self):
+        self.program.write_text("#!/bin/sh\nhead -c 3 journal | od -An -tx1\n")
+        self.store("one", {"args": "", "outside": "device journal\n", "stdout": " 00 00 00\n"})
         self.passes(1)
 
     def test_taken_port(self):

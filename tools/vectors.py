@@ -1,5 +1,5 @@
 #!/usr/bin/env python3
-"""Prints the table of bytes that the tests of cx_msg read: `tools/vectors.py REFERENCE > crates/cx_msg/src/vectors.rt`.
+"""Prints the table of bytes that the tests of cx_test_wire read: `tools/vectors.py REFERENCE > crates/cx_test_wire/src/vectors.rt`.
 
 REFERENCE is the folder of a second, independent implementation of the wire format, in Python: a module `wire` with `msg`,
 `record`, `encode`, `decode`, `record_bytes` and `record_from`, and a module `base` with the types of their fields. All bytes

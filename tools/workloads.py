@@ -8,6 +8,17 @@ Schedules of SIZE lines after the header:
     reads       one put, then nine reads, and so on
     changes     puts, with four acceptors; after each fourth the leader changes its grid and retires the round before
     ticks       a proxy leader ticks that waits for nothing
+    keys        puts of long values, each to a key of its own, in an order that is not theirs
+    batches     the same with short values, by 64 clients at once in batches of eight: a key in less than three lines
+    folds       puts of 64 clients in turn; after each twentieth the replica crashes and is opened again
+    wide        f = 3, a grid of 4x4 among 64 acceptors, batches of eight: 64 puts at once are carried to their answers, and so on
+    lagging     f = 1: of twenty puts one replica hears nothing, then it asks the other for each value, and so on
+    repeats     one put is carried to its answer; then its datagrams and those of its round arrive again, over and over
+    stale       half of the lines are puts of one client, the others ask something else with the same numbers
+    resend      half of the lines are puts of one client, the others send the same puts again
+    restarts    half of the lines are puts that are carried to their answers; in the others the replica crashes and is opened again
+    revotes     the same with the acceptor
+    rounds      in a tenth of the lines a round is begun, of which only the last is carried on; then puts
 
 Schedules of another form:
 
@@ -20,6 +31,8 @@ Journals of a cluster of one of each role in which the first SIZE slots are chos
 
     leader, matchmaker, acceptor, replica
     informed    of an acceptor that has no votes, and was told that they are chosen
+    long-votes  of an acceptor whose votes are for eight commands of the greatest size each
+    long-window the same, where it was told of no slot that is chosen, so that it holds all its votes
     longest     of a replica whose log has them in records of 32 values, with eight commands of the greatest size each
 """
 import itertools
@@ -38,9 +51,9 @@ def delivered(*numbers):
     return [f"deliver {number}" for number in numbers]
 
 
-def led(grid="1x1 0"):
-    """The leader begins the first round and tells the batcher: datagrams 0 to 2."""
-    return [f"lead leader:0 {grid}", *delivered(0, 1, 2)]
+def led(grid="1x1 0", f=0, batchers=1):
+    """The leader begins the first round: MatchA and MatchB for each of the 2f + 1 matchmakers, and Leads for each batcher."""
+    return [f"lead leader:0 {grid}", *delivered(*range(2 * (2 * f + 1) + batchers))]
 
 
 def carried(n, command):
@@ -90,10 +103,10 @@ def carried_by_column(n, command):
 
 
 def changed(n, grid):
-    """The leader begins its next round with a grid of the same four acceptors: datagrams n to n + 8.
+    """The leader begins its next round with a grid of the same four acceptors: datagrams n to n + 2.
 
-    They are MatchA, MatchB, four Phase1A, the Phase1B of acceptors 0 and 1, which are a row, and Leads."""
-    return [f"change leader:0 {grid}", *delivered(n, n + 1, n + 2, n + 3, n + 6, n + 7, n + 8)]
+    They are MatchA, MatchB and Leads: all that it proposed is held, so it proposes nothing again."""
+    return [f"change leader:0 {grid}", *delivered(n, n + 1, n + 2)]
 
 
 def retired(n):
@@ -111,12 +124,112 @@ def changes():
         yield from carried_by_column(n, put(at))
         n += 12
         if at % 4 == 3:
-            yield from [*changed(n, next(grids)), *retired(n + 9)]
-            n += 17
+            yield from [*changed(n, next(grids)), *retired(n + 3)]
+            n += 11
 
 
 def ticks():
     return itertools.repeat("tick proxy:0")
+
+
+def keys():
+    """Numbers modulo a prime: no key comes twice before the 100,003rd put."""
+    yield from led()
+    for at in itertools.count():
+        yield from carried(3 + 10 * at, f"write client:0 {at + 1} batcher:0 put key-{at * 7919 % 100003} {'v' * 60}")
+
+
+def batches():
+    """Each turn has 121 datagrams: 64 Submit, 8 Batch, 8 Propose, 8 Phase2A, 8 Phase2B, 8 times Chosen and ChosenIn, 8 Results, Held."""
+    yield from led()
+    for turn in itertools.count():
+        n = 3 + 121 * turn
+        for at in range(64):
+            yield f"write client:{at} {turn + 1} batcher:0 put key-{(64 * turn + at) * 7919 % 100003} v{at % 10}"
+        yield from delivered(*range(n, n + 96), *range(n + 96, n + 112, 2))
+        yield from ["tick replica:0", *delivered(n + 120)]
+
+
+def restarted(role):
+    return [f"crash {role}", f"restart {role}"]
+
+
+def folds():
+    yield from led()
+    for at in itertools.count():
+        yield from carried(3 + 10 * at, put(at, clients=64, key=f"k{at % 64}"))
+        if at % 20 == 19:
+            yield from restarted("replica:0")
+
+
+def wide():
+    """Each turn has 360 datagrams: 64 Submit, 8 Batch, 8 Propose, 32 Phase2A, 32 Phase2B, 64 Chosen and 8 ChosenIn, 8 Results,
+    64 Answer, which arrive nowhere; then from each replica a Held for each leader, and a Fetch."""
+    yield from led("4x4 " + ",".join(map(str, range(0, 64, 4))), f=3, batchers=8)
+    for turn in itertools.count():
+        n = 22 + 360 * turn
+        for at in range(64):
+            client = (at * 37 + turn) % 64
+            yield f"write client:{client} {turn + 1} batcher:{at // 8} put key{(at * 31 + turn) % 100} {'v' * (at + 1)}"
+        yield from delivered(*range(n, n + 224))
+        yield from (f"tick replica:{index}" for index in range(8))
+        yield from delivered(*range(n + 288, n + 360))
+
+
+def lagging():
+    """A slot's Results come from replica 0 where the slot is even, else from replica 1.
+
+    A put sends Submit, Batch, Propose, Phase2A, Phase2B, two Chosen and ChosenIn; Results and Answer at once if its slot is even;
+    then Held and Fetch of replica 0. Later there are Held and Fetch of replica 1 and a Chosen, and the other Results and Answer."""
+    yield from led(f=1)
+    n = 7
+    for behind in itertools.count(0, 20):
+        slots = range(behind, behind + 20)
+        for slot in slots:
+            yield from [put(slot), *delivered(*range(n, n + 6), n + 7)]
+            n += 8
+            if slot % 2 == 0:
+                yield from delivered(n)
+                n += 2
+            yield from ["tick replica:0", *delivered(n, n + 1)]
+            n += 2
+        for slot in slots:
+            yield from ["tick replica:1", *delivered(n, n + 1, n + 2)]
+            n += 3
+            if slot % 2 == 1:
+                yield from delivered(n)
+                n += 2
+
+
+def repeats():
+    """The round and the put have the datagrams 0 to 12; of these 11 is Answer, which arrives nowhere, and 12 is Held."""
+    yield from [*led(), *carried(3, put(0))]
+    yield from itertools.cycle(delivered(*range(11), 12))
+
+
+def asked_twice(size, text):
+    """The text is what the puts of the second half set."""
+    half = size // 2
+    yield from (put(at, key="a") for at in range(half))
+    yield from (f"write client:0 {at % half + 1} batcher:0 put a {text or f'v{at % half % 10}'}" for at in itertools.count())
+
+
+def crashing(size, role):
+    """As many puts as fit in half of the lines."""
+    yield from led()
+    for at in range((size // 2 - 4) // 10):
+        yield from carried(3 + 10 * at, put(at))
+    yield from itertools.cycle(restarted(role))
+
+
+def rounds(size):
+    """A lead sends MatchA alone. Of the last one's, MatchB and Leads follow."""
+    grid = "1x16 " + ",".join(map(str, range(16)))
+    begun = max(size // 10, 1)
+    yield from [f"lead leader:0 {grid}"] * begun
+    yield from delivered(*range(begun - 1, begun + 2))
+    for at in itertools.count():
+        yield from carried(begun + 2 + 10 * at, put(at))
 
 
 def log(size):
@@ -132,7 +245,7 @@ def log(size):
             n += 1
     for _ in range(10):
         for role in ("acceptor:0", "match:0", "replica:0"):
-            yield from [f"crash {role}", f"restart {role}"]
+            yield from restarted(role)
     yield from carried(n, put(1))
 
 
@@ -151,12 +264,30 @@ def requests(size):
     return [*header()[:-1], "base_port = 23890", "---", *map(put, range(size))]
 
 
+def cut(size, lines, **counts):
+    """So many lines of a schedule, after the header."""
+    return [*header(**counts), *itertools.islice(lines, size)]
+
+
+WIDE = {"f": 3, "leaders": 8, "proxies": 16, "acceptors": 64, "replicas": 8, "batchers": 8, "unbatchers": 8, "readers": 8,
+        "clients": 64, "batch": 8}
 SCHEDULES = {
-    "puts": lambda size: [*header(), *itertools.islice(puts(), size)],
-    "crowd": lambda size: [*header(clients=64), *itertools.islice(crowd(), size)],
-    "reads": lambda size: [*header(), *itertools.islice(reads(), size)],
-    "changes": lambda size: [*header(acceptors=4), *itertools.islice(changes(), size)],
-    "ticks": lambda size: [*header(), *itertools.islice(ticks(), size)],
+    "puts": lambda size: cut(size, puts()),
+    "crowd": lambda size: cut(size, crowd(), clients=64),
+    "reads": lambda size: cut(size, reads()),
+    "changes": lambda size: cut(size, changes(), acceptors=4),
+    "ticks": lambda size: cut(size, ticks()),
+    "keys": lambda size: cut(size, keys()),
+    "batches": lambda size: cut(size, batches(), clients=64, batch=8),
+    "folds": lambda size: cut(size, folds(), clients=64),
+    "wide": lambda size: cut(size, wide(), **WIDE),
+    "lagging": lambda size: cut(size, lagging(), f=1, replicas=2),
+    "repeats": lambda size: cut(size, repeats()),
+    "stale": lambda size: cut(size, asked_twice(size, "other")),
+    "resend": lambda size: cut(size, asked_twice(size, None)),
+    "restarts": lambda size: cut(size, crashing(size, "replica:0")),
+    "revotes": lambda size: cut(size, crashing(size, "acceptor:0")),
+    "rounds": lambda size: cut(size, rounds(size), acceptors=16),
     "log": lambda size: [*header(), *log(size)],
     "header": long_header,
     "line": long_line,
@@ -194,10 +325,10 @@ def journal(records):
     return b"".join(b"\1" + struct.pack(">I", len(record)) + record for record in records) + b"\0"
 
 
-def votes(size):
-    """The votes of the first round. With each goes what the acceptor is told: how many slots are chosen and held."""
+def votes(size, voted=value_at, told=16):
+    """The votes of the first round. With each goes what the acceptor is told: how many slots are chosen and held, a multiple of `told`."""
     for slot in range(size):
-        yield b"\2" + ROUND + struct.pack(">QQ", slot, slot - slot % 16) + value_at(slot)
+        yield b"\2" + ROUND + struct.pack(">QQ", slot, slot - slot % told) + voted(slot)
 
 
 def long_records(size):
@@ -212,6 +343,8 @@ JOURNALS = {
     "acceptor": votes,
     "replica": lambda size: (b"\7\1" + value_at(slot) for slot in range(size)),
     "informed": lambda size: [b"\3" + ROUND + struct.pack(">Q", size)],
+    "long-votes": lambda size: votes(size, long_value_at),
+    "long-window": lambda size: votes(size, long_value_at, told=size),
     "longest": long_records,
 }
 

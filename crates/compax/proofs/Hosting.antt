@@ -7,23 +7,26 @@ use Rattle.compax.specs.Answer.{Answered}
 use Rattle.compax.specs.declared.words.Invocation.{Invocation}
 use Rattle.compax.specs.declared.words.Invocation.TheVariants.{Replay, Generate, Node}
 
-module _ (turns : ℕ) (roles : List RoleId) where
-  not_none : {A : Type 0} → Some (Node turns roles) ≡ None → A
+module _ (turns : ℕ) (tend : Option ℕ) (roles : List RoleId) where
+  not_none : {A : Type 0} → Some (Node turns tend roles) ≡ None → A
   not_none e = cc
 
-  not_replay : {A : Type 0} → Some (Node turns roles) ≡ Some Replay → A
+  not_replay : {A : Type 0} → Some (Node turns tend roles) ≡ Some Replay → A
   not_replay e = cc
 
-  not_generated : {A : Type 0} (seed count : ℕ) → Some (Node turns roles) ≡ Some (Generate seed count) → A
+  not_generated : {A : Type 0} (seed count : ℕ) → Some (Node turns tend roles) ≡ Some (Generate seed count) → A
   not_generated seed count e = cc
 
-  same_turns : (t : ℕ) (rs : List RoleId) → Some (Node turns roles) ≡ Some (Node t rs) → turns ≡ t
-  same_turns t rs e = cc
+  same_turns : (t : ℕ) (m : Option ℕ) (rs : List RoleId) → Some (Node turns tend roles) ≡ Some (Node t m rs) → turns ≡ t
+  same_turns t m rs e = cc
 
-  same_roles : (t : ℕ) (rs : List RoleId) → Some (Node turns roles) ≡ Some (Node t rs) → roles ≡ rs
-  same_roles t rs e = cc
+  same_tend : (t : ℕ) (m : Option ℕ) (rs : List RoleId) → Some (Node turns tend roles) ≡ Some (Node t m rs) → tend ≡ m
+  same_tend t m rs e = cc
 
-  node_answered : (old new : Outside) (s : Status) → Hosted roles turns old new s → HostedCompletes roles old new s → HostedTellsBad roles old new s → Answered (Some (Node turns roles)) old new s
+  same_roles : (t : ℕ) (m : Option ℕ) (rs : List RoleId) → Some (Node turns tend roles) ≡ Some (Node t m rs) → roles ≡ rs
+  same_roles t m rs e = cc
+
+  node_answered : (old new : Outside) (s : Status) → Hosted roles tend turns old new s → HostedCompletes roles old new s → HostedTellsBad roles old new s → Answered (Some (Node turns tend roles)) old new s
   node_answered old new s hosted completes tells_bad = record {
     bad_words = λ unhosted e. absurd (unhosted tt);
     refused = not_none;
@@ -36,12 +39,12 @@ module _ (turns : ℕ) (roles : List RoleId) where
     generated = λ seed count. not_generated seed count;
     generating_completes = λ seed count. not_generated seed count;
     comes_of_gen = λ seed count. not_generated seed count;
-    hosted = λ t rs e. subst (λ (n : ℕ). Hosted rs n old new s) (same_turns t rs e) (subst (λ (hs : List RoleId). Hosted hs turns old new s) (same_roles t rs e) hosted);
-    hosting_completes = λ t rs e. subst (λ (hs : List RoleId). HostedCompletes hs old new s) (same_roles t rs e) completes;
-    hosting_tells_bad = λ t rs e. subst (λ (hs : List RoleId). HostedTellsBad hs old new s) (same_roles t rs e) tells_bad;
+    hosted = λ t m rs e. subst (λ (n : ℕ). Hosted rs m n old new s) (same_turns t m rs e) (subst (λ (o : Option ℕ). Hosted rs o turns old new s) (same_tend t m rs e) (subst (λ (hs : List RoleId). Hosted hs tend turns old new s) (same_roles t m rs e) hosted));
+    hosting_completes = λ t m rs e. subst (λ (hs : List RoleId). HostedCompletes hs old new s) (same_roles t m rs e) completes;
+    hosting_tells_bad = λ t m rs e. subst (λ (hs : List RoleId). HostedTellsBad hs old new s) (same_roles t m rs e) tells_bad;
   }
 
   -- what hosting came to is what is answered
-  pub answered_node : (said : Option Invocation) (old new : Outside) (s : Status) → said ≡ Some (Node turns roles) → Hosted roles turns old new s → HostedCompletes roles old new s → HostedTellsBad roles old new s
+  pub answered_node : (said : Option Invocation) (old new : Outside) (s : Status) → said ≡ Some (Node turns tend roles) → Hosted roles tend turns old new s → HostedCompletes roles old new s → HostedTellsBad roles old new s
       → Answered said old new s
   answered_node said old new s asked hosted completes tells_bad = subst (λ (o : Option Invocation). Answered o old new s) (sym asked) (node_answered old new s hosted completes tells_bad)

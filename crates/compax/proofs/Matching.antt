@@ -1,4 +1,4 @@
--- What a parse of this command's words tells.
+-- What a parse of this command's words gives.
 use Rattle.std.proofs.Common.{◌≡◌, ◌∙◌, ap, sym, refl, List, [], ◌∷◌, Option, Some, None, true, false, inl, inr, option_map, option_and_then}
 use Rattle.std.proofs.Common.{ap₂, is_some, Box}
 use Rattle.std.proofs.lemmas.Option.{same_Some}

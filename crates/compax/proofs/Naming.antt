@@ -6,7 +6,7 @@ use Rattle.cx_base.specs.declared.role.RoleId.{RoleId}
 use Rattle.cx_base.specs.Role.{same_role}
 use Rattle.compax.specs.Roles.{all_roles, role_of, stand_once}
 
--- these roles, and those that are named behind them
+-- these roles, and those that are named after them
 abbrev pub onto : List RoleId → Option (List RoleId) → Option (List RoleId)
 onto done more = option_map (λ roles. done ++ roles) more
 
@@ -31,7 +31,7 @@ names_none done word words is = ap (λ (o : Option RoleId). onto done (option_an
 pub names_all : (done : List RoleId) → onto done (all_roles []) ≡ Some done
 names_all done = ap Some (append-nil done)
 
--- a role that stands again behind its place, and one that doesn't
+-- a role that stands again after its place, and one that doesn't
 pub stands_again : (me : RoleId) (roles : List RoleId) → list_any (same_role me) roles ≡ true → stand_once (me ∷ roles) ≡ false
 stands_again me roles again = ap (λ (b : Bool). not b && stand_once roles) again
 

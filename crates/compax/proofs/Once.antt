@@ -22,7 +22,7 @@ among me (r ∷ roles) (suc i) at = elim (cases_Bool (same_role me r)) [
   | inr other ↦ rw other (among me roles i at)
 ]
 
--- the first stands nowhere behind itself
+-- the first stands nowhere after itself
 alone : (a b : Bool) → (not a && b) ≡ true → a ≡ true → {A : Type 0} → A
 alone true b once twice = cc
 alone false b once twice = cc

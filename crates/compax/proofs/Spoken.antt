@@ -34,17 +34,37 @@ pub help_said : (program : List ℕ) → said (program ∷ codes "--help" ∷ []
 unfolding said clap_on_literals
 help_said program = refl
 
-pub node_said : (program : List ℕ) → said (program ∷ codes "node" ∷ codes "client:0" ∷ []) ≡ Some (Node 1000000 (role Client 0 ∷ []))
+pub node_said : (program : List ℕ) → said (program ∷ codes "node" ∷ codes "client:0" ∷ []) ≡ Some (Node 1000000 None (role Client 0 ∷ []))
 unfolding said clap_on_literals
 node_said program = refl
 
-pub turns_said : (program : List ℕ) → said (program ∷ codes "node" ∷ codes "--turns" ∷ codes "75" ∷ codes "client:0" ∷ codes "batcher:0" ∷ []) ≡ Some (Node 75 (role Client 0 ∷ role Batcher 0 ∷ []))
+pub turns_said : (program : List ℕ) → said (program ∷ codes "node" ∷ codes "--turns" ∷ codes "75" ∷ codes "client:0" ∷ codes "batcher:0" ∷ []) ≡ Some (Node 75 None (role Client 0 ∷ role Batcher 0 ∷ []))
 unfolding said clap_on_literals
 turns_said program = refl
 
 pub no_turn_said : (program : List ℕ) → said (program ∷ codes "node" ∷ codes "--turns" ∷ codes "0" ∷ codes "client:0" ∷ []) ≡ None
 unfolding said clap_on_literals
 no_turn_said program = refl
+
+pub tend_said : (program : List ℕ) → said (program ∷ codes "node" ∷ codes "--tend" ∷ codes "64" ∷ codes "client:0" ∷ []) ≡ Some (Node 1000000 (Some 64) (role Client 0 ∷ []))
+unfolding said clap_on_literals
+tend_said program = refl
+
+pub most_tend_said : (program : List ℕ) → said (program ∷ codes "node" ∷ codes "--tend" ∷ codes "65536" ∷ codes "--turns" ∷ codes "75" ∷ codes "client:0" ∷ []) ≡ Some (Node 75 (Some 65536) (role Client 0 ∷ []))
+unfolding said clap_on_literals
+most_tend_said program = refl
+
+pub tend_below : (program : List ℕ) → said (program ∷ codes "node" ∷ codes "--tend" ∷ codes "63" ∷ codes "client:0" ∷ []) ≡ None
+unfolding said clap_on_literals
+tend_below program = refl
+
+pub tend_above : (program : List ℕ) → said (program ∷ codes "node" ∷ codes "--tend" ∷ codes "65537" ∷ codes "client:0" ∷ []) ≡ None
+unfolding said clap_on_literals
+tend_above program = refl
+
+pub tend_twice : (program : List ℕ) → said (program ∷ codes "node" ∷ codes "--tend" ∷ codes "64" ∷ codes "--tend" ∷ codes "64" ∷ codes "client:0" ∷ []) ≡ None
+unfolding said clap_on_literals
+tend_twice program = refl
 
 pub no_role_said : (program : List ℕ) → said (program ∷ codes "node" ∷ []) ≡ None
 unfolding said clap_on_literals

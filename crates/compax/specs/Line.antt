@@ -1,4 +1,4 @@
--- The line that tells on standard error how a run ended.
+-- The line that says on standard error how a run ended.
 use Rattle.std.specs.Prelude.{ℕ, List, [], ◌++◌, codes, decimal}
 use Rattle.cx_base.specs.declared.status.Status.{Status}
 use Rattle.cx_base.specs.declared.status.Status.TheVariants.{Done, BadWords, BadInput, ReadFault, WriteFault, LinkFault, StoreFault, Turns, NoMemory, BadStore}

@@ -13,7 +13,7 @@ use Rattle.compax.specs.declared.words.Invocation.TheVariants.{Replay, Generate,
 use Rattle.compax.specs.Roles.{roles_of}
 
 -- ---- the command: `replay`; `gen` with a number of 64 bits and one of 16, both required; or `node` with a number of turns, which has
--- a default, and behind it one role or more
+-- a default, another number or none, and after them one role or more
 
 abbrev pub most_seed : ℕ
 most_seed = 18446744073709551615
@@ -31,6 +31,10 @@ count_rule = record (new_rule (codes "COUNT")) { required = true; parser = Some 
 abbrev pub turns_rule : Rule
 turns_rule = record (new_rule (codes "turns")) { long = Some (codes "turns"); defaults = codes "1000000" ∷ []; parser = Some (parser.Signed (pos 1) (pos 1000000000)) }
 
+-- `--tend N`, N a number of 32 bits from 64 to 65,536; it may be left out
+abbrev pub tend_rule : Rule
+tend_rule = record (new_rule (codes "tend")) { long = Some (codes "tend"); parser = Some (parser.Signed (pos 64) (pos 65536)) }
+
 abbrev pub most_u32 : ℕ
 most_u32 = 4294967295
 
@@ -44,7 +48,7 @@ abbrev pub generate : App
 generate = with_rule (with_rule (new_app (codes "gen")) seed_rule) count_rule
 
 abbrev pub node : App
-node = with_rule (with_rule (new_app (codes "node")) turns_rule) roles_rule
+node = with_rule (with_rule (with_rule (new_app (codes "node")) turns_rule) tend_rule) roles_rule
 
 abbrev pub requires_subcommand : App → App
 requires_subcommand a = record a { top = record a.top { subcommand_required = true } }
@@ -70,7 +74,7 @@ abbrev pub roles_at : Text → List Row → Option (List RoleId)
 roles_at id rows = option_and_then roles_of (all_of id rows)
 
 abbrev pub hosted : List Row → Option Invocation
-hosted rows = option_and_then (λ turns. option_map (Node turns) (roles_at (codes "ROLE") rows)) (number_at most_u32 (codes "turns") rows)
+hosted rows = option_and_then (λ turns. option_map (Node turns (number_at most_u32 (codes "tend") rows)) (roles_at (codes "ROLE") rows)) (number_at most_u32 (codes "turns") rows)
 
 -- what a subcommand asks for, by its name and its values
 abbrev pub asked_by : Text × List Row → Option Invocation

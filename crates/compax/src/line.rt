@@ -1,4 +1,4 @@
-//! The line that tells how a run ended.
+//! The line that says how a run ended.
 
 ghost use Rattle.std.specs.Prelude.{◌≡◌, ◌≤◌, ◌++◌, ◌∷◌, [], codes, decimal, map};
 ghost use Rattle.std.specs.List.{concat};

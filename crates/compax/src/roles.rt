@@ -25,8 +25,8 @@ const KINDS: [Kind; 9] = [
     Kind::Reader,
 ];
 
-/// Roles of which none stands twice, in the order in which they were named.
-#[derive(Debug, Drop)]
+/// Roles of which none is named twice, in the order in which they were named.
+#[derive(Drop)]
 pub struct Roles {
     list: Vec<RoleId>,
 }
@@ -55,7 +55,7 @@ fn kind_named(name: &[u8]) -> Option<Kind>
     KINDS.iter().copied().find(|kind| is(name, kind.text()))
 }
 
-// What stands before the first colon of a word and what behind it.
+// What comes before the first colon of a word, and what after it.
 fn parts(word: &[u8]) -> (&[u8], &[u8])
     ensures front { result.0.now ≡ before_first (λ b. b == 58) word.now }
     ensures back { result.1.now ≡ after_first (λ b. b == 58) word.now }

@@ -26,7 +26,7 @@ Fits c me d o = IsFit acceptor_rules c me d o.kept
 not_below : (n k : ℕ) → nat_lt n k ≡ false → nat_le k n ≡ true
 not_below n k h = grind (arith, nat_tests)
 
--- a round that is neither before another nor the same is behind it
+-- a round that is neither before another nor the same is after it
 behind : (a b : Round) → is_before a b ≡ false → same_round a b ≡ false → is_before b a ≡ true
 behind a b before same = grind (arith, nat_tests)
 

@@ -12,7 +12,7 @@ use Rattle.cx_field.specs.Ranges.{slots_rise, vote_in_range}
 use Rattle.cx_field.proofs.ListLaws.{votes_fit}
 use Rattle.cx_model.specs.Acceptor.{with_vote}
 
--- what passes a test passes another behind a filter
+-- what passes a test passes another after a filter
 pub all_filter : {X : Type 0} (p q r : X → Bool) → ((x : X) → p x ≡ true → q x ≡ true → r x ≡ true) → (xs : List X) → list_all p xs ≡ true → list_all r (filter q xs) ≡ true
 all_filter p q r h [] all = refl
 all_filter p q r h (x ∷ xs) all =
@@ -139,7 +139,7 @@ first_here s u us e = rw e refl
 first_later : (s : ℕ) (u : Vote) (us : List Vote) → nat_le s u.slot ≡ false → first_from s (u ∷ us) ≡ suc (first_from s us)
 first_later s u us e = rw e (omega arith)
 
--- where a vote of its slot stands, a vote takes its place
+-- where a vote of its slot is, a vote takes its place
 pub with_set : (v : Vote) (vs : List Vote) (n : ℕ) (d : Vote) → n ≡ first_from v.slot vs → n < length vs → ((get_or vs n d).slot == v.slot) ≡ true → with_vote v vs ≡ set vs n v
 with_set v [] n d first within same = absurd (omega arith)
 with_set v (u ∷ us) n d first within same = step (with_set v us (first_from v.slot us) d refl) (nat_le v.slot u.slot) refl first within same
@@ -155,7 +155,7 @@ with_set v (u ∷ us) n d first within same = step (with_set v us (first_from v.
         let there = rw is at same in
         rw (is, p.0, p.1) (ap (λ (later : List Vote). u ∷ later) (rest (omega arith) there))
 
--- where none of its slot stands, a vote goes in front of the greater ones
+-- where none of its slot is, a vote goes before the greater ones
 pub with_insert : (v : Vote) (vs : List Vote) (n : ℕ) → n ≡ first_from v.slot vs → (n < length vs → (d : Vote) → ((get_or vs n d).slot == v.slot) ≡ false) → with_vote v vs ≡ insert vs n v
 with_insert v [] n first other = rw first refl
 with_insert v (u ∷ us) n first other = step (with_insert v us (first_from v.slot us) refl) (nat_le v.slot u.slot) refl first other

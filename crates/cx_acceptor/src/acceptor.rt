@@ -51,7 +51,12 @@ impl Role for Acceptor {
         me: RoleId,
         records: &[Record],
     ) -> Result<Self, WakeFault> {
-        let mut acceptor = Acceptor::new(alloc, cluster, me);
+        Acceptor::new(alloc, cluster, me).reopen(records)
+    }
+
+    fn reopen(self, records: &[Record]) -> Result<Self, WakeFault> {
+        let mut acceptor = self;
+        acceptor.live = true;
         for (index, what) in records.iter().enumerate() {
             if !acceptor.fits(what) {
                 return Err(WakeFault::Record { index });

@@ -5,7 +5,7 @@ ghost use Rattle.cx_base.specs.declared.role.Kind.{Kind};
 ghost use Rattle.cx_base.specs.Role.{role};
 ghost use Rattle.cx_model.specs.Acceptor.{acceptor_rules, inform_row, pre_read_row};
 ghost use Rattle.cx_field.specs.Fields as field;
-ghost use Rattle.cx_role.specs.Role.{Replies, Steps, StaysAt, FailsAt, takes_no_memory};
+ghost use Rattle.cx_role.specs.Role.{Replies, Steps, StaysAt, FailsAt, KeepsDurable, takes_no_memory};
 
 use crate::Acceptor;
 use cx_base::{NoMemory, RoleId, Round, Why};
@@ -15,7 +15,7 @@ use cx_msg::{Record, informed, pre_read_ack};
 use cx_role::{Outbox, StepFault, keep};
 
 impl Acceptor {
-    /// A leader that retires earlier rounds tells how many slots enough replicas hold; what is kept of it is the greatest
+    /// A leader that retires earlier rounds informs how many slots enough replicas hold; what is kept of it is the greatest
     /// number, and its round as a promise (this project's own).
     pub(crate) fn inform<K: Keeper>(
         &mut self,
@@ -35,6 +35,7 @@ impl Acceptor {
         ensures spared { IsErrOf result StepFault.NoMemory → takes_no_memory (inform_row self.old.me self.old.durable from round mark).why ≡ false }
         ensures told { K.tells keeper.new ≡ K.tells keeper.old }
         ensures failed { IsErrOf result StepFault.Failed → FailsAt K.append_gives (inform_row self.old.me self.old.durable from round mark) keeper.old keeper.new self.new out.new.list }
+        ensures keeps { IsErrOf result StepFault.Failed → KeepsDurable self.old self.new }
     {
         if round.is_before(&self.promise) {
             return Ok(self.refuse(round, out)?);

@@ -1,16 +1,14 @@
-//! The acceptor: it promises rounds and votes for values.
+//! The acceptor: it promises rounds and votes for values, and records both before it answers.
 //!
-//! Stands on what a role is; the world and the node stand on it, through the trait `Role` alone. Its theorem is `Role`'s
-//! contract at the acceptor's rules: each step is the row, over any keeper, and an acceptor is opened exactly from the
-//! records that it could have appended.
+//! The world and the node drive it through the trait `Role`. Its theorem is `Role`'s contract at
+//! `acceptor_rules`: each step is the model's row, over any keeper, and `open` names exactly the
+//! first record that isn't its own.
 #![tactic(auto)]
 
 mod acceptor;
 mod informing;
 mod promising;
 mod records;
-#[cfg(test)]
-mod tests;
 mod votes;
 mod voting;
 

@@ -6,7 +6,7 @@ ghost use Rattle.cx_base.specs.Role.{role};
 ghost use Rattle.cx_base.specs.Round.{is_before};
 ghost use Rattle.cx_model.specs.Acceptor.{acceptor_rules, nack_to, phase1a_row};
 ghost use Rattle.cx_field.specs.Fields as field;
-ghost use Rattle.cx_role.specs.Role.{Steps, StaysAt, FailsAt, takes_no_memory};
+ghost use Rattle.cx_role.specs.Role.{Steps, StaysAt, FailsAt, KeepsDurable, takes_no_memory};
 
 use crate::Acceptor;
 use cx_base::{Few, NoMemory, RoleId, Round, Why, copy_all};
@@ -16,7 +16,7 @@ use cx_msg::{Record, nack, phase1b};
 use cx_role::{Outbox, StepFault, keep};
 
 impl Acceptor {
-    /// A leader asks to promise its round, and for the votes from the watermark on; they are told once the promise is kept
+    /// A leader asks to promise its round, and for the votes from the watermark on; they are reported once the promise is kept
     /// (VLDB 2021).
     pub(crate) fn phase1a<K: Keeper>(
         &mut self,
@@ -34,6 +34,7 @@ impl Acceptor {
         ensures spared { IsErrOf result StepFault.NoMemory → takes_no_memory (phase1a_row self.old.me self.old.durable from round).why ≡ false }
         ensures told { K.tells keeper.new ≡ K.tells keeper.old }
         ensures failed { IsErrOf result StepFault.Failed → FailsAt K.append_gives (phase1a_row self.old.me self.old.durable from round) keeper.old keeper.new self.new out.new.list }
+        ensures keeps { IsErrOf result StepFault.Failed → KeepsDurable self.old self.new }
     {
         if round.is_before(&self.promise) {
             return Ok(self.refuse(round, out)?);
@@ -64,7 +65,7 @@ impl Acceptor {
         Ok(Why::Nack)
     }
 
-    // The votes as they are told.
+    // The votes as they are reported.
     fn told_votes(&self) -> Result<Votes, NoMemory>
         ensures votes { IfOk result (λ votes. votes ≡ self.now.durable.votes) }
         ensures fit { IfOk result (λ votes. IsTrue ((field.votes self.now.durable.cw).fits votes)) }

@@ -103,7 +103,7 @@ impl Acceptor {
         }
     }
 
-    /// Remembers that a leader of this round told how many slots enough replicas hold. It takes no memory.
+    /// Remembers that a leader of this round informed how many slots enough replicas hold. It takes no memory.
     pub(crate) fn raise(&mut self, round: Round, mark: u64)
         requires round { IsTrue (field.round.fits round) }
         requires mark { IsTrue (field.mark.fits mark) }

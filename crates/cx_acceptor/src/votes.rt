@@ -5,14 +5,14 @@ ghost use Rattle.cx_model.specs.Acceptor.{is_of, vote_at, votes_from, with_vote}
 ghost use Rattle.cx_field.specs.declared.parts.Vote.{Vote};
 ghost use Rattle.cx_field.specs.Fields.{in_window};
 
-use cx_base::Round;
+use cx_base::{Round, WINDOW};
 use cx_field::Vote;
 
 /// Whether a slot lies in the window that begins at a watermark. It takes no memory.
 pub fn is_in_window(cw: u64, slot: u64) -> bool
     ensures { result ≡ in_window cw slot }
 {
-    cw <= slot && slot - cw < 32
+    cw <= slot && slot - cw < WINDOW
 }
 
 /// Whether the vote at a slot, if there is one, is of this round. It takes no memory.
@@ -43,7 +43,7 @@ fn first_from(votes: &[Vote], slot: u64) -> Option<usize>
     votes.iter().position(|vote| vote.slot >= slot)
 }
 
-/// Puts a vote in the place of that of its slot, or where its slot stands. Room for it was taken beforehand.
+/// Puts a vote in the place of that of its slot, or where its slot belongs. Room for it was taken beforehand.
 pub fn place(votes: &mut Vec<Vote>, vote: Vote)
     requires { vec_len votes.old < vec_capacity votes.old }
     ensures { votes.new.items ≡ with_vote vote votes.old.items }

@@ -6,7 +6,7 @@ ghost use Rattle.cx_base.specs.Role.{role};
 ghost use Rattle.cx_model.specs.Acceptor.{acceptor_rules, phase2a_row};
 ghost use Rattle.cx_field.specs.Fields as field;
 ghost use Rattle.cx_field.specs.Fields.{in_window};
-ghost use Rattle.cx_role.specs.Role.{Steps, StaysAt, FailsAt, takes_no_memory};
+ghost use Rattle.cx_role.specs.Role.{Steps, StaysAt, FailsAt, KeepsDurable, takes_no_memory};
 
 use crate::Acceptor;
 use crate::votes::{has_vote, keep_from, place};
@@ -17,8 +17,8 @@ use cx_msg::{Record, phase2b};
 use cx_role::{Outbox, StepFault, keep};
 
 impl Acceptor {
-    /// A proxy leader asks for a vote: in a round below the promised one the round's leader is told, else the vote is kept
-    /// before it is told, once for each round and slot (VLDB 2021).
+    /// A proxy leader asks for a vote: in a round below the promised one the round's leader is warned, else the vote is kept
+    /// before it is sent, once for each round and slot (VLDB 2021).
     pub(crate) fn phase2a<K: Keeper>(
         &mut self,
         keeper: &mut K,
@@ -42,6 +42,7 @@ impl Acceptor {
         ensures spared { IsErrOf result StepFault.NoMemory → takes_no_memory (phase2a_row self.old.me self.old.durable from round slot cw value.now).why ≡ false }
         ensures told { K.tells keeper.new ≡ K.tells keeper.old }
         ensures failed { IsErrOf result StepFault.Failed → FailsAt K.append_gives (phase2a_row self.old.me self.old.durable from round slot cw value.now) keeper.old keeper.new self.new out.new.list }
+        ensures keeps { IsErrOf result StepFault.Failed → KeepsDurable self.old self.new }
     {
         if round.is_before(&self.promise) {
             return Ok(self.refuse(round, out)?);

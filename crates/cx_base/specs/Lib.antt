@@ -1,4 +1,5 @@
 pub mod Asked
+pub mod Cluster
 pub mod Faults
 pub mod Fold
 pub mod Greatest

@@ -1,7 +1,7 @@
--- The words for what a step came to.
+-- The words for the result of a step.
 use Rattle.std.specs.Prelude.{ℕ, List, codes}
 use Rattle.cx_base.specs.declared.why.Why.{Why}
-use Rattle.cx_base.specs.declared.why.Why.TheVariants.{Absent, Again, Answered, Applied, Asked, Asking, Batched, Chosen, Collected, Collecting, Counted, Crashed, Deferred, Done, Down, Early, End, Fetched, Full, Heard, Held, Idle, Informed, Informing, Kept, Later, Leads, Matched, Nack, Nacked, Old, Opened, Past, Phase1, Promised, Proposed, Raised, Resent, Retired, Same, Sent, Stale, Started, Stranger, Torn, Unasked, Unbatched, Up, Voted, Waiting, Window}
+use Rattle.cx_base.specs.declared.why.Why.TheVariants.{Absent, Again, Answered, Applied, Asked, Asking, Batched, Bypassed, Chosen, Collected, Collecting, Counted, Crashed, Deferred, Done, Down, Early, End, Fetched, Full, Heard, Held, Idle, Informed, Informing, Kept, Later, Leads, Matched, Nack, Nacked, Old, Opened, Past, Phase1, Promised, Proposed, Raised, Resent, Retired, Same, Sent, Stale, Started, Stranger, Torn, Unasked, Unbatched, Up, Voted, Waiting, Window}
 
 abbrev pub why_text : Why → List ℕ
 why_text Absent = codes "absent"
@@ -11,6 +11,7 @@ why_text Applied = codes "applied"
 why_text Asked = codes "asked"
 why_text Asking = codes "asking"
 why_text Batched = codes "batched"
+why_text Bypassed = codes "bypassed"
 why_text Chosen = codes "chosen"
 why_text Collected = codes "collected"
 why_text Collecting = codes "collecting"

@@ -4,7 +4,7 @@ ghost use Rattle.std.specs.Prelude.{◌≤◌, ◌+◌};
 
 /// The counts of a cluster, each in its range; it has 2f + 1 matchmakers and survives the loss of f of each kind of store.
 /// Its roles are the indices below these counts.
-#[derive(Clone, Copy, Debug, PartialEq, Eq)]
+#[derive(Clone, Copy, PartialEq, Eq)]
 pub struct Cluster {
     pub f: u8,
     pub leaders: u16,

@@ -68,8 +68,8 @@ pub enum Event {
     Restart(RoleId),
 }
 
-/// An event of the history, with what it came to.
-#[derive(Clone, Copy, Debug, PartialEq, Eq)]
+/// An event of the history, with its result.
+#[derive(Clone, Copy)]
 pub struct Happened {
     pub event: Event,
     pub why: Why,

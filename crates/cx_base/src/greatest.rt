@@ -1,15 +1,13 @@
-//! The greatest number that each client has used, by which most numbers are told at once to be new.
+//! The greatest number that each client has used, which shows at once that most numbers are new.
 
 ghost use Rattle.std.specs.Prelude.{◌≡◌, length, replicate};
 ghost use Rattle.cx_base.specs.Greatest.{is_above, raised};
 
+use crate::limits::CLIENTS;
 use std::marker::Model;
 
-/// How many clients a cluster has at most.
-pub const CLIENTS: usize = 64;
-
 /// The greatest number that each client of a cluster has used, 0 where it has used none.
-#[derive(Debug, Drop)]
+#[derive(Drop)]
 pub struct Greatest {
     numbers: [u64; CLIENTS],
 }

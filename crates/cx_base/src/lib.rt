@@ -1,12 +1,14 @@
-//! The types that every layer speaks of: roles, rounds, grids, names, commands and replies, events, words and statuses.
+//! The types that every crate speaks of: roles, rounds, grids, names, commands, replies, events.
 //!
-//! Everything stands on this crate. Its definitions say when rounds come before each other, what a grid is, which command
-//! of a list acts, and what the commands that act leave in the map.
+//! Its definitions say which of two rounds is earlier, what a grid is, which command of a list takes
+//! effect, and what those commands leave in the map. Its theorems are the contracts of its
+//! functions: each answers what its definition says, and `Grid::new` exactly the first rule that a
+//! grid breaks.
 #![tactic(auto)]
 
 mod cluster;
 mod command;
-mod command_list;
+mod count;
 mod event;
 mod faults;
 mod few;
@@ -14,6 +16,7 @@ mod fold;
 mod greatest;
 mod grid;
 mod grid_fault;
+mod limits;
 mod memory;
 mod name;
 mod role;
@@ -24,14 +27,19 @@ mod why;
 
 pub use cluster::Cluster;
 pub use command::{Answered, Command, Commands, Floor, Op, Pair, Placed, Reply, Value, Values};
-pub use command_list::CommandList;
+pub use count::count_of;
 pub use event::{Cut, Event, Happened, Order};
 pub use faults::Faults;
 pub use few::{Few, Series, copy_all};
 pub use fold::acts;
-pub use greatest::{CLIENTS, Greatest};
-pub use grid::{Grid, MEMBERS};
+pub use greatest::Greatest;
+pub use grid::Grid;
 pub use grid_fault::GridFault;
+pub use limits::{
+    ACCEPTORS, BATCH, CLIENTS, ENTRIES, IDS, KEY_LENGTH, MAX_DATAGRAM_LENGTH, MAX_F,
+    MAX_HEADER_LENGTH, MAX_LINE_LENGTH, MAX_LINES, MAX_RECORD_LENGTH, MAX_SENDS, MEMBERS, PROXIES,
+    READS, ROLES, ROUNDS, SLOTS, TEXT_LENGTH, WINDOW, WINDOW_LENGTH,
+};
 pub use memory::{Duplicate, NoMemory};
 pub use name::{Key, Name, Text, is_name_byte};
 pub use role::{Kind, RoleId};

@@ -10,13 +10,9 @@ pub fn same_op(a: &Op, b: &Op) -> bool
     ensures { result ≡ same_op a.now b.now }
 {
     match (a, b) {
-        (Op::Put(key, text), Op::Put(other, more)) => {
-            key.as_bytes() == other.as_bytes() && text.as_bytes() == more.as_bytes()
-        }
-        (Op::Del(key), Op::Del(other)) => key.as_bytes() == other.as_bytes(),
-        (Op::App(key, text), Op::App(other, more)) => {
-            key.as_bytes() == other.as_bytes() && text.as_bytes() == more.as_bytes()
-        }
+        (Op::Put(key, text), Op::Put(other, more)) => key == other && text == more,
+        (Op::Del(key), Op::Del(other)) => key == other,
+        (Op::App(key, text), Op::App(other, more)) => key == other && text == more,
         _ => false,
     }
 }

@@ -1,9 +1,9 @@
-//! What a step came to, in one word.
+//! The result of a step, in one word.
 
 ghost use Rattle.std.specs.Prelude.{◌≡◌};
 ghost use Rattle.cx_base.specs.Why.{why_text};
 
-/// The word that says what a step came to.
+/// The word that says the result of a step.
 #[derive(Clone, Copy, Debug, PartialEq, Eq)]
 pub enum Why {
     /// No such datagram was sent yet.
@@ -14,19 +14,21 @@ pub enum Why {
     Answered,
     /// The values in order were kept and executed.
     Applied,
-    /// What was asked was told.
+    /// What was asked was answered.
     Asked,
     /// The next question went out.
     Asking,
     /// The gathered commands went to a leader.
     Batched,
+    /// The leader goes on from its round before, and asks no acceptor.
+    Bypassed,
     /// A value is now known to be chosen.
     Chosen,
     /// The round is below the watermark.
     Collected,
     /// The matchmakers were asked to forget earlier rounds.
     Collecting,
-    /// The answer counts, and more are wanted.
+    /// The answer counts, and more are needed.
     Counted,
     /// The role stopped.
     Crashed,
@@ -52,7 +54,7 @@ pub enum Why {
     Idle,
     /// The watermark was kept.
     Informed,
-    /// The grid is told the watermark.
+    /// The watermark is sent to the grid.
     Informing,
     /// The role crashed in its append, and the record is kept.
     Kept,
@@ -123,6 +125,7 @@ impl Why {
             Why::Asked => "asked",
             Why::Asking => "asking",
             Why::Batched => "batched",
+            Why::Bypassed => "bypassed",
             Why::Chosen => "chosen",
             Why::Collected => "collected",
             Why::Collecting => "collecting",

@@ -5,12 +5,12 @@ use Rattle.cx_base.specs.declared.role.RoleId.{RoleId}
 use Rattle.cx_msg.specs.declared.kept.Record.{Record}
 use Rattle.cx_model.specs.Batcher.{batcher_rules}
 use Rattle.cx_model.specs.Unbatcher.{unbatcher_rules}
-use Rattle.cx_model.specs.Rules.{refused}
+use Rattle.cx_model.specs.Rules.{refused_from}
 
-pub batcher_refuses : (c : Cluster) (me : RoleId) (rs : List Record) → 1 ≤ length rs → refused batcher_rules c me rs ≡ Some 0
-batcher_refuses c me [] h = absurd (omega arith)
-batcher_refuses c me (r ∷ rs) h = refl
+pub batcher_refuses : (c : Cluster) (me : RoleId) (d : Unit {0}) (rs : List Record) → 1 ≤ length rs → refused_from batcher_rules c me d 0 rs ≡ Some 0
+batcher_refuses c me d [] h = absurd (omega arith)
+batcher_refuses c me d (r ∷ rs) h = refl
 
-pub unbatcher_refuses : (c : Cluster) (me : RoleId) (rs : List Record) → 1 ≤ length rs → refused unbatcher_rules c me rs ≡ Some 0
-unbatcher_refuses c me [] h = absurd (omega arith)
-unbatcher_refuses c me (r ∷ rs) h = refl
+pub unbatcher_refuses : (c : Cluster) (me : RoleId) (d : Unit {0}) (rs : List Record) → 1 ≤ length rs → refused_from unbatcher_rules c me d 0 rs ≡ Some 0
+unbatcher_refuses c me d [] h = absurd (omega arith)
+unbatcher_refuses c me d (r ∷ rs) h = refl

@@ -5,7 +5,7 @@ ghost use Rattle.std.specs.List.{list_all};
 ghost use Rattle.cx_base.specs.declared.command.Command.{Command};
 ghost use Rattle.cx_base.specs.declared.role.Kind.TheVariants as kind;
 ghost use Rattle.cx_field.specs.Fields as field;
-ghost use Rattle.cx_model.specs.Rules.{Running};
+ghost use Rattle.cx_model.specs.Rules.{Running, opened};
 ghost use Rattle.cx_model.specs.Batcher.{BatcherVolatile, batcher_rules, batch_to, submit_row, leads_row, batcher_tick};
 ghost use Rattle.cx_role.specs.Role.{Replies, takes_no_memory};
 
@@ -16,7 +16,7 @@ use cx_role::{Outbox, Role, StepFault, WakeFault, is_for};
 use std::alloc::Global;
 use std::marker::Model;
 
-/// Gathers commands, and sends them together to the leader of the greatest round that it was told.
+/// Gathers commands, and sends them together to the leader of the greatest round that it knows.
 #[derive(Drop)]
 pub struct Batcher {
     alloc: Global,
@@ -40,6 +40,21 @@ impl Model for Batcher {
 }
 
 impl Batcher {
+    // A batcher to which nothing was sent. It takes no memory.
+    fn new(alloc: Global, cluster: &Cluster, me: RoleId) -> Self
+        requires { me.kind ≡ kind.Batcher }
+        ensures { result ≡ opened batcher_rules cluster.now me [] }
+    {
+        Batcher {
+            alloc,
+            cluster: *cluster,
+            me,
+            live: true,
+            waiting: Vec::new(alloc),
+            round: Round::ZERO,
+        }
+    }
+
     // A client hands in a command.
     fn submit(&mut self, command: &Command, out: &mut Outbox) -> Result<Why, NoMemory>
         requires fits { IsTrue (field.command.fits command.now) }
@@ -59,7 +74,7 @@ impl Batcher {
         Ok(Why::Batched)
     }
 
-    // A leader tells that it leads.
+    // A leader announces that it leads.
     fn told(&mut self, round: Round) -> Why
         ensures { Replies batcher_rules self.old (leads_row self.old.volatile round) result self.new [] }
     {
@@ -80,24 +95,21 @@ impl Role for Batcher {
 
     ghost state = { λ s. s };
 
-    #[tactic(auto, using(crate::proofs::Records::batcher_refuses))]
     fn open(
         alloc: Global,
         cluster: &Cluster,
         me: RoleId,
         records: &[Record],
     ) -> Result<Self, WakeFault> {
+        Batcher::new(alloc, cluster, me).reopen(records)
+    }
+
+    #[tactic(auto, using(crate::proofs::Records::batcher_refuses))]
+    fn reopen(self, records: &[Record]) -> Result<Self, WakeFault> {
         if let [_, ..] = records {
             return Err(WakeFault::Record { index: 0 });
         }
-        Ok(Batcher {
-            alloc,
-            cluster: *cluster,
-            me,
-            live: true,
-            waiting: Vec::new(alloc),
-            round: Round::ZERO,
-        })
+        Ok(Batcher::new(self.alloc, &self.cluster, self.me))
     }
 
     #[tactic(auto, using(crate::proofs::Rows::other_takes))]

@@ -44,19 +44,28 @@ impl Role for Unbatcher {
 
     ghost state = { λ s. s };
 
-    #[tactic(auto, using(crate::proofs::Records::unbatcher_refuses))]
     fn open(
         _alloc: Global,
         cluster: &Cluster,
         me: RoleId,
         records: &[Record],
     ) -> Result<Self, WakeFault> {
+        Unbatcher {
+            cluster: *cluster,
+            me,
+            live: true,
+        }
+        .reopen(records)
+    }
+
+    #[tactic(auto, using(crate::proofs::Records::unbatcher_refuses))]
+    fn reopen(self, records: &[Record]) -> Result<Self, WakeFault> {
         if let [_, ..] = records {
             return Err(WakeFault::Record { index: 0 });
         }
         Ok(Unbatcher {
-            cluster: *cluster,
-            me,
+            cluster: self.cluster,
+            me: self.me,
             live: true,
         })
     }

@@ -4,7 +4,7 @@ use Rattle.std.specs.Prelude.{slice_get}
 use Rattle.std.specs.List.{list_all}
 use Rattle.std.proofs.lemmas.Bool.{and_parts}
 use Rattle.std.proofs.lemmas.Bool.Decides.{nat_tests}
-use Rattle.cx_base.specs.Asked.{takes_event}
+use Rattle.cx_base.specs.Asked.{is_valid_event}
 use Rattle.cx_base.specs.declared.event.Event.{Event}
 use Rattle.cx_base.specs.declared.event.Event.TheVariants as event
 use Rattle.cx_script.specs.Requests.{number_of, rise_above}
@@ -16,7 +16,7 @@ at_place p [] n all = tt
 at_place p (e ∷ es) zero all = (and_parts (p e) (list_all p es) all).0
 at_place p (e ∷ es) (suc n) all = at_place p es n (and_parts (p e) (list_all p es) all).1
 
-number_taken : (last : ℕ) (e : Event) → nat_lt last (number_of e) ≡ true → takes_event e ≡ true
+number_taken : (last : ℕ) (e : Event) → nat_lt last (number_of e) ≡ true → is_valid_event e ≡ true
 number_taken last (event.Write command batcher) above = grind (arith, nat_tests)
 number_taken last (event.Read client seq reader replica key) above = grind (arith, nat_tests)
 number_taken last (event.Deliver number cut) above = refl
@@ -25,15 +25,15 @@ number_taken last (event.Order leader order cut) above = refl
 number_taken last (event.Crash role) above = refl
 number_taken last (event.Restart role) above = refl
 
-all_taken : (last : ℕ) (es : List Event) → rise_above last es ≡ true → list_all takes_event es ≡ true
+all_taken : (last : ℕ) (es : List Event) → rise_above last es ≡ true → list_all is_valid_event es ≡ true
 all_taken last [] rising = refl
 all_taken last (e ∷ es) rising =
     let both = and_parts (nat_lt last (number_of e)) (rise_above (number_of e) es) rising in
     rw (number_taken last e both.0, all_taken (number_of e) es both.1) refl
 
 -- each request of a script has a number of at least 1
-pub script_taken : (es : List Event) (n : ℕ) → rise_above 0 es ≡ true → IfSome (slice_get es n) (λ e. takes_event e ≡ true)
-script_taken es n rising = at_place takes_event es n (all_taken 0 es rising)
+pub script_taken : (es : List Event) (n : ℕ) → rise_above 0 es ≡ true → IfSome (slice_get es n) (λ e. is_valid_event e ≡ true)
+script_taken es n rising = at_place is_valid_event es n (all_taken 0 es rising)
 
 -- where a request has this number, there is one
 inside : (es : List Event) (n number : ℕ) → is_number_of number (slice_get es n) ≡ true → n < length es

@@ -38,7 +38,7 @@ outstanding s = slice_get s.script s.done
 abbrev pub is_finished : ClientState → Bool
 is_finished s = s.done == length s.script
 
--- what a step came to: the word, the client after it, what is sent, and whether the outstanding request is completed
+-- the result of a step: the word, the client after it, what is sent, and whether the outstanding request is completed
 pub record ClientMoved : Type 0 where
   pub why : Why
   pub state : ClientState

@@ -12,7 +12,7 @@ use cx_msg::{Datagram, Msg};
 use cx_role::{Outbox, is_for};
 use std::marker::Model;
 
-/// What a datagram came to, and whether it completed the outstanding request.
+/// The result of a datagram, and whether it completed the outstanding request.
 #[derive(Clone, Copy, Debug, PartialEq, Eq)]
 pub struct Taken {
     pub why: Why,
@@ -88,7 +88,7 @@ impl Client {
 
     /// One datagram. It is a stranger's, and nothing changes, where it isn't to this client, is no answer, or a name in it lies
     /// outside the cluster; any other is heard. An answer with the outstanding request's number completes it, and the next request
-    /// is sent. For want of memory nothing changes.
+    /// is sent. Out of memory, nothing changes.
     pub fn take(&mut self, datagram: &Datagram, out: &mut Outbox) -> Result<Taken, NoMemory>
         requires empty { out.old.list ≡ [] }
         ensures ok { IfOk result (λ taken. Moves (client_takes self.old datagram.now) taken.why taken.completes self.new out.new.list) }

@@ -1,7 +1,7 @@
 //! The datagrams of requests.
 
 ghost use Rattle.std.specs.Prelude.{◌≡◌, ◌≤◌, [], OnErr, OnOk, IfSome, IsTrue, option_copied, slice_get};
-ghost use Rattle.cx_base.specs.Asked.{takes_event};
+ghost use Rattle.cx_base.specs.Asked.{is_valid_event};
 ghost use Rattle.cx_base.specs.Role.{role};
 ghost use Rattle.cx_base.specs.declared.role.Kind.TheVariants as kind;
 ghost use Rattle.cx_client.specs.Client.{is_number_of, request_in};
@@ -23,11 +23,11 @@ fn submission(client: u16, seq: u64, op: Op, batcher: u16) -> Datagram
     submit(client, batcher, Command { client, seq, op })
 }
 
-/// The datagram of a request goes out, or nothing does for want of memory.
+/// The datagram of a request goes out, or nothing does when out of memory.
 #[tactic(auto, unfolding(cx_field::specs::Fields::seq, cx_wire::specs::Format::u64))]
 pub fn send(event: &Event, out: &mut Outbox) -> Result<(), NoMemory>
     requires empty { out.old.list ≡ [] }
-    requires taken { IsTrue (takes_event event.now) }
+    requires taken { IsTrue (is_valid_event event.now) }
     ensures sent { OnOk result (out.new.list ≡ request event.now) }
     ensures nothing { OnErr result (out.new.list ≡ []) }
 {
@@ -54,7 +54,7 @@ pub fn send(event: &Event, out: &mut Outbox) -> Result<(), NoMemory>
 /// The request at this place of a script goes out, if there is one.
 pub fn send_at(script: &[Event], place: usize, out: &mut Outbox) -> Result<(), NoMemory>
     requires empty { out.old.list ≡ [] }
-    requires taken { IfSome (slice_get script.now place) (λ event. IsTrue (takes_event event)) }
+    requires taken { IfSome (slice_get script.now place) (λ event. IsTrue (is_valid_event event)) }
     ensures sent { OnOk result (out.new.list ≡ request_in (slice_get script.now place)) }
     ensures nothing { OnErr result (out.new.list ≡ []) }
 {

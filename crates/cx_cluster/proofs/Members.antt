@@ -1,4 +1,4 @@
--- The unknown keys of a table beside those of the members that it stands for.
+-- The unknown keys of a table beside those of the members that it spells.
 use Rattle.std.proofs.Common.{◌≡◌, ℕ, refl, List, [], ◌∷◌, Option, Some, option_map, find, not, string_bytes, Less, inl, inr, ap}
 use Rattle.std.proofs.lemmas.Bool.{cases_Bool}
 use Rattle.std.specs.List.{AllByRecursion}

@@ -39,7 +39,7 @@ number_if key low high (Some number) = ranged key low high number
 abbrev pub number_of : ClusterKey → (low high : ℕ) → Data → Result (Within low high) ClusterFault
 number_of key low high value = number_if key low high (as_integer value)
 
--- the number that is wanted, of a value or of none
+-- the number that a key must have, from a value or from none
 abbrev pub number_in : ClusterKey → (low high : ℕ) → Option Data → Result (Within low high) ClusterFault
 number_in key low high None = Err (Missing key)
 number_in key low high (Some value) = number_of key low high value

@@ -63,7 +63,7 @@ pub enum ClusterFault {
     /// The key's number is outside its range.
     #[error("{0} = {1} is out of range")]
     Range(ClusterKey, i64),
-    /// Memory is wanting.
+    /// Out of memory.
     #[error("out of memory")]
     NoMemory,
 }

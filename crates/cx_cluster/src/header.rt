@@ -12,9 +12,14 @@ ghost use Rattle.toml.specs.View.{table_view, view};
 
 use crate::fault::{ClusterFault, UnknownKey};
 use crate::key::{ClusterKey, is_key};
-use cx_base::Cluster;
+use cx_base::{ACCEPTORS, BATCH, CLIENTS, Cluster, MAX_F, PROXIES, ROLES};
 use std::alloc::Global;
 use toml::{Table, Value};
+
+// The counts of a header have 16 bits.
+const MAX_CLIENTS: u16 = CLIENTS as u16;
+
+const MAX_BATCH: u16 = BATCH as u16;
 
 /// A number, where it is from `low` to `high`.
 fn number_within(key: ClusterKey, number: i64, low: u16, high: u16) -> Result<u16, ClusterFault>
@@ -68,16 +73,16 @@ fn port(table: &Table) -> Result<Option<u16>, ClusterFault>
 fn cluster_of(table: &Table) -> Result<Cluster, ClusterFault>
     ensures { result ≡ cluster_at (table_view table.now) }
 {
-    let f = number(table, ClusterKey::F, 0, 3)?;
-    let leaders = number(table, ClusterKey::Leaders, 1, 8)?;
-    let proxies = number(table, ClusterKey::Proxies, 1, 16)?;
-    let acceptors = number(table, ClusterKey::Acceptors, 1, 64)?;
-    let replicas = number(table, ClusterKey::Replicas, f + 1, 8)?;
-    let batchers = number(table, ClusterKey::Batchers, 1, 8)?;
-    let unbatchers = number(table, ClusterKey::Unbatchers, 1, 8)?;
-    let readers = number(table, ClusterKey::Readers, 1, 8)?;
-    let clients = number(table, ClusterKey::Clients, 1, 64)?;
-    let batch = number(table, ClusterKey::Batch, 1, 8)?;
+    let f = number(table, ClusterKey::F, 0, MAX_F)?;
+    let leaders = number(table, ClusterKey::Leaders, 1, ROLES)?;
+    let proxies = number(table, ClusterKey::Proxies, 1, PROXIES)?;
+    let acceptors = number(table, ClusterKey::Acceptors, 1, ACCEPTORS)?;
+    let replicas = number(table, ClusterKey::Replicas, f + 1, ROLES)?;
+    let batchers = number(table, ClusterKey::Batchers, 1, ROLES)?;
+    let unbatchers = number(table, ClusterKey::Unbatchers, 1, ROLES)?;
+    let readers = number(table, ClusterKey::Readers, 1, ROLES)?;
+    let clients = number(table, ClusterKey::Clients, 1, MAX_CLIENTS)?;
+    let batch = number(table, ClusterKey::Batch, 1, MAX_BATCH)?;
     let base_port = port(table)?;
     Ok(Cluster {
         f: f as u8,

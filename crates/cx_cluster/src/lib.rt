@@ -1,13 +1,12 @@
-//! The cluster that a schedule's header says, in TOML.
+//! The configuration of a cluster, which is the header of an input, in TOML.
 //!
-//! The theorem: what `read` answers is `header_cluster` of the bytes, whatever they are: the cluster, or the first fault.
+//! Its theorem is the contract of `read`: of any bytes it answers `header_cluster`, which is the
+//! cluster or exactly the first fault.
 #![tactic(auto)]
 
 mod fault;
 mod header;
 mod key;
-#[cfg(test)]
-mod tests;
 
 pub use fault::{ClusterFault, UnknownKey};
 pub use header::read;

@@ -3,7 +3,7 @@ use Rattle.std.specs.Prelude.{◌≡◌, ◌≤◌, ◌+◌, ℕ, Bool, not, ◌
 use Rattle.cx_base.specs.Grid.{Shape, is_in}
 use Rattle.cx_model.specs.Collection.{Collection, is_informing, is_collecting, with_informed, with_forgotten}
 
--- the grid whose columns are told, how many matchmakers may be lost, and how far it is
+-- the grid whose columns are informed, how many matchmakers may be lost, and how far it is
 pub record Collecting : Type 0 where
   pub grid : Shape
   pub f : ℕ
@@ -26,7 +26,7 @@ counts_forgotten id k = is_collecting k.collection.stage && not (is_in id k.coll
 abbrev pub forgotten_by : ℕ → Collecting → Collecting
 forgotten_by id k = if counts_forgotten id k then record k { collection = with_forgotten (k.f + 1) id k.collection } else k
 
--- While matchmakers are asked, so many of them are counted: at most f, since one more ends the stage.
+-- While matchmakers are asked, `forgotten` of them are counted: at most f, since one more ends the stage.
 pub record IsCount (f forgotten : ℕ) (k : Collection) : Type 0 where
   pub count : IsTrue (is_collecting k.stage) → length k.counted ≡ forgotten
   pub most : IsTrue (is_collecting k.stage) → forgotten ≤ f

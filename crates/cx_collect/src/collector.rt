@@ -11,7 +11,7 @@ use cx_model::Stage;
 use std::marker::Model;
 
 /// How far a leader is in retiring the rounds below its own. Nothing here takes memory.
-#[derive(Debug, Drop)]
+#[derive(Drop)]
 pub struct Collector {
     grid: Grid,
     f: u8,
@@ -48,7 +48,7 @@ impl Collector {
         }
     }
 
-    /// A collection that begins: the acceptors of a grid are told that enough replicas hold all slots below `cw`, and then
+    /// A collection that begins: the acceptors of a grid are informed that enough replicas hold all slots below `cw`, and then
     /// f + 1 matchmakers are to forget the earlier rounds.
     pub fn start(grid: Grid, f: u8, cw: u64) -> Self
         ensures { result ≡ record { grid = grid; f = f; collection = collection_from cw } }
@@ -110,7 +110,7 @@ impl Collector {
         self.counted.contains(id)
     }
 
-    /// The number of slots that is told.
+    /// The number of slots that is sent.
     pub fn mark(&self) -> u64
         ensures { result ≡ self.now.collection.mark }
     {

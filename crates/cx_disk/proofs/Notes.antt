@@ -55,7 +55,7 @@ all_within-more n m (c ∷ cs) le within =
     rw (within-more n m c le parts.0, all_within-more n m cs le parts.1) refl
 
 module _ (flat bytes : List ℕ) (calls : List Call) (at : ℕ) (within : all_within (length flat) calls ≡ true) where
-  -- a write is noted behind the others
+  -- a write is noted after the others
   pub write_added : notes (flat ++ bytes) (calls ++ call.Write at (length flat) (length bytes) ∷ []) ≡ notes flat calls ++ made_write at bytes ∷ []
   write_added =
       map-append (λ (c : Call). noted (flat ++ bytes) c) calls (call.Write at (length flat) (length bytes) ∷ [])

@@ -26,7 +26,7 @@ Follows step old new = (c : List ℕ) → new c → (d : List ℕ) × old d × s
 abbrev pub Only : List ℕ → (List ℕ → Type 0) → Type 0
 Only file outcomes = (c : List ℕ) → outcomes c → c ≡ file
 
--- where the disk tells its bytes, a crash leaves these and nothing else
+-- where the disk's bytes are known, a crash leaves these and nothing else
 abbrev pub OnlyTold : Option (List ℕ) → (List ℕ → Type 0) → Type 0
 OnlyTold told outcomes = (file : List ℕ) → told ≡ Some file → Only file outcomes
 
@@ -43,7 +43,7 @@ pub record LeavesOnly {D : Type 0} (moment : D → ℕ) (left_since : D → ℕ 
   -- for a run that began earlier
   pub before : (t : ℕ) (c : List ℕ) → t ≤ moment old → left_since new t c → left_since old t c ⊎ P c
 
--- the count doesn't fall, stands still where the call is answered, and rises where it fails
+-- the count doesn't fall, stays where the call succeeds, and rises where it fails
 pub record HasCause {T E : Type 0} (before now : ℕ) (result : Result T E) : Type 0 where
   pub later : before ≤ now
   pub still : OnOk result (now ≡ before)

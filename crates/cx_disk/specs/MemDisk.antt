@@ -57,7 +57,7 @@ state_after first notes = fold after (opened first) notes
 abbrev pub LeftSince : List ℕ → List Note → ℕ → List ℕ → Type 0
 LeftSince first notes t c = (k : ℕ) × (t ≤ k) × (k ≤ length notes) × MayLeave (state_after first (take k notes)) c
 
--- a call that was noted, where these are the bytes that all writes have written, one behind the other
+-- a call that was noted, where these are the bytes that all writes have written, one after the other
 abbrev pub noted : List ℕ → Call → Note
 noted bytes (call.Write at from len) = made_write at (slice_range bytes from (from + len))
 noted bytes (call.WriteFailed at len) = failed_write at len

@@ -46,7 +46,7 @@ cut-same at file = record { no_shorter = omega arith; front = take_all (length f
 pub cut-done : (at : ℕ) (file : List ℕ) → Cut at file (take at file)
 cut-done at file = record { no_shorter = omega (arith, length-take at file); front = take-take at file }
 
--- a call takes what is seen along
+-- what is seen after a call is one of what a crash may leave then
 after-seen : (state : State) (c : Note) → MayLeave state state.seen → MayLeave (after state c) (after state c).seen
 after-seen state (made_write at bytes) left =
     elim (cases_Bool (nat_le at (length state.seen))) [

@@ -10,7 +10,7 @@ use cx_base::NoMemory;
 use std::alloc::Global;
 
 /// What becomes of the calls since the last sync.
-#[derive(Clone, Copy, Debug, PartialEq, Eq)]
+#[derive(Clone, Copy)]
 pub enum Unsynced {
     /// All of them are there.
     Kept,

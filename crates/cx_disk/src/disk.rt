@@ -7,7 +7,7 @@ ghost use Rattle.cx_disk.specs.Disk.{written, Torn, Cut, Follows, OnlyTold, Elap
 pub struct Failed;
 
 pub trait Disk {
-    /// What a read gives, none where the disk doesn't tell.
+    /// What a read gives, none where that isn't known.
     ghost seen: { Self → Option (List ℕ) };
 
     /// What a crash at this moment may leave.
@@ -22,7 +22,7 @@ pub trait Disk {
     /// How often the disk has failed.
     ghost faults: { Self → ℕ };
 
-    /// The length, which every disk tells.
+    /// The length, which is known of every disk.
     ghost size: { Self → ℕ };
 
     fn len(&self) -> u64
@@ -67,7 +67,7 @@ pub trait Disk {
         ensures time { Elapses (moment self.old) (moment self.new) (left_since self.old) (left_since self.new) (may_leave self.new) }
         ensures cause { HasCause (faults self.old) (faults self.new) result };
 
-    /// The told bytes are as many as the length.
+    /// The bytes that are known are as many as the length.
     ghost told_size: { (disk : Self) (file : List ℕ) → seen disk ≡ Some file → length file ≡ size disk };
 
     /// What a read gives is one of what a crash may leave, also after a call that failed.

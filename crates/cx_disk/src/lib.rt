@@ -1,16 +1,14 @@
-//! Disks, and what a crash may leave of them.
+//! Disks: what a read gives, and what a crash may leave of writes that were not synced.
 //!
-//! Stands on the counts of cx_base; journals and files stand on it. A disk says what a read gives, what a crash at this moment
-//! may leave, and what a crash at any moment since an earlier one might have left: so a caller's contract can speak of each
-//! moment inside a call.
+//! A `Disk` also says what a crash at any earlier moment might have left, so a contract can speak of
+//! every moment inside a call. Its theorems are: `MemDisk`, whose calls fail or stop where a test
+//! says so, is a `Disk`; `crash_image` gives bytes that a crash may leave.
 #![tactic(auto)]
 
 mod crash;
 mod disk;
 mod making;
 mod memory;
-#[cfg(test)]
-mod tests;
 
 pub use crash::Unsynced;
 pub use disk::{Disk, Failed};

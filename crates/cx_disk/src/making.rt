@@ -8,7 +8,7 @@ use cx_base::{Faults, NoMemory};
 use std::alloc::Global;
 
 /// For how much a disk in memory has room.
-#[derive(Clone, Copy, Debug)]
+#[derive(Clone, Copy)]
 pub struct Room {
     /// The most bytes that it may hold at a time. It has room at least for those that it begins with.
     pub bytes: usize,
@@ -33,8 +33,8 @@ pub(crate) fn copy_in(alloc: Global, bytes: &[u8], room: usize) -> Result<Vec<u8
 
 impl MemDisk {
     /// A disk that holds these bytes for certain. Its calls of `read`, `write_at`, `cut` and `sync` are numbered from 0; those
-    /// with the numbers in `fails` fail. After so many calls as `stop_after` says, if it does, every call fails and changes
-    /// nothing. All memory is taken here, and a call that would need more than this room fails too.
+    /// with the numbers in `fails` fail. From the call with the number in `stop_after` on, if there is one, every call fails and
+    /// changes nothing. All memory is taken here, and a call that would need more than this room fails too.
     pub fn new(
         alloc: Global,
         bytes: &[u8],

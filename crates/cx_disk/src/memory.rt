@@ -10,9 +10,9 @@ use crate::{Disk, Failed};
 use cx_base::Faults;
 
 /// A call that changed what a crash may leave.
-#[derive(Clone, Copy, Debug)]
+#[derive(Clone, Copy)]
 pub enum Call {
-    /// Its bytes stand at this place among those that all writes have written.
+    /// Its bytes are at this place among those that all writes have written.
     Write { at: u64, from: usize, len: usize },
     WriteFailed { at: u64, len: usize },
     Cut { at: u64 },

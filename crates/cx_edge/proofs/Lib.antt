@@ -1,6 +1,7 @@
+mod BindLaws
 mod DeskLaws
 mod FileLaws
-mod HeldLaws
+pub mod HeldLaws
 mod LineLaws
 mod NotesLaws
 mod SlotLaws

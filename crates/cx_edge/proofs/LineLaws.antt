@@ -41,7 +41,7 @@ no_feed bytes none k l =
 is_free : (bytes : List ℕ) → feed_at bytes ≡ None → IsFree bytes
 is_free bytes none = subst IsFree (take_all (length bytes) bytes (omega arith)) (free_up_to bytes (length bytes) (no_feed bytes none))
 
--- a part without a carriage return is its front
+-- a part without a carriage return is a prefix of it
 pub strip_short : (part : List ℕ) → length (strip_carriage_return part) ≤ length part
 strip_short part =
     cond_both (slice_index part (length part - 1) == 13) (take (length part - 1) part) part (λ s. length s ≤ length part)
@@ -150,6 +150,6 @@ pub hands_kept : (left now next : Option (List ℕ)) (held held_now held_next : 
 hands_kept left now next held held_now held_next h kept same =
     record { read = h.read; consumed = Consumes-kept left now next h.read h.consumed kept; whole = h.whole ∙ sym same }
 
--- and is handed out from the front
+-- and is given from the start
 pub hands_out : (left now : Option (List ℕ)) (held held_now held_next out : List ℕ) → Hands left now held held_now [] → held_now ≡ out ++ held_next → Hands left now held held_next out
 hands_out left now held held_now held_next out h cut = record { read = h.read; consumed = h.consumed; whole = h.whole ∙ cut }

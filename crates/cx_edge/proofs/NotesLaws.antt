@@ -1,4 +1,4 @@
--- What is noted stays as it was where bytes are added behind it.
+-- What is noted stays as it was where bytes are added after it.
 use Rattle.std.proofs.Common.{◌≡◌, ◌≤◌, ◌+◌, ◌-◌, ℕ, Bool, true, false, List, [], ◌∷◌, ◌++◌, length, take, drop, slice_range, map, Option, None, Some, arith, refl, sym, ap, subst, ◌∙◌, inl, inr, ◌⊎◌}
 use Rattle.std.specs.List.{All}
 use Rattle.std.proofs.lemmas.List.{take_all, take-take, take-append-le, drop-append-le, map-append, length-take, length-drop, length-append}

@@ -20,12 +20,12 @@ of_role role row = same_role role row.role
 abbrev pub no_faults : RoleId → CountRow
 no_faults role = record { role = role; count = 0 }
 
--- How often a role was failed. One that isn't known is failed each time, and its count stands at the end of its type.
+-- How often a role was failed. One that isn't known is failed each time, and its count is at the end of its type.
 abbrev pub count_of : RoleId → List CountRow → ℕ
 count_of role [] = 18446744073709551615
 count_of role (row ∷ rest) = if of_role role row then row.count else count_of role rest
 
--- the counts with so many more faults of a role
+-- the counts with these further faults of a role
 abbrev pub counted : RoleId → ℕ → List CountRow → List CountRow
 counted role faults [] = []
 counted role faults (row ∷ rest) = if of_role role row then record row { count = plus row.count faults } ∷ rest else row ∷ counted role faults rest

@@ -1,4 +1,4 @@
--- What the next line of a source is, and what of the source is held for the lines behind it.
+-- What the next line of a source is, and what of the source is held for the lines after it.
 use Rattle.std.specs.Prelude.{◌≡◌, ◌≤◌, ◌<◌, ◌==◌, ℕ, ◌+◌, false, List, [], ◌∷◌, ◌++◌, length, take, drop, Option}
 use Rattle.std.specs.Io.KnownBytes.{Keeps, Consumes, IsAtEnd}
 use Rattle.std.specs.List.{list_any}
@@ -19,7 +19,7 @@ pub record LinesState : Type 0 where
 abbrev pub IsFree : List ℕ → Type 0
 IsFree part = list_any (λ b. b == 10) part ≡ false
 
--- a line has at most so many bytes, without one carriage return at its end
+-- a line has at most max bytes, without one carriage return at its end
 abbrev pub Fits : ℕ → List ℕ → Type 0
 Fits max part = length (strip_carriage_return part) ≤ max
 
@@ -60,7 +60,7 @@ pub record GivesLast (max : ℕ) (left left_after : Option (List ℕ)) (old new 
   pub none_held : new.held ≡ []
   pub at_end : IsAtEnd left_after
 
--- What `next` comes to: nothing is lost, and where no line is handed out, all that was read is held.
+-- The result of `next`: nothing is lost, and where no line is handed out, all that was read is held.
 abbrev pub Gives : ℕ → Option (List ℕ) → Option (List ℕ) → LinesState → LinesState → Next → Type 0
 Gives max left left_after old new Line = GivesLine max left left_after old new
 Gives max left left_after old new Last = GivesLast max left left_after old new
@@ -68,7 +68,7 @@ Gives max left left_after old new End = Hands left left_after old.held [] [] × 
 Gives max left left_after old new Long = Hands left left_after old.held new.held [] × BeginsLong max new.held
 Gives max left left_after old new Failed = Hands left left_after old.held new.held [] × IsOpen max new.held
 
--- the first line of the held bytes has so many bytes, and this size with its line feed
+-- the first line of the held bytes has this length, and this size with its line feed
 pub record IsFirstLine (max : ℕ) (held : List ℕ) (len size : ℕ) : Type 0 where
   pub part : List ℕ
   pub free : IsFree part
@@ -97,7 +97,7 @@ Cuts max old new (first.Line len size) = CutsLine max old new
 Cuts max old new first.Long = (new.held ≡ old.held) × BeginsLong max new.held
 Cuts max old new first.Open = (new.held ≡ old.held) × IsOpen max new.held
 
--- so many bytes of a source stand behind those that are held, none only at its end
+-- this many bytes of a source come after those that are held, none only at its end
 pub record GetsBehind (left left_after : Option (List ℕ)) (held : ℕ) (old new : List ℕ) (count : ℕ) : Type 0 where
   pub read : List ℕ
   pub size : length read ≡ count
@@ -110,7 +110,7 @@ abbrev pub ReadsBehind : Option (List ℕ) → Option (List ℕ) → ℕ → Lis
 ReadsBehind left left_after held old new (end.Got count) = GetsBehind left left_after held old new count
 ReadsBehind left left_after held old new end.Failed = Keeps left left_after × (take held new ≡ take held old)
 
--- so many bytes of a source are held too, none only at its end
+-- this many bytes of a source are held too, none only at its end
 pub record FillsBy (left left_after : Option (List ℕ)) (held held_after : List ℕ) (count : ℕ) : Type 0 where
   pub read : List ℕ
   pub size : length read ≡ count

@@ -4,7 +4,7 @@ use Rattle.cx_edge.specs.declared.mem_link.BindRow.{BindRow}
 use Rattle.cx_edge.specs.Link.{Bind, LinkHistory}
 use Rattle.cx_edge.specs.Notes.{NotesState}
 
--- what it tells, and its counts
+-- its history, where it is known, and its counts
 pub record LinkState : Type 0 where
   pub told : Option LinkHistory
   pub faults : ℕ
@@ -26,6 +26,6 @@ bind_of row = record { role = row.role; port = row.port }
 abbrev pub no_history : LinkHistory
 no_history = record { binds = []; taken = []; sent = [] }
 
--- the histories, unless something was lost for want of room
+-- the history, unless a send was lost because there was no room to note it
 abbrev pub told_of : Bool → List BindRow → NotesState → Option LinkHistory
 told_of is_silent binds notes = if is_silent then None else Some (record { binds = map bind_of binds; taken = notes.taken; sent = notes.sent })

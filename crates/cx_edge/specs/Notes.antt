@@ -27,7 +27,7 @@ told_sent bytes row = record { from = row.from; port = row.port; bytes = bytes_a
 abbrev pub noted : List ℕ → List (Option Piece) → List SentRow → List Piece → NotesState
 noted bytes takes sends queue = record { taken = map (told_taken bytes) takes; sent = map (told_sent bytes) sends; waiting = map (bytes_at bytes) queue }
 
--- the place is one of so many bytes
+-- the place lies in n bytes
 abbrev pub Fits : ℕ → Piece → Type 0
 Fits n piece = piece.start + piece.len ≤ n
 
@@ -40,7 +40,7 @@ SentFits n row = Fits n row.piece
 abbrev pub FrontFits : ℕ → FrontRow → Type 0
 FrontFits n row = Fits n row.piece
 
--- all places are in so many bytes
+-- all places lie in n bytes
 pub record NotesFit (n : ℕ) (takes : List (Option Piece)) (sends : List SentRow) (queue : List Piece) (rows : List FrontRow) : Type 0 where
   pub taken : All (TakenFits n) takes
   pub sent : All (SentFits n) sends

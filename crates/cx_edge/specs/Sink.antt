@@ -5,7 +5,7 @@ use Rattle.cx_base.specs.Faults.{Rises}
 use Rattle.cx_edge.specs.declared.sink.WriteEnd.{WriteEnd}
 use Rattle.cx_edge.specs.declared.sink.WriteEnd.TheVariants.{Took, Failed}
 
--- the sink has taken bytes from the front of a piece, of one that is not empty at least one
+-- the sink has taken the first bytes of a piece, of one that is not empty at least one
 pub record Takes (old new : Option (List ℕ)) (count : ℕ) (piece : List ℕ) : Type 0 where
   pub fits : count ≤ length piece
   pub some : 0 < length piece → 0 < count
@@ -21,11 +21,11 @@ abbrev pub WriteKeepsCount : WriteEnd → ℕ → ℕ → Type 0
 WriteKeepsCount (Took count) old new = new ≡ old
 WriteKeepsCount Failed old new = ⊤
 
--- some bytes from the front of these were taken
+-- a prefix of these bytes was taken
 abbrev pub AppendsPart : Option (List ℕ) → Option (List ℕ) → List ℕ → Type 0
 AppendsPart old new bytes = (count : ℕ) × Appends old new (take count bytes)
 
--- all bytes were taken, or a part of them from the front
+-- all bytes were taken, or a prefix of them
 abbrev pub WritesAll : Option (List ℕ) → Option (List ℕ) → Bool → List ℕ → Type 0
 WritesAll old new true bytes = Appends old new bytes
 WritesAll old new false bytes = AppendsPart old new bytes

@@ -7,7 +7,7 @@ use Rattle.cx_edge.specs.declared.source.ReadEnd.TheVariants as end
 use Rattle.cx_edge.specs.declared.source.ReadAll.{ReadAll}
 use Rattle.cx_edge.specs.declared.source.ReadAll.TheVariants.{Whole, TooLong, Failed, NoMemory}
 
--- the next bytes stand at the front of the buffer; none, where there was room, is the end
+-- the next bytes are the first of the buffer; none, where there was room, is the end
 pub record Gets (old new : Option (List ℕ)) (count : ℕ) (buffer : List ℕ) : Type 0 where
   pub fits : count ≤ length buffer
   pub bytes : Consumes old new (take count buffer)
@@ -23,18 +23,18 @@ abbrev pub ReadKeepsCount : ReadEnd → ℕ → ℕ → Type 0
 ReadKeepsCount (end.Got count) old new = new ≡ old
 ReadKeepsCount end.Failed old new = ⊤
 
--- all bytes that were left have come, at most so many, and the source is at its end
+-- all bytes that were left have come, at most the limit, and the source is at its end
 pub record GetsAll (limit : ℕ) (old new : Option (List ℕ)) (bytes : List ℕ) : Type 0 where
   pub fits : length bytes ≤ limit
   pub all : IfSome old (λ left. left ≡ bytes)
   pub consumed : Consumes old new bytes
   pub at_end : IsAtEnd new
 
--- some bytes from the front of those that were left are gone
+-- a prefix of the bytes that were left is gone
 abbrev pub ConsumesSome : Option (List ℕ) → Option (List ℕ) → Type 0
 ConsumesSome old new = (bytes : List ℕ) × Consumes old new bytes
 
--- what a whole reading came to; too long are more bytes than the limit
+-- the result of a whole reading; too long are more bytes than the limit
 abbrev pub ReadsAll : ℕ → Option (List ℕ) → Option (List ℕ) → ReadAll → Type 0
 ReadsAll limit old new (Whole bytes) = GetsAll limit old new bytes.items
 ReadsAll limit old new (TooLong bytes) = (limit < length bytes.items) × Consumes old new bytes.items

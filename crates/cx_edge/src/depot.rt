@@ -1,6 +1,8 @@
 //! Depots: where the stores of roles stay while no role has them.
 
-ghost use Rattle.std.specs.Prelude.{◌≡◌, ◌≤◌, ◌++◌, [], ◌∷◌, ℕ, Bool, true, List, Some, IfOk, OnOk, OnErr};
+ghost use Rattle.std.specs.Prelude.{◌≡◌, ◌≤◌, ◌++◌, [], ◌∷◌, ℕ, Bool, true, false, List, Some, IfOk, OnOk, OnErr};
+ghost use Rattle.std.specs.List.{list_any};
+ghost use Rattle.cx_base.specs.Role.{same_role};
 ghost use Rattle.cx_base.specs.declared.role.RoleId.{RoleId};
 ghost use Rattle.cx_base.specs.Faults.{Rises};
 ghost use Rattle.cx_disk.specs.Disk.{Only};
@@ -9,27 +11,28 @@ ghost use Rattle.cx_edge.specs.Depot.{IsOut, without};
 use cx_base::RoleId;
 use cx_disk::{Disk, Failed};
 
-/// Keeps a store for each role, hands it out, and takes it back. A role that is stopped finds in it what it left.
+/// Keeps a store for each role, lends it, and takes it back. A role that is stopped finds in it what it left.
 pub trait Depot {
     type Store: Disk + Drop;
 
-    /// Whether it tells what the stores hold.
+    /// Whether what the stores hold is known.
     ghost tells: { Self → Bool };
 
     /// What a role's store holds while it isn't out.
     ghost held: { Self → RoleId → List ℕ };
 
-    /// The roles whose stores are out, in the order in which they were handed out.
+    /// The roles whose stores are out, in the order in which they were lent.
     ghost out: { Self → List RoleId };
 
     /// How often the depot has failed a role: openings that failed, and the faults of its store while that was out.
     ghost faults: { Self → RoleId → ℕ };
 
-    /// Hands out the store of a role. It fails, and the role's count rises, where the store can't be opened, or is out.
+    /// Lends the store of a role. It fails, and the role's count rises, where the store can't be opened, or is out already.
     fn open(&mut self, role: RoleId) -> Result<Self::Store, Failed>
         ensures seen { tells self.old ≡ true → IfOk result (λ store. Self.Store.Disk.seen store ≡ Some (held self.old role)) }
         ensures durable { tells self.old ≡ true → IfOk result (λ store. Only (held self.old role) (Self.Store.Disk.may_leave store)) }
         ensures fresh { IfOk result (λ store. Self.Store.Disk.faults store ≡ 0) }
+        ensures once { OnOk result (list_any (same_role role) (out self.old) ≡ false) }
         ensures out { OnOk result (out self.new ≡ out self.old ++ role ∷ []) }
         ensures refused { OnErr result (out self.new ≡ out self.old) }
         ensures held { (who : RoleId) → held self.new who ≡ held self.old who }

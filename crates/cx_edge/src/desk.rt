@@ -1,6 +1,6 @@
 //! Which stores are out, and how often each role was failed.
 
-ghost use Rattle.std.specs.Prelude.{◌≡◌, ◌<◌, ◌++◌, [], ◌∷◌, true, map, IfOk};
+ghost use Rattle.std.specs.Prelude.{◌≡◌, ◌<◌, ◌++◌, [], ◌∷◌, true, false, map, IfOk};
 ghost use Rattle.std.specs.List.{list_any, position};
 ghost use Rattle.cx_base.specs.Role.{same_role};
 ghost use Rattle.cx_edge.specs.Depot.{without};
@@ -97,7 +97,8 @@ impl Desk {
 
     /// Whether it is one of the desk's roles, its store isn't out, and there is room to note that it is.
     pub(crate) fn can_hand_out(&self, role: RoleId) -> bool
-        ensures { result ≡ true → 0 < self.now.room }
+        ensures room { result ≡ true → 0 < self.now.room }
+        ensures once { result ≡ true → list_any (same_role role) self.now.out ≡ false }
     {
         row_of(&self.counts, role).is_some()
             && !is_among(&self.out, role)

@@ -1,6 +1,6 @@
 //! A depot of files in the current folder.
 
-ghost use Rattle.std.specs.Prelude.{◌≡◌, [], false, map, IfOk, string_bytes};
+ghost use Rattle.std.specs.Prelude.{◌≡◌, [], true, false, map, IfOk, string_bytes};
 ghost use Rattle.cx_base.specs.declared.role.RoleId.{RoleId};
 ghost use Rattle.cx_edge.specs.Depot.{first_faults};
 ghost use Rattle.cx_edge.specs.FileDepot.{file_name, files_out, files_faults};
@@ -8,8 +8,8 @@ ghost use Rattle.cx_edge.specs.FileDisk.{faults_of};
 
 use crate::desk::Desk;
 use crate::{Depot, FileDisk};
-use cx_base::{NoMemory, RoleId};
-use cx_disk::Failed;
+use cx_base::{MAX_RECORD_LENGTH, NoMemory, RoleId};
+use cx_disk::{Disk, Failed};
 use std::alloc::Global;
 use std::fs::File;
 use std::marker::Model;
@@ -61,6 +61,26 @@ fn names_of(alloc: Global, roles: &[RoleId]) -> Result<Vec<StoreName>, NoMemory>
     Ok(names)
 }
 
+/// The most bytes that an append to an empty journal leaves while its gate is still closed: the gate, the record's length, the
+/// longest record, and the next gate.
+const FIRST_RECORD: u64 = 1 + 4 + MAX_RECORD_LENGTH as u64 + 1;
+
+/// Whether the file may be a journal: it is empty, or begins with an open gate, or with a closed one that has one record at most
+/// after it. A torn write of the gate could leave any byte on a disk as it is assumed elsewhere; a file keeps the old byte or the
+/// new one.
+fn could_be_journal(disk: &mut FileDisk) -> bool
+    ensures { result ≡ true → faults_of disk.new ≡ faults_of disk.old }
+{
+    if disk.len() == 0 {
+        return true;
+    }
+    let mut gate = [0; 1];
+    match disk.read(0, &mut gate) {
+        Ok(()) => gate[0] == 1 || gate[0] == 0 && disk.len() <= FIRST_RECORD,
+        Err(_) => false,
+    }
+}
+
 fn opened<R: Files<File = File>>(
     files: &R,
     names: &[StoreName],
@@ -70,7 +90,11 @@ fn opened<R: Files<File = File>>(
 {
     for store in names {
         if role.is(store.role) {
-            return FileDisk::open(files, store.name.as_str());
+            let mut disk = FileDisk::open(files, store.name.as_str())?;
+            if !could_be_journal(&mut disk) {
+                return Err(Failed);
+            }
+            return Ok(disk);
         }
     }
     Err(Failed)

@@ -1,4 +1,4 @@
-//! A disk over a file of the operating system. What the file holds, no clause tells.
+//! A disk over a file of the operating system. What the file holds is not known to any clause.
 
 ghost use Rattle.std.specs.Prelude.{◌≡◌, ◌<◌, ◌^◌, ℕ, None, IfOk, ⊤};
 
@@ -20,13 +20,14 @@ pub struct FileDisk {
     ghost fits: { size < 2 ^ 63 },
 }
 
-/// The file of this name with its length. It is made where it isn't there.
+/// The file of this name with its length. It is made where it isn't there, and locked until it is closed.
 fn opened<R: Files<File = File>>(files: &R, name: &str) -> io::Result<(File, u64)> {
     let file = OpenOptions::new()
         .read(true)
         .write(true)
         .create(true)
         .open(files, name)?;
+    file.try_lock()?;
     let size = file.metadata()?.len();
     Ok((file, size))
 }
@@ -35,7 +36,7 @@ impl FileDisk {
     ghost use Rattle.cx_edge.specs.FileDisk.{faults_of};
 
     /// The disk over the file of this name, which is made where it isn't there. It takes no memory. `Failed` where the file
-    /// can't be opened, or is of 2^63 bytes or more.
+    /// can't be opened, is open as a disk already, here or in another process, or is of 2^63 bytes or more.
     pub fn open<R: Files<File = File>>(files: &R, name: &str) -> Result<Self, Failed>
         ensures { IfOk result (λ disk. faults_of disk ≡ 0) }
     {

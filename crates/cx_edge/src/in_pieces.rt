@@ -5,7 +5,7 @@ ghost use Rattle.std.specs.Prelude.{◌≡◌, ◌<◌};
 use crate::{ReadEnd, Sink, Source, WriteEnd};
 use std::marker::Model;
 
-/// A source or a sink; each call reads or writes at most so many bytes of it.
+/// A source or a sink, of which each call reads or writes a limited number of bytes.
 #[derive(Drop)]
 pub struct InPieces<T> {
     inner: T,
@@ -23,7 +23,7 @@ impl<T> Model for InPieces<T> {
 }
 
 impl<T> InPieces<T> {
-    /// The same, at most so many bytes a call, and at least one.
+    /// The same, with at most this many bytes a call, and at least one.
     pub fn new(inner: T, most: usize) -> Self
         requires { 0 < most }
         ensures { result ≡ inner }

@@ -13,11 +13,11 @@ use cx_base::NoMemory;
 use std::alloc::Global;
 use std::marker::Model;
 
-// A line of 16,384 bytes with its carriage return, and room behind it for the bytes of a read.
+// A line of 16,384 bytes with its carriage return, and room after it for the bytes of a read.
 const ROOM: usize = 20_480;
 
 /// What the next line of a source is.
-#[derive(Clone, Copy, Debug, PartialEq, Eq)]
+#[derive(Clone, Copy, PartialEq, Eq)]
 pub enum Next {
     /// A line with its line feed.
     Line,
@@ -34,10 +34,10 @@ pub enum Next {
 // What held bytes begin with.
 #[derive(Clone, Copy)]
 enum First {
-    // A line of so many bytes, and how many it takes with its line feed.
+    // A line of this many bytes, and how many it takes with its line feed.
     Line { len: usize, size: usize },
     Long,
-    // A line that goes on behind them.
+    // A line that goes on after them.
     Open,
 }
 
@@ -72,7 +72,7 @@ fn first_in(held: &[u8], max: usize) -> First
     }
 }
 
-// Moves so many bytes to the front.
+// Moves `count` bytes to the start.
 fn move_to_front(bytes: &mut [u8], start: usize, count: usize)
     requires { start + count ≤ length bytes.old }
     ensures moved { take count bytes.new ≡ take count (drop start bytes.old) }
@@ -81,7 +81,7 @@ fn move_to_front(bytes: &mut [u8], start: usize, count: usize)
     bytes.copy_within(start..start + count, 0);
 }
 
-// Reads into the bytes behind so many at the front.
+// Reads into the bytes after the first `held`.
 fn read_behind<S: Source>(source: &mut S, bytes: &mut [u8], held: usize) -> ReadEnd
     requires { held < length bytes.old }
     ensures bytes { ReadsBehind (S.left source.old) (S.left source.new) held bytes.old bytes.new result }
@@ -153,7 +153,7 @@ impl Lines {
         first
     }
 
-    // Reads bytes behind those that are held, which are moved to the front.
+    // Reads bytes after those that are held, which are moved to the start.
     fn fill<S: Source>(&mut self, source: &mut S) -> ReadEnd
         requires { length self.old.held < 20480 }
         ensures bytes { Fills (S.left source.old) (S.left source.new) self.old.held self.new.held result }
@@ -174,7 +174,7 @@ impl Lines {
         end
     }
 
-    // Hands out what is held as the last line, if there is one.
+    // Gives what is held as the last line, if there is one.
     fn empty(&mut self) -> Next
         ensures { EmptiedAs self.old.held self.new result }
     {
@@ -187,9 +187,8 @@ impl Lines {
         Next::Last
     }
 
-    /// Reads up to the end of the next line, of at most so many bytes, which `text` then tells. What was read and is not
-    /// handed out is held for the next call, so that nothing is lost where a read fails. The count of faults changes exactly
-    /// then.
+    /// Reads up to the end of the next line, of at most `max` bytes, which `text` then gives. What was read and is not given
+    /// yet is held for the next call, so that nothing is lost where a read fails. The count of faults changes exactly then.
     pub fn next<S: Source>(&mut self, source: &mut S, max: usize) -> Next
         requires { max ≤ 16384 }
         ensures gives { Gives max (S.left source.old) (S.left source.new) self.old self.new result }

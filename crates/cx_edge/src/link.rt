@@ -1,10 +1,10 @@
 //! Links: datagrams between roles, each bound to a port.
 
-ghost use Rattle.std.specs.Prelude.{◌≡◌, ℕ, Option, OnOk};
+ghost use Rattle.std.specs.Prelude.{◌≡◌, ℕ, Option, OnOk, IfSome};
 ghost use Rattle.cx_base.specs.Faults.{Rises};
 ghost use Rattle.cx_disk.specs.Disk.{HasCause};
 ghost use Rattle.cx_edge.specs.declared.link.TakeEnd.TheVariants as take_end;
-ghost use Rattle.cx_edge.specs.Link.{LinkHistory, Binds, Sends, Takes};
+ghost use Rattle.cx_edge.specs.Link.{LinkHistory, Binds, IsUnbound, Sends, Takes};
 
 use cx_base::RoleId;
 use cx_disk::Failed;
@@ -12,7 +12,7 @@ use cx_disk::Failed;
 /// One datagram was taken, none was there, or the take failed.
 #[derive(Clone, Copy, Debug, PartialEq, Eq)]
 pub enum TakeEnd {
-    /// A datagram of so many bytes, which stand at the front of the buffer.
+    /// A datagram of this many bytes, which are now the first of the buffer.
     Got(usize),
     Nothing,
     /// None, and the fault was counted.
@@ -21,7 +21,7 @@ pub enum TakeEnd {
 
 /// What carries datagrams between ports. They may be lost, repeated, and come in any order.
 pub trait Link {
-    /// Its histories, where the link tells them.
+    /// Its history, where it is known.
     ghost told: { Self → Option LinkHistory };
 
     /// How often a bind or a take has failed.
@@ -30,9 +30,11 @@ pub trait Link {
     /// How many sends were lost, which is no fault.
     ghost losses: { Self → ℕ };
 
-    /// Gives the role a port of its own, from which it sends and at which it is sent to.
+    /// Gives the role a port of its own, from which it sends and to which others send. It fails where the role or the port is
+    /// bound already.
     fn bind(&mut self, role: RoleId, port: u16) -> Result<(), Failed>
         ensures told { Binds (told self.old) (told self.new) role port result }
+        ensures once { OnOk result (IfSome (told self.old) (IsUnbound role port)) }
         ensures cause { HasCause (faults self.old) (faults self.new) result }
         ensures still { OnOk result (faults self.new ≡ faults self.old) }
         ensures losses { losses self.new ≡ losses self.old };

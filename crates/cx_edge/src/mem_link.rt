@@ -1,7 +1,10 @@
 //! A link in memory: one queue, and lists of the calls that fail.
 
 ghost use Rattle.std.specs.Prelude.{◌≡◌, Some, IfOk};
-ghost use Rattle.cx_edge.specs.MemLink.{no_history, link_told, link_faults, link_losses};
+ghost use Rattle.std.specs.List.{list_any};
+ghost use Rattle.cx_edge.specs.Link.{binds_either};
+ghost use Rattle.cx_edge.specs.declared.mem_link.BindRow.{BindRow};
+ghost use Rattle.cx_edge.specs.MemLink.{bind_of, no_history, link_told, link_faults, link_losses};
 
 use crate::memory::is_failing;
 use crate::notes::{Front, LinkRoom, Notes};
@@ -26,8 +29,8 @@ struct BindRow {
     port: u16,
 }
 
-/// Carries datagrams in one queue: a send puts its bytes at the end, a take gives the front ones, cut to the buffer, and
-/// nothing exactly where none wait. It tells its histories until a send is lost for want of room.
+/// Carries datagrams in one queue: a send puts its bytes at the end, a take gives the first ones, cut to the buffer, and
+/// nothing exactly where none wait. Its history is known until a send is lost because there is no room to note it.
 #[derive(Drop)]
 pub struct MemLink {
     notes: Notes,
@@ -47,6 +50,15 @@ impl Model for MemLink {
     ghost Value = { LinkState };
 
     ghost view = { λ m. record { told = told_of m.is_silent m.binds.items m.notes; faults = m.faults; losses = m.losses } };
+}
+
+/// Whether the role or the port is bound.
+fn is_bound(binds: &[BindRow], role: RoleId, port: u16) -> bool
+    ensures { result ≡ list_any (λ (row : BindRow). binds_either role port (bind_of row)) binds.now }
+{
+    binds
+        .iter()
+        .any(|bind| role.is(bind.role) || port == bind.port)
 }
 
 impl MemLink {
@@ -85,6 +97,10 @@ impl Link for MemLink {
         let call = self.bind;
         self.bind = call.saturating_add(1);
         if is_failing(&self.failing.binds, call) || self.binds.len() >= self.binds.capacity() {
+            self.faults.add();
+            return Err(Failed);
+        }
+        if is_bound(&self.binds, role, port) {
             self.faults.add();
             return Err(Failed);
         }

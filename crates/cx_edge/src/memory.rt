@@ -106,7 +106,7 @@ impl Model for MemSink {
 }
 
 impl MemSink {
-    /// The sink that takes so many bytes in all, each write the whole piece, and fails at the calls with these numbers, which
+    /// The sink that takes `room` bytes in all, each write the whole piece, and fails at the calls with these numbers, which
     /// are counted from 0, and where a piece is longer than the room that is left. All memory is taken here, none by
     /// a write.
     pub fn new(alloc: Global, room: usize, failing: Vec<u64>) -> Result<Self, NoMemory>

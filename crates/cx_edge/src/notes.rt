@@ -12,7 +12,7 @@ use std::alloc::Global;
 use std::collections::VecDeque;
 use std::marker::Model;
 
-/// A datagram of somebody else, which is put in front of the queue before the take with this number.
+/// A datagram from outside, which is put before all that wait just before the take with this number.
 #[derive(Drop)]
 pub struct Front {
     pub before: u64,
@@ -20,7 +20,7 @@ pub struct Front {
 }
 
 /// How much a link in memory can note.
-#[derive(Clone, Copy, Debug)]
+#[derive(Clone, Copy)]
 pub struct LinkRoom {
     /// Binds that succeed.
     pub binds: usize,
@@ -62,7 +62,7 @@ fn queue(waiting: &mut VecDeque<Piece>, piece: Piece, is_lost: bool)
     }
 }
 
-/// Puts the datagram in front if it is one of this number.
+/// Puts the datagram before all that wait if it has this number.
 fn put_one(waiting: &mut VecDeque<Piece>, front: &FrontRow, call: u64)
     ensures { (n : ℕ) → FrontFits n front.now → All (Fits n) waiting.old.items → All (Fits n) waiting.new.items }
 {
@@ -71,7 +71,7 @@ fn put_one(waiting: &mut VecDeque<Piece>, front: &FrontRow, call: u64)
     }
 }
 
-/// Puts the datagrams of this number in front.
+/// Puts the datagrams of this number before all that wait.
 fn put_all(waiting: &mut VecDeque<Piece>, fronts: &[FrontRow], call: u64)
     ensures { (n : ℕ) → All (FrontFits n) fronts.now → All (Fits n) waiting.old.items → All (Fits n) waiting.new.items }
 {
@@ -117,7 +117,7 @@ impl Notes {
         true
     }
 
-    /// Puts those in front that come before the take with this number. It takes no memory.
+    /// Puts those before all that wait that come before the take with this number. It takes no memory.
     pub(crate) fn put_in_front(&mut self, call: u64)
         ensures taken { self.new.taken ≡ self.old.taken }
         ensures sent { self.new.sent ≡ self.old.sent }
@@ -149,7 +149,7 @@ impl Notes {
     }
 }
 
-/// How many bytes the fronts have.
+/// How many bytes the datagrams have that are put in front.
 fn bytes_in(fronts: &[Front]) -> usize {
     let mut count = 0usize;
     for front in fronts {
@@ -158,7 +158,7 @@ fn bytes_in(fronts: &[Front]) -> usize {
     count
 }
 
-/// Adds the bytes of each front, and says where they stand.
+/// Adds the bytes of each datagram that is put in front, and says where they are.
 fn front_rows(
     alloc: Global,
     bytes: &mut Vec<u8>,

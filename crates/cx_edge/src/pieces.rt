@@ -2,7 +2,7 @@
 
 use cx_base::RoleId;
 
-/// So many bytes from a place on.
+/// A number of bytes from a place on.
 #[derive(Clone, Copy)]
 pub(crate) struct Piece {
     pub(crate) start: usize,
@@ -17,7 +17,7 @@ pub(crate) struct SentRow {
     pub(crate) piece: Piece,
 }
 
-/// What is put in front of the queue before the take with this number.
+/// What is put before all that wait just before the take with this number.
 #[derive(Clone, Copy)]
 pub(crate) struct FrontRow {
     pub(crate) before: u64,

@@ -5,10 +5,10 @@ ghost use Rattle.cx_base.specs.Faults.{Rises};
 ghost use Rattle.cx_edge.specs.declared.sink.WriteEnd.TheVariants.{Failed};
 ghost use Rattle.cx_edge.specs.Sink.{Writes, WriteKeepsCount, WritesAll};
 
-/// So many bytes were taken, or the write failed.
+/// This many bytes were taken, or the write failed.
 #[derive(Clone, Copy, Debug, PartialEq, Eq)]
 pub enum WriteEnd {
-    /// So many bytes, from the front of the piece.
+    /// The first bytes of the piece, this many.
     Took(usize),
     /// None, and the fault was counted.
     Failed,
@@ -16,14 +16,14 @@ pub enum WriteEnd {
 
 /// What takes bytes in pieces, by writes that may fail.
 pub trait Sink {
-    /// The bytes that it has taken, where the sink tells them.
+    /// The bytes that it has taken, where they are known.
     ghost taken: { Self → Option (List ℕ) };
 
     /// How often it has failed.
     ghost faults: { Self → ℕ };
 
-    /// Takes bytes from the front of a piece, of one that isn't empty at least one. Where it fails nothing is taken, and
-    /// the count of faults rises (or stands at its end); else the count stays.
+    /// Takes the first bytes of a piece, of one that isn't empty at least one. Where it fails nothing is taken, and the
+    /// count of faults rises (or is at its end); else the count stays.
     fn write(&mut self, piece: &[u8]) -> WriteEnd
         ensures bytes { Writes (taken self.old) (taken self.new) result piece.now }
         ensures cause { result ≡ Failed → Rises (faults self.old) (faults self.new) }
@@ -31,8 +31,8 @@ pub trait Sink {
         ensures later { faults self.old ≤ faults self.new };
 }
 
-/// Writes all bytes, and answers whether no write failed. Where one failed a part of the bytes, from the front, is
-/// written and the count of faults has risen (or stands at its end); else the count stays.
+/// Writes all bytes, and returns whether no write failed. Where one failed, a prefix of the bytes is written and the count
+/// of faults has risen (or is at its end); else the count stays.
 pub fn write_all<W: Sink>(sink: &mut W, bytes: &[u8]) -> bool
     ensures bytes { WritesAll (W.taken sink.old) (W.taken sink.new) result bytes.now }
     ensures cause { result ≡ false → Rises (W.faults sink.old) (W.faults sink.new) }

@@ -105,7 +105,7 @@ pub(crate) fn roles_of(alloc: Global, stores: &[(RoleId, MemDisk)]) -> Result<Ve
     Ok(roles)
 }
 
-/// A place for each store, with room for a copy of so many bytes.
+/// A place for each store, with room for a copy of `room` bytes.
 pub(crate) fn slots_for(
     alloc: Global,
     stores: Vec<(RoleId, MemDisk)>,

@@ -7,10 +7,10 @@ ghost use Rattle.cx_edge.specs.Source.{Reads, ReadKeepsCount, ReadsAll, ReadAllT
 
 use std::alloc::{AllocError, Global};
 
-/// So many bytes were read, or the read failed.
+/// This many bytes were read, or the read failed.
 #[derive(Clone, Copy, Debug, PartialEq, Eq)]
 pub enum ReadEnd {
-    /// So many bytes, which stand at the front of the buffer.
+    /// This many bytes, which are now the first of the buffer.
     Got(usize),
     /// None, and the fault was counted.
     Failed,
@@ -18,14 +18,14 @@ pub enum ReadEnd {
 
 /// Bytes that come in pieces, and reads that may fail.
 pub trait Source {
-    /// The bytes that are left, where the source tells them.
+    /// The bytes that are left, where they are known.
     ghost left: { Self → Option (List ℕ) };
 
     /// How often it has failed.
     ghost faults: { Self → ℕ };
 
-    /// Reads the next bytes into the front of the buffer; no bytes, for a buffer that isn't empty, are the end. Where it
-    /// fails nothing is lost, and the count of faults rises (or stands at its end); else the count stays.
+    /// Reads the next bytes into the start of the buffer; no bytes, for a buffer that isn't empty, are the end. Where it
+    /// fails nothing is lost, and the count of faults rises (or is at its end); else the count stays.
     fn read(&mut self, buffer: &mut [u8]) -> ReadEnd
         ensures bytes { Reads (left self.old) (left self.new) result buffer.new }
         ensures cause { result ≡ Failed → Rises (faults self.old) (faults self.new) }
@@ -33,23 +33,23 @@ pub trait Source {
         ensures later { faults self.old ≤ faults self.new };
 }
 
-/// What a whole reading came to.
+/// The result of a whole reading.
 #[derive(Drop)]
 pub enum ReadAll {
     /// These are all bytes that were left.
     Whole(Vec<u8>),
-    /// These are more bytes than the limit, and there may be others behind them.
+    /// These are more bytes than the limit, and there may be others after them.
     TooLong(Vec<u8>),
-    /// Behind these bytes a read failed.
+    /// A read failed after these bytes.
     Failed(Vec<u8>),
-    /// Memory is wanting.
+    /// Out of memory.
     NoMemory,
 }
 
 const PIECE: usize = 4096;
 
-/// Reads all bytes that are left, or more than so many, and hands out what it has read. `Failed` comes exactly where a read
-/// failed, and only then the count of faults changes. For want of memory the bytes that it has read are lost.
+/// Reads all bytes that are left, or more than `limit`, and returns what it has read. `Failed` comes exactly where a read
+/// failed, and only then the count of faults changes. Out of memory, the bytes that it has read are lost.
 pub fn read_all<S: Source>(alloc: Global, source: &mut S, limit: usize) -> ReadAll
     ensures bytes { ReadsAll limit (S.left source.old) (S.left source.new) result }
     ensures cause { ReadAllTellsFault result (S.faults source.old) (S.faults source.new) }

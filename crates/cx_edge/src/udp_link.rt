@@ -1,16 +1,21 @@
 //! A link over UDP sockets of this machine.
 
 ghost use Rattle.std.specs.Prelude.{◌≡◌, None, IfOk};
-ghost use Rattle.cx_edge.specs.UdpLink.{TakenFits};
+ghost use Rattle.cx_edge.specs.UdpLink.{EndsAs, TakenFits};
 
 use crate::{Link, TakeEnd};
 use cx_base::{Faults, NoMemory, RoleId};
 use cx_disk::Failed;
-use std::alloc::Global;
+use mio::net::UdpSocket;
+use mio::{Events, Interest, Poll, Token};
+use std::alloc::{Allocator, Global};
 use std::io;
 use std::io::ErrorKind;
 use std::marker::Model;
-use std::net::{Ipv4Addr, Net, SocketAddr, UdpSocket};
+use std::net::{Ipv4Addr, Net, SocketAddr};
+use std::rt::Clock;
+use std::thread::sleep;
+use std::time::Duration;
 
 /// A role and its socket.
 #[derive(Drop)]
@@ -19,12 +24,18 @@ struct Bound {
     socket: UdpSocket,
 }
 
-/// Carries datagrams over one socket of 127.0.0.1 for each bound role, and never waits. It tells no histories.
+/// Carries datagrams over one socket of 127.0.0.1 for each bound role. While datagrams come, a take doesn't wait. Where none
+/// comes, it waits for one, a millisecond at most, and asks no socket where the wait reported none. Its history isn't known.
 #[derive(Drop)]
 pub struct UdpLink<N> {
     net: N,
+    poll: Option<Poll>,
+    events: Events<Global>,
     sockets: Vec<Bound>,
     first: usize,
+    // Whether the last take found nothing, and how many waits since then asked no socket.
+    is_calm: bool,
+    unasked: u32,
     faults: Faults,
     losses: Faults,
 }
@@ -37,17 +48,23 @@ impl<N> Model for UdpLink<N> {
     ghost view = { λ l. record { faults = l.faults; losses = l.losses } };
 }
 
-impl<N> UdpLink<N> {
-    /// The link with no role bound and room for so many. All memory is taken here, none by a call.
+impl<N: Net> UdpLink<N> {
+    /// The link with no role bound and room for `room` roles. All memory is taken here, none by a call.
     pub fn new(alloc: Global, net: N, room: usize) -> Result<Self, NoMemory>
     where
         N: Drop,
         ensures { IfOk result (λ link. link ≡ record { faults = 0; losses = 0 }) }
     {
+        // Without a poll, as where the system has no more file descriptors, each bind fails.
+        let poll = Poll::new(&net).ok();
         Ok(UdpLink {
+            poll,
+            events: Events::with_capacity(alloc, 64)?,
             net,
             sockets: Vec::with_capacity(alloc, room)?,
             first: 0,
+            is_calm: false,
+            unasked: 0,
             faults: Faults::none(),
             losses: Faults::none(),
         })
@@ -58,11 +75,24 @@ fn local(port: u16) -> SocketAddr {
     SocketAddr::from((Ipv4Addr::LOCALHOST, port))
 }
 
-/// A socket at this port that never waits.
+/// A socket at this port, which doesn't wait.
 fn opened<N: Net>(net: &N, port: u16) -> io::Result<UdpSocket> {
-    let socket = UdpSocket::bind(net, local(port))?;
-    socket.set_nonblocking(true)?;
-    Ok(socket)
+    UdpSocket::bind(net, local(port))
+}
+
+/// Has a datagram that comes to the socket end a wait, and says whether that succeeded.
+fn is_registered(poll: &Option<Poll>, socket: &mut UdpSocket) -> bool {
+    match poll {
+        Some(poll) => poll
+            .registry()
+            .register(socket, Token(0), Interest::READABLE)
+            .is_ok(),
+        None => false,
+    }
+}
+
+fn is_bound(sockets: &[Bound], role: RoleId) -> bool {
+    sockets.iter().any(|bound| role.is(bound.role))
 }
 
 /// Sends from the role's socket, and says whether all bytes were taken.
@@ -78,20 +108,28 @@ fn is_sent(sockets: &[Bound], from: RoleId, port: u16, bytes: &[u8]) -> bool {
     false
 }
 
-/// Takes a datagram from one socket. An answer of the network to an earlier send is no datagram, and no fault.
+/// What a take answers where a socket gave an error of this kind. That nothing is there is no fault, nor is an answer of the
+/// network to an earlier send.
+fn end_of(kind: ErrorKind) -> TakeEnd
+    ensures { EndsAs kind result }
+{
+    match kind {
+        ErrorKind::WouldBlock
+        | ErrorKind::ConnectionRefused
+        | ErrorKind::ConnectionReset
+        | ErrorKind::HostUnreachable
+        | ErrorKind::NetworkUnreachable => TakeEnd::Nothing,
+        _ => TakeEnd::Failed,
+    }
+}
+
+/// Takes a datagram from one socket.
 fn received(socket: &UdpSocket, buffer: &mut [u8]) -> TakeEnd
     ensures { TakenFits buffer.new result }
 {
     match socket.recv_from(buffer) {
         Ok((count, _)) => TakeEnd::Got(count),
-        Err(error) => match error.kind() {
-            ErrorKind::WouldBlock
-            | ErrorKind::ConnectionRefused
-            | ErrorKind::ConnectionReset
-            | ErrorKind::HostUnreachable
-            | ErrorKind::NetworkUnreachable => TakeEnd::Nothing,
-            _ => TakeEnd::Failed,
-        },
+        Err(error) => end_of(error.kind()),
     }
 }
 
@@ -113,7 +151,43 @@ fn asked_in_turn(sockets: &[Bound], first: usize, buffer: &mut [u8]) -> (usize, 
     (first, TakeEnd::Nothing)
 }
 
-impl<N: Net> Link for UdpLink<N> {
+/// How long the first take that finds nothing lets further datagrams gather, in microseconds.
+const GATHER: u64 = 50;
+
+/// How long each further one waits, in microseconds.
+const WAIT: u64 = 1_000;
+
+/// After so many waits without an event the sockets are asked all the same.
+const UNASKED: u32 = 16;
+
+/// Waits for a datagram, for at most this time, and says whether one may have come; without a poll it can't tell. An event only
+/// ends the wait, since the poll reports each one once: which sockets have a datagram is asked of the sockets. A failure ends it
+/// too, and drops no event.
+fn wait<A: Allocator>(poll: &mut Option<Poll>, events: &mut Events<A>, micros: u64) -> bool {
+    let Some(poll) = poll else {
+        return true;
+    };
+    let _ = poll.poll(events, Some(Duration::from_micros(micros)));
+    !events.is_empty()
+}
+
+impl<N> UdpLink<N> {
+    // Waits for a datagram, and says whether the sockets are to be asked. No socket had one before the wait, so where it ends
+    // without an event none has; but an error of the network hides a datagram that came after it, until the sockets are asked again.
+    fn is_due(&mut self) -> bool
+        ensures { self.new ≡ self.old }
+    {
+        let has_come = wait(&mut self.poll, &mut self.events, WAIT);
+        if !has_come && self.unasked < UNASKED {
+            self.unasked += 1;
+            return false;
+        }
+        self.unasked = 0;
+        true
+    }
+}
+
+impl<N: Net + Clock> Link for UdpLink<N> {
     ghost told = { λ l. None };
 
     ghost faults = { λ l. l.faults };
@@ -121,10 +195,12 @@ impl<N: Net> Link for UdpLink<N> {
     ghost losses = { λ l. l.losses };
 
     fn bind(&mut self, role: RoleId, port: u16) -> Result<(), Failed> {
-        if self.sockets.len() < self.sockets.capacity() {
-            if let Ok(socket) = opened(&self.net, port) {
-                self.sockets.push_reserved(Bound { role, socket });
-                return Ok(());
+        if self.sockets.len() < self.sockets.capacity() && !is_bound(&self.sockets, role) {
+            if let Ok(mut socket) = opened(&self.net, port) {
+                if is_registered(&self.poll, &mut socket) {
+                    self.sockets.push_reserved(Bound { role, socket });
+                    return Ok(());
+                }
             }
         }
         self.faults.add();
@@ -140,8 +216,24 @@ impl<N: Net> Link for UdpLink<N> {
     }
 
     fn take(&mut self, buffer: &mut [u8]) -> TakeEnd {
-        let (first, end) = asked_in_turn(&self.sockets, self.first, buffer);
+        let (mut first, mut end) = (self.first, TakeEnd::Nothing);
+        if self.is_calm {
+            if !self.is_due() {
+                return TakeEnd::Nothing;
+            }
+        } else {
+            (first, end) = asked_in_turn(&self.sockets, first, buffer);
+            if let TakeEnd::Nothing = end {
+                // What is on its way to a batcher may fill a batch. The wait drops the events of what was already taken.
+                sleep(&self.net, Duration::from_micros(GATHER));
+                wait(&mut self.poll, &mut self.events, 0);
+            }
+        }
+        if let TakeEnd::Nothing = end {
+            (first, end) = asked_in_turn(&self.sockets, first, buffer);
+        }
         self.first = first;
+        self.is_calm = matches!(end, TakeEnd::Nothing);
         if let TakeEnd::Failed = end {
             self.faults.add();
         }

@@ -18,8 +18,10 @@ use Rattle.cx_base.specs.declared.command.Reply.TheVariants.{Okay, Was, Absent, 
 use Rattle.cx_wire.specs.Format.{bad, ◌>>=◌, u8, u16, u32, u64, only, whole, then_by, ◌▷◌, nothing, each_read, times}
 use Rattle.cx_wire.proofs.Laws.{IsExact, bind_ok, guard_ok, ok_is, u8-exact, u16-exact, u32-exact, u64-exact, only-exact, whole-exact, then_by-exact, ▷-exact, nothing-exact, shaped-exact, times-exact, counted-exact, case-sound, case-again, AllSound, tagged-exact, ReadsAgain, both}
 use Rattle.cx_field.specs.declared.parts.Entry.{Entry}
+use Rattle.cx_field.specs.declared.parts.NackReason.{NackReason}
+use Rattle.cx_field.specs.declared.parts.NackReason.TheVariants as nack
 use Rattle.cx_field.specs.declared.parts.Vote.{Vote}
-use Rattle.cx_field.specs.Fields.{slot, mark, at, seq, round_fields, round, round0, member, grid, name_byte, name, allowed, floor_below, told_shape, floor_cases, told_cases, told_op, told_floor, meant_floor, make_command, command_parts, command_with, command, commands_with, commands, value_shape, value_cases, value_with, value, reply_len, reply_shape, reply_cases, reply, values, last_passes, in_window, entry, entries, vote_with, votes_with, votes, answered, answers, found_shape, found_cases, found, reason, token}
+use Rattle.cx_field.specs.Fields.{slot, mark, at, seq, round_fields, round, round0, member, grid, name_byte, name, allowed, floor_below, told_shape, floor_cases, told_cases, told_op, told_floor, meant_floor, make_command, command_parts, command_with, command, commands_with, commands, value_shape, value_cases, value_with, value, reply_len, reply_shape, reply_cases, reply, values, last_passes, in_window, entry, entries, vote_with, votes_with, votes, answered, answers, found_shape, found_cases, found, reason_shape, reason_cases, reason, token}
 
 pub slot-exact : IsExact slot
 unfolding slot
@@ -75,7 +77,7 @@ grid-exact =
     (λ cols _. times-exact (rows * cols) member member-exact)))
     (λ x _. refl) (λ g. refl)
 
-name_byte-exact : IsExact name_byte
+pub name_byte-exact : IsExact name_byte
 unfolding name_byte
 name_byte-exact = only-exact is_name_byte u8 u8-exact
 
@@ -306,9 +308,25 @@ found-exact = tagged-exact found_shape found_cases (
   (case-sound found_shape 1 (name 64) (λ x. Some x) (name-exact 64) (λ _. refl), tt),
 ) found-small found-again
 
+reason-small : (x : NackReason) → (reason_shape x).tag < 256
+reason-small nack.Collected = lit< tt
+reason-small nack.Later = lit< tt
+reason-small nack.Full = lit< tt
+
+reason-again : (x : NackReason) → ReadsAgain reason_shape reason_cases x
+reason-again nack.Collected left rest fits = refl
+reason-again nack.Later left rest fits = refl
+reason-again nack.Full left rest fits = refl
+
 pub reason-exact : IsExact reason
 unfolding reason
-reason-exact = only-exact (λ n. nat_le n 2) u8 u8-exact
+reason-exact = tagged-exact reason_shape reason_cases (
+  case-sound reason_shape 0 nothing (λ _. nack.Collected) nothing-exact (λ _. refl),
+  (
+    case-sound reason_shape 1 nothing (λ _. nack.Later) nothing-exact (λ _. refl),
+    (case-sound reason_shape 2 nothing (λ _. nack.Full) nothing-exact (λ _. refl), tt),
+  ),
+) reason-small reason-again
 
 pub token-exact : IsExact token
 unfolding token

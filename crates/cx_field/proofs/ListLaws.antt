@@ -144,7 +144,7 @@ entries_filter p xs h =
     let t = entries_apart xs h in
     entries_fit (filter p xs) (omega (arith, t.0, length-filter p xs)) (list_all-filter p (λ x. entry_in_range x) xs t.1) (rises-filter p (λ (e : Entry) (later : Entry). is_before e.round later.round) xs t.2)
 
--- one more behind them
+-- one more after them
 pub entries_snoc : (xs : List Entry) (x : Entry) → IsTrue (entries.fits xs) → length xs < 17 → IsTrue (entry_in_range x) → IsTrue (list_all (λ y. (λ (e : Entry) (later : Entry). is_before e.round later.round) y x) xs) → IsTrue (entries.fits (xs ++ x ∷ []))
 entries_snoc xs x h room fine last =
     let t = entries_apart xs h in
@@ -152,7 +152,7 @@ entries_snoc xs x h room fine last =
     (list_all-append (λ y. entry_in_range y) xs (x ∷ []) ∙ join _ _ t.1 (join (entry_in_range x) true fine refl))
     (rises-snoc (λ (e : Entry) (later : Entry). is_before e.round later.round) x xs t.2 last)
 
--- one more in front of them
+-- one more before them
 pub entries_cons : (x : Entry) (xs : List Entry) → IsTrue (entries.fits xs) → length xs < 17 → IsTrue (entry_in_range x) → IsTrue (list_all (λ y. (λ (e : Entry) (later : Entry). is_before e.round later.round) x y) xs) → IsTrue (entries.fits (x ∷ xs))
 entries_cons x xs h room fine first =
     let t = entries_apart xs h in
@@ -200,7 +200,7 @@ votes_filter cw p xs h =
     let t = votes_apart cw xs h in
     votes_fit cw (filter p xs) (omega (arith, t.0, length-filter p xs)) (list_all-filter p (λ x. vote_in_range cw x) xs t.1) (rises-filter p (λ (v : Vote) (later : Vote). nat_lt v.slot later.slot) xs t.2)
 
--- one more behind them
+-- one more after them
 pub votes_snoc : (cw : ℕ) (xs : List Vote) (x : Vote) → IsTrue ((votes cw).fits xs) → length xs < 32 → IsTrue (vote_in_range cw x) → IsTrue (list_all (λ y. (λ (v : Vote) (later : Vote). nat_lt v.slot later.slot) y x) xs) → IsTrue ((votes cw).fits (xs ++ x ∷ []))
 votes_snoc cw xs x h room fine last =
     let t = votes_apart cw xs h in
@@ -208,7 +208,7 @@ votes_snoc cw xs x h room fine last =
     (list_all-append (λ y. vote_in_range cw y) xs (x ∷ []) ∙ join _ _ t.1 (join (vote_in_range cw x) true fine refl))
     (rises-snoc (λ (v : Vote) (later : Vote). nat_lt v.slot later.slot) x xs t.2 last)
 
--- one more in front of them
+-- one more before them
 pub votes_cons : (cw : ℕ) (x : Vote) (xs : List Vote) → IsTrue ((votes cw).fits xs) → length xs < 32 → IsTrue (vote_in_range cw x) → IsTrue (list_all (λ y. (λ (v : Vote) (later : Vote). nat_lt v.slot later.slot) x y) xs) → IsTrue ((votes cw).fits (x ∷ xs))
 votes_cons cw x xs h room fine first =
     let t = votes_apart cw xs h in

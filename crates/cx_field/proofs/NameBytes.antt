@@ -1,7 +1,16 @@
 -- The next byte of a name.
 use Rattle.std.proofs.Common.{◌≡◌, ℕ, zero, suc, ◌+◌, ◌≤◌, List, [], ◌∷◌, ◌++◌, length, take, drop, refl, sym, ap, ◌∙◌, subst, get_or, ◌<◌, ◌%◌, arith}
-use Rattle.cx_wire.specs.Format.{each_spell, u8}
+use Rattle.std.proofs.Common.{Ok, true, lit<}
+use Rattle.std.proofs.lemmas.Bool.{eq-eqb}
+use Rattle.std.proofs.lemmas.Bool.Decides.{nat_tests}
+use Rattle.std.proofs.lemmas.List.{length-take, take-append-drop}
+use Rattle.std.specs.List.{list_all}
+use Rattle.cx_base.specs.Name.{is_name_byte}
+use Rattle.cx_wire.specs.Format.{Format, each_read, each_spell, u8}
+use Rattle.cx_wire.proofs.Laws.{both, times-exact}
 use Rattle.cx_field.specs.Fields.{name_byte}
+use Rattle.cx_field.proofs.FieldLaws.{name_byte-exact}
+use Rattle.cx_field.proofs.RangeLaws.{bytes_fit}
 
 next_suc : (i : ℕ) (bytes : List ℕ) (b : ℕ) (after : List ℕ) → drop i bytes ≡ b ∷ after → (suc i ≤ length bytes) × (after ≡ drop (suc i) bytes) × (take (suc i) bytes ≡ take i bytes ++ b ∷ [])
 next_suc zero [] b after e = absurd cc
@@ -28,3 +37,23 @@ bytes_spell (x ∷ xs) before small =
     let same : x % 256 ≡ x = omega arith in
     let rest : each_spell (λ (_ : List ℕ). name_byte) (before ++ x ∷ []) xs ≡ xs = bytes_spell xs (before ++ x ∷ []) (λ i. small (suc i)) in
     rw (same, rest) refl
+
+are_bytes : (xs : List ℕ) → list_all is_name_byte xs ≡ true → (i : ℕ) → get_or xs i 0 < 256
+are_bytes [] all i = lit< tt
+are_bytes (x ∷ xs) all zero =
+    let p = both (is_name_byte x) (list_all is_name_byte xs) all in
+    grind (arith, nat_tests, p.0)
+are_bytes (x ∷ xs) all (suc i) =
+    let p = both (is_name_byte x) (list_all is_name_byte xs) all in
+    are_bytes xs p.1 i
+
+-- the bytes of a name are read from the front
+pub all_read : (count : ℕ) (bytes : List ℕ) → count ≤ length bytes → list_all is_name_byte (take count bytes) ≡ true → each_read (λ _. name_byte) [] count bytes ≡ Ok (take count bytes, drop count bytes)
+all_read count bytes le all =
+    let f : List ℕ → Format ℕ = λ _. name_byte in
+    let xs = take count bytes in
+    let rest = drop count bytes in
+    let len : length xs ≡ count = omega (arith, length-take count bytes) in
+    let again = (times-exact count f (λ _. name_byte-exact)).again xs rest (rw (eq-eqb (length xs) count len, bytes_fit xs [] all) refl) in
+    let spelled : each_spell f [] xs ++ rest ≡ bytes = ap (λ (ys : List ℕ). ys ++ rest) (bytes_spell xs [] (are_bytes xs all)) ∙ take-append-drop count bytes in
+    ap (each_read f [] count) (sym spelled) ∙ again

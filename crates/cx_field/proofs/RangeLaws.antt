@@ -37,7 +37,7 @@ grid_in_range s g small =
     let cols : s.cols < 256 = grind (arith, g.some_row, g.some_col, g.room) in
     rw (byte_fits s.rows rows, at_most 1 s.rows g.some_row, byte_fits s.cols cols, at_most 1 s.cols g.some_col, at_most (s.rows * s.cols) 16 g.room, eq-eqb _ _ g.count, members_fit [] s.members g.once small) refl
 
-bytes_fit : (bytes before : List ℕ) → list_all is_name_byte bytes ≡ true → each_fits (λ _. name_byte) before bytes ≡ true
+pub bytes_fit : (bytes before : List ℕ) → list_all is_name_byte bytes ≡ true → each_fits (λ _. name_byte) before bytes ≡ true
 unfolding each_fits name_byte
 bytes_fit [] before each = refl
 bytes_fit (b ∷ bs) before each =

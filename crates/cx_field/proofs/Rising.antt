@@ -41,7 +41,7 @@ all_last test [] h = refl
 all_last test (y ∷ []) h = (both (test y) true h).0
 all_last test (y ∷ z ∷ zs) h = last_step test y z zs ∙ all_last test (z ∷ zs) (both (test y) (list_all test (z ∷ zs)) h).1
 
--- rising values, all of them before x, rise with x behind them
+-- rising values, all of them before x, rise with x after them
 pub rises-snoc : {A : Type 0} (before : A → A → Bool) (x : A) (front : List A) → rises before front ≡ true → list_all (λ y. before y x) front ≡ true → rises before (front ++ x ∷ []) ≡ true
 rises-snoc before x [] r h = refl
 rises-snoc before x (y ∷ ys) r h =

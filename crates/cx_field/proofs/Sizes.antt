@@ -15,8 +15,10 @@ use Rattle.cx_base.specs.declared.command.Reply.TheVariants as replies
 use Rattle.cx_wire.specs.Format.{u8, u16, u32, u64, only, whole, then_by, ◌▷◌, times}
 use Rattle.cx_wire.proofs.Laws.{both}
 use Rattle.cx_wire.proofs.Sizes.{IsShort, u8-short, u16-short, u32-short, u64-short, weaker, only-short, whole-short, then_by-short, ▷-short, shaped-short, times-short, counted-short, tagged-short}
-use Rattle.cx_field.specs.Fields.{slot, mark, seq, at, round_fields, round, round0, member, grid, name_byte, name, floor_below, told_shape, told_cases, told_op, make_command, command_parts, command_with, command, commands_with, commands, value_shape, value_cases, value_with, value, reply_len, reply_shape, reply_cases, reply, last_passes, in_window, entry, entries, vote_with, votes_with, votes, answered, answers, found_shape, found_cases, found, reason, token}
+use Rattle.cx_field.specs.Fields.{slot, mark, seq, at, round_fields, round, round0, member, grid, name_byte, name, floor_below, told_shape, told_cases, told_op, make_command, command_parts, command_with, command, commands_with, commands, value_shape, value_cases, value_with, value, reply_len, reply_shape, reply_cases, reply, last_passes, in_window, entry, entries, vote_with, votes_with, votes, answered, answers, found_shape, found_cases, found, reason_shape, reason_cases, reason, token}
 use Rattle.cx_field.specs.declared.parts.Entry.{Entry}
+use Rattle.cx_field.specs.declared.parts.NackReason.{NackReason}
+use Rattle.cx_field.specs.declared.parts.NackReason.TheVariants as nack
 use Rattle.cx_field.specs.declared.parts.Vote.{Vote}
 
 at_most : (n k : ℕ) → nat_le n k ≡ true → n ≤ k
@@ -181,9 +183,14 @@ pub found-short : IsShort found 66
 unfolding found
 found-short = tagged-short found_shape found_cases 65 found-sizes
 
+reason-sizes : (x : NackReason) → (reason_shape x).fits ≡ true → length (reason_shape x).bytes ≤ 0
+reason-sizes nack.Collected h = omega arith
+reason-sizes nack.Later h = omega arith
+reason-sizes nack.Full h = omega arith
+
 pub reason-short : IsShort reason 1
 unfolding reason
-reason-short = only-short (λ n. nat_le n 2) u8 1 u8-short
+reason-short = tagged-short reason_shape reason_cases 0 reason-sizes
 
 pub token-short : IsShort token 10
 unfolding token

@@ -1,4 +1,4 @@
--- The fields of messages and records: what bytes stand for each, and which values each may have.
+-- The fields of messages and records: which bytes spell each, and which values each may have.
 use Rattle.std.specs.Prelude.{ℕ, ◌+◌, ◌-◌, ◌*◌, ◌^◌, Bool, true, false, ◌&&◌, ◌||◌, not, ◌==◌, nat_lt, nat_le, List, [], ◌∷◌, length, Option, Some, None, slice_get, if◌then◌else◌}
 use Rattle.std.specs.Option.{option_map_or}
 use Rattle.cx_base.specs.Asked.{floor_fits}
@@ -15,6 +15,8 @@ use Rattle.cx_base.specs.declared.command.Reply.{Reply}
 use Rattle.cx_base.specs.declared.command.Reply.TheVariants.{Okay, Was, Absent, Len, Full}
 use Rattle.cx_base.specs.declared.command.Answered.{Answered}
 use Rattle.cx_field.specs.declared.parts.Entry.{Entry}
+use Rattle.cx_field.specs.declared.parts.NackReason.{NackReason}
+use Rattle.cx_field.specs.declared.parts.NackReason.TheVariants as nack
 use Rattle.cx_field.specs.declared.parts.Vote.{Vote}
 use Rattle.cx_field.specs.declared.parts.Token.{Token}
 use Rattle.cx_wire.specs.Format.{Format, u8, u16, u32, u64, only, whole, then_by, ◌▷◌, nothing, shaped, times, counted, Shape, shape, Case, case, tagged}
@@ -47,7 +49,7 @@ round = only (λ r. nat_le 1 r.r) (whole 10 round_fields)
 unfoldable pub round0 : Format Round
 round0 = only (λ r. nat_le 1 r.r || (r.r == 0 && r.id == 0 && r.s == 0)) (whole 10 round_fields)
 
--- a member of a grid, after others: none stands twice
+-- a member of a grid, after others: none is there twice
 unfoldable pub member : List ℕ → Format ℕ
 member before = only (λ id. not (is_in id before)) u16
 
@@ -62,7 +64,7 @@ grid = shaped (λ x. make_grid x.0 x.1.0 x.1.1) (λ g. (g.rows, (g.cols, g.membe
 unfoldable pub name_byte : Format ℕ
 name_byte = only is_name_byte u8
 
--- a key or a text of at most so many bytes
+-- a key or a text of at most n bytes
 unfoldable pub name : ℕ → Format (List ℕ)
 name limit = counted (only (λ n. nat_le 1 n && nat_le n limit) u8) (λ _. name_byte)
 
@@ -232,9 +234,19 @@ found_cases = case 0 nothing (λ _. None) ∷ case 1 (name 64) (λ x. Some x) �
 unfoldable pub found : Format (Option (List ℕ))
 found = tagged found_shape found_cases
 
--- why a matchmaker refuses: 0, 1 or 2
-unfoldable pub reason : Format ℕ
-reason = only (λ n. nat_le n 2) u8
+-- why a matchmaker refuses a round: 0 it is collected, 1 a later one is recorded, 2 there is no room
+abbrev pub reason_shape : NackReason → Shape
+reason_shape nack.Collected = shape 0 nothing tt
+reason_shape nack.Later = shape 1 nothing tt
+reason_shape nack.Full = shape 2 nothing tt
+
+-- how each reason is read
+abbrev pub reason_cases : List (Case NackReason)
+reason_cases = case 0 nothing (λ _. nack.Collected) ∷ case 1 nothing (λ _. nack.Later) ∷ case 2 nothing (λ _. nack.Full) ∷ []
+
+-- why a matchmaker refuses a round
+unfoldable pub reason : Format NackReason
+reason = tagged reason_shape reason_cases
 
 -- a read: its client and its number
 unfoldable pub token : Format Token

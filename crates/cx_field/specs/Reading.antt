@@ -15,6 +15,6 @@ abbrev pub Gives : {X Y : Type 0} → (X → Y) → Result X ReadFault → Resul
 Gives view (Ok x) read rest = read ≡ Ok (view x, rest)
 Gives view (Err e) read rest = Fails e read
 
--- a field is read from the front of old, and new is left
+-- a field is read from the start of old, and new is left
 abbrev pub Reads : {X : Type 0} → Format X → List ℕ → Result X ReadFault → List ℕ → Type 0
 Reads f old result new = Gives (λ x. x) result (f.read old) new

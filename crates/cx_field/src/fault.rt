@@ -11,13 +11,13 @@ use thiserror::Error;
 /// Why fields could not be read.
 #[derive(Clone, Copy, Debug, PartialEq, Eq, Error)]
 pub enum ReadFault {
-    /// The first bad field is out of its range; so many bytes are left from it on.
+    /// The first bad field is out of its range; this many bytes are left from it on.
     #[error("a bad field, {left} bytes before the end")]
     Bad { left: usize },
-    /// The first bad field takes `need` bytes, and only so many are left from it on.
+    /// The first bad field takes `need` bytes, and fewer are left from it on.
     #[error("{left} bytes for a field of {need}")]
     Cut { left: usize, need: usize },
-    #[error("memory is wanting")]
+    #[error("out of memory")]
     NoMemory,
 }
 

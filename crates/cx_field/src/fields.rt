@@ -1,4 +1,4 @@
-//! The fields of messages and records, read from the front of bytes. Each call takes its field's bytes off the reader, or answers
+//! The fields of messages and records, read from the start of bytes. Each call takes its field's bytes off the reader, or answers
 //! how many bytes are left from the first bad field on: `Bad` where a value is out of its range, `Cut` where a number or a round
 //! takes more bytes than there are. The formats are this project's own.
 
@@ -13,10 +13,10 @@ ghost use Rattle.cx_field.specs.Reading.{Reads, Gives};
 use crate::fault::ReadFault;
 use crate::items::{items_from, list_from};
 use crate::lists::{AnsweredItems, CommandItems, EntryItems, MemberItems, ValueItems, VoteItems};
-use crate::parts::{Answers, Entries, LogValues, Token, Votes};
+use crate::parts::{Answers, Entries, LogValues, NackReason, Token, Votes};
 use crate::reader::Reader;
 use cx_base::{
-    Command, Commands, Few, Grid, MEMBERS, Name, Op, Reply, Round, Text, Value, is_name_byte,
+    Command, Commands, Few, Grid, MEMBERS, Name, Op, Reply, Round, SLOTS, Text, Value, is_name_byte,
 };
 use std::alloc::Global;
 
@@ -27,7 +27,7 @@ pub fn slot_from(reader: &mut Reader<'_>) -> Result<u64, ReadFault>
 {
     let left = reader.left();
     let slot = reader.u64()?;
-    if slot >= 1 << 40 {
+    if slot >= SLOTS {
         return Err(ReadFault::Bad { left });
     }
     Ok(slot)
@@ -40,7 +40,7 @@ pub fn mark_from(reader: &mut Reader<'_>) -> Result<u64, ReadFault>
 {
     let left = reader.left();
     let mark = reader.u64()?;
-    if mark > 1 << 40 {
+    if mark > SLOTS {
         return Err(ReadFault::Bad { left });
     }
     Ok(mark)
@@ -53,7 +53,7 @@ pub fn at_from(reader: &mut Reader<'_>) -> Result<u64, ReadFault>
 {
     let left = reader.left();
     let at = reader.u64()?;
-    if at < 1 || at > 1 << 40 {
+    if at < 1 || at > SLOTS {
         return Err(ReadFault::Bad { left });
     }
     Ok(at)
@@ -159,13 +159,28 @@ pub fn name_from<const N: usize>(reader: &mut Reader<'_>) -> Result<Name<N>, Rea
     Ok(Name::new(name))
 }
 
-// The bytes of a name.
+// Whether all bytes are a name's. Each is looked at, whatever the others are, so that many are tested at once.
+fn are_name_bytes(bytes: &[u8]) -> bool
+    ensures { result ≡ list_all is_name_byte bytes.now }
+{
+    let mut all = true;
+    for byte in bytes {
+        all &= is_name_byte(*byte);
+    }
+    all
+}
+
+// The bytes of a name. Where they are refused, the letters one by one tell where the fault lies.
 fn name_bytes_from<'a>(count: usize, reader: &mut Reader<'a>) -> Result<&'a [u8], ReadFault>
     ensures read { Gives (λ x. x.now) result (wire.each_read (λ _. field.name_byte) [] count reader.old) reader.new }
     ensures len { IfOk result (λ x. length x.now ≡ count) }
     ensures names { IfOk result (λ x. IsTrue (list_all is_name_byte x.now)) }
 {
     let bytes = reader.bytes();
+    if bytes.len() >= count && are_name_bytes(&bytes[..count]) {
+        reader.skip(count);
+        return Ok(&bytes[..count]);
+    }
     for _ in 0..count {
         name_byte_from(reader)?;
     }
@@ -264,17 +279,18 @@ pub fn token_from(reader: &mut Reader<'_>) -> Result<Token, ReadFault>
     Ok(Token { client, seq })
 }
 
-/// Why a matchmaker refuses: a byte, 0, 1 or 2.
+/// Why a matchmaker refuses a round: a byte, 0 it is collected, 1 a later one is recorded, 2 there is no room.
 #[tactic(auto, unfolding(crate::specs::Fields::reason))]
-pub fn reason_from(reader: &mut Reader<'_>) -> Result<u8, ReadFault>
+pub fn reason_from(reader: &mut Reader<'_>) -> Result<NackReason, ReadFault>
     ensures { Reads field.reason reader.old result reader.new }
 {
     let left = reader.left();
-    let reason = reader.u8()?;
-    if reason > 2 {
-        return Err(ReadFault::Bad { left });
+    match reader.u8()? {
+        0 => Ok(NackReason::Collected),
+        1 => Ok(NackReason::Later),
+        2 => Ok(NackReason::Full),
+        _ => Err(ReadFault::Bad { left }),
     }
-    Ok(reason)
 }
 
 /// What a read found: a byte, 0 for nothing or 1 before a text.

@@ -9,7 +9,7 @@ use crate::reader::Reader;
 use cx_base::NoMemory;
 use std::alloc::Global;
 
-/// What may stand in a list, where the values before it are known.
+/// What may be in a list, where the values before it are known.
 pub trait Items {
     type Item;
 
@@ -28,13 +28,13 @@ pub trait Items {
     ) -> Result<Self::Item, ReadFault>
         ensures { Reads (format self.now before.now) reader.old result reader.new };
 
-    /// Appends a value, whatever stands before it.
+    /// Appends a value, whatever is before it.
     fn put_next(&self, item: &Self::Item, out: &mut Vec<u8>) -> Result<(), NoMemory>
         ensures bytes { OnOk result ((before : List Self.Item) → out.new.items ≡ out.old.items ++ (format self.now before).spell item.now) }
         ensures room { OnOk result (length out.new.items ≤ length out.old.items + most) };
 }
 
-/// Reads so many values.
+/// Reads `count` values.
 pub fn items_from<I: Items>(
     alloc: Global,
     items: &I,
@@ -46,7 +46,7 @@ where
     ensures read { Gives (λ v. v.items) result (each_read (I.format items.now) [] count reader.old) reader.new }
     ensures len { IfOk result (λ v. vec_len v ≡ count) }
 {
-    let mut list = Vec::new(alloc);
+    let mut list = Vec::with_capacity(alloc, count)?;
     for _ in 0..count {
         let item = items.next_from(alloc, list.as_slice(), reader)?;
         list.push(item)?;

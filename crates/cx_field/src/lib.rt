@@ -1,10 +1,8 @@
-//! The fields of messages and records, both ways: numbers in their ranges, rounds, grids, names, commands, values, replies,
-//! entries, votes, and lists of them.
+//! The fields of messages and records, written and read: rounds, grids, commands, values, lists.
 //!
-//! Stands on the base types and on the formats of cx_wire; messages and records (cx_msg) stand on it. Its theorem: what a
-//! reader answers is what the field's format reads from the front of the bytes, or the place of the first bad field, and what
-//! is appended is what the format spells; each format is exact, so what it reads is spelled so, and what it spells is read
-//! again, whatever follows.
+//! Its theorems are: what is appended is what the field's format spells; a reader answers what the
+//! format reads from the next bytes, or where the first bad field begins; each format is exact: what
+//! it reads is spelled so, and what it spells is read again.
 #![tactic(auto)]
 
 mod fault;
@@ -22,14 +20,11 @@ pub use fields::{
     mark_from, name_from, reason_from, reply_from, round_from, round0_from, seq_from, slot_from,
     token_from, value_from, values_from, votes_from,
 };
-pub use parts::{Answers, Entries, Entry, LogValues, Token, Vote, Votes};
+pub use parts::{Answers, Entries, Entry, LogValues, NackReason, Token, Vote, Votes};
 pub use put::{
     put_answers, put_at, put_command, put_commands, put_entries, put_found, put_grid, put_mark,
     put_name, put_reason, put_reply, put_round, put_seq, put_slot, put_token, put_value,
     put_values, put_votes,
 };
-pub use ranges::{found_fits, grid_fits, name_fits, op_fits, reply_fits};
+pub use ranges::{found_fits, grid_fits, name_fits, op_fits, reason_fits, reply_fits};
 pub use reader::Reader;
-
-#[cfg(test)]
-mod tests;

@@ -1,4 +1,4 @@
-//! What stands in the lists of messages and records.
+//! What is in the lists of messages and records.
 
 ghost use Rattle.std.specs.Prelude.{◌≡◌};
 ghost use Rattle.cx_base.specs.Grid.{is_in};
@@ -14,7 +14,7 @@ use crate::put::{
     put_at, put_command, put_grid, put_reply, put_round, put_seq, put_slot, put_value,
 };
 use crate::reader::Reader;
-use cx_base::{Answered, Command, NoMemory, Value};
+use cx_base::{Answered, Command, NoMemory, Value, WINDOW};
 use cx_wire::put_u16;
 use std::alloc::Global;
 
@@ -42,7 +42,7 @@ impl Items for CommandItems {
     }
 }
 
-// Whether a number stands in a list.
+// Whether a number is in a list.
 fn is_in(id: u16, before: &[u16]) -> bool
     ensures { result ≡ is_in id before.now }
 {
@@ -140,7 +140,7 @@ impl Items for VoteItems {
         let left = reader.left();
         let slot = slot_from(reader)?;
         let rises = before.last().map_or(true, |last| last.slot < slot);
-        if slot < self.cw || slot - self.cw >= 32 || !rises {
+        if slot < self.cw || slot - self.cw >= WINDOW || !rises {
             return Err(ReadFault::Bad { left });
         }
         let value = value_from(alloc, reader)?;

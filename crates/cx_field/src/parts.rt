@@ -1,10 +1,12 @@
-//! What stands in messages and records, beside the types of cx_base.
+//! What is in messages and records, beside the types of cx_base.
 
-use cx_base::{Answered, Duplicate, Few, Grid, NoMemory, Round, Value};
+use cx_base::{
+    Answered, BATCH, Duplicate, ENTRIES, Few, Grid, NoMemory, Round, Value, WINDOW_LENGTH,
+};
 use std::alloc::Global;
 
 /// A round that a matchmaker recorded, and its grid (JSys 2021).
-#[derive(Clone, Copy, Debug, PartialEq, Eq)]
+#[derive(Clone, Copy)]
 pub struct Entry {
     pub round: Round,
     pub grid: Grid,
@@ -17,7 +19,7 @@ impl Duplicate for Entry {
 }
 
 /// A value that an acceptor voted for in a round and a slot. Slots are below 2^40.
-#[derive(Debug, Drop)]
+#[derive(Drop)]
 pub struct Vote {
     pub round: Round,
     pub slot: u64,
@@ -35,7 +37,7 @@ impl Duplicate for Vote {
 }
 
 /// A read of a client: the client, and its number, which is 1 or more.
-#[derive(Clone, Copy, Debug, PartialEq, Eq)]
+#[derive(Clone, Copy, PartialEq, Eq)]
 pub struct Token {
     pub client: u16,
     pub seq: u64,
@@ -47,14 +49,25 @@ impl Duplicate for Token {
     }
 }
 
+/// Why a matchmaker does not record a round.
+#[derive(Clone, Copy, PartialEq, Eq)]
+pub enum NackReason {
+    /// The round is below the watermark.
+    Collected,
+    /// A later round is recorded.
+    Later,
+    /// There is no room for another round.
+    Full,
+}
+
 /// Entries of a matchmaker, at most 17, of strictly rising rounds.
-pub type Entries = Few<Entry, 0, 17>;
+pub type Entries = Few<Entry, 0, ENTRIES>;
 
 /// Votes of an acceptor, at most 32, of strictly rising slots.
-pub type Votes = Few<Vote, 0, 32>;
+pub type Votes = Few<Vote, 0, WINDOW_LENGTH>;
 
 /// Answers to the commands of one slot, one to eight.
-pub type Answers = Few<Answered, 1, 8>;
+pub type Answers = Few<Answered, 1, BATCH>;
 
 /// Values of slots that follow one another, one to 32.
-pub type LogValues = Few<Value, 1, 32>;
+pub type LogValues = Few<Value, 1, WINDOW_LENGTH>;

@@ -1,4 +1,4 @@
-//! The fields of messages and records, appended to bytes. Want of memory may leave a part appended.
+//! The fields of messages and records, appended to bytes. Out of memory, it may leave a part appended.
 
 ghost use Rattle.std.specs.Prelude.{◌≡◌, ◌≤◌, ◌+◌, ◌*◌, ◌++◌, [], length, OnOk};
 ghost use Rattle.cx_wire.specs.Format as wire;
@@ -7,7 +7,7 @@ ghost use Rattle.cx_wire.specs.Format.{Appends};
 
 use crate::items::put_items;
 use crate::lists::{AnsweredItems, CommandItems, EntryItems, MemberItems, ValueItems, VoteItems};
-use crate::parts::{Answers, Entries, LogValues, Token, Votes};
+use crate::parts::{Answers, Entries, LogValues, NackReason, Token, Votes};
 use cx_base::{Command, Commands, Grid, Name, NoMemory, Op, Reply, Round, Text, Value};
 use cx_wire::{put_u8, put_u16, put_u32, put_u64};
 
@@ -205,12 +205,16 @@ pub fn put_found(out: &mut Vec<u8>, found: &Option<Text>) -> Result<(), NoMemory
     }
 }
 
-/// Appends why a matchmaker refuses, one byte.
+/// Appends why a matchmaker refuses a round, one byte.
 #[tactic(auto, unfolding(crate::specs::Fields::reason))]
-pub fn put_reason(out: &mut Vec<u8>, reason: u8) -> Result<(), NoMemory>
+pub fn put_reason(out: &mut Vec<u8>, reason: NackReason) -> Result<(), NoMemory>
     ensures { OnOk result (Appends field.reason reason 1 out.old.items out.new.items) }
 {
-    put_u8(out, reason)
+    match reason {
+        NackReason::Collected => put_u8(out, 0),
+        NackReason::Later => put_u8(out, 1),
+        NackReason::Full => put_u8(out, 2),
+    }
 }
 
 /// Appends a client's read, ten bytes.

@@ -1,4 +1,4 @@
-//! What the types of fields say of their ranges. These calls do nothing when they run; they tell their caller.
+//! What the types of fields say of their ranges. These calls do nothing when they run; they give their caller a fact.
 
 ghost use Rattle.std.specs.Prelude.{◌≡◌, ◌<◌, ◌≤◌, ℕ, slice_index, IsTrue};
 ghost use Rattle.cx_base.specs.Grid.{IsGrid};
@@ -6,6 +6,7 @@ ghost use Rattle.cx_base.specs.Name.{IsName};
 ghost use Rattle.cx_field.specs.Fields as field;
 ghost use Rattle.cx_field.specs.Ranges.{is_text_len};
 
+use crate::parts::NackReason;
 use cx_base::{Grid, Name, Op, Reply, Text};
 
 // Ids take two bytes.
@@ -50,6 +51,16 @@ pub fn found_fits(found: &Option<Text>)
     match found {
         Some(text) => name_fits(text),
         None => {}
+    }
+}
+
+/// Each reason of a refusal has a spelling.
+#[tactic(auto, unfolding(crate::specs::Fields::reason))]
+pub fn reason_fits(reason: NackReason)
+    ensures { IsTrue (field.reason.fits reason) }
+{
+    match reason {
+        NackReason::Collected | NackReason::Later | NackReason::Full => {}
     }
 }
 

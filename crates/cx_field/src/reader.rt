@@ -1,4 +1,4 @@
-//! Numbers from the front of bytes, the highest byte first.
+//! Numbers from the start of bytes, the highest byte first.
 
 ghost use Rattle.std.specs.Prelude.{◌≡◌, ◌∷◌, ◌≤◌, ◌<◌, ◌^◌, length, drop, take, IfOk};
 ghost use Rattle.cx_wire.specs.Format as wire;
@@ -9,7 +9,7 @@ use cx_wire::{take_u8, take_u16, take_u32, take_u64};
 use std::marker::Model;
 
 /// The bytes that are left.
-#[derive(Debug, Drop)]
+#[derive(Drop)]
 pub struct Reader<'a> {
     rest: &'a [u8],
 }
@@ -42,6 +42,14 @@ impl<'a> Reader<'a> {
         ensures { result.now ≡ self.now }
     {
         self.rest
+    }
+
+    /// Passes over this many bytes.
+    pub fn skip(&mut self, count: usize)
+        requires { count ≤ length self.old }
+        ensures { self.new ≡ drop count self.old }
+    {
+        self.rest = &self.rest[count..];
     }
 
     /// The number in one byte; `Cut` with how many are left where there are fewer.

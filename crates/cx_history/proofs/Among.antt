@@ -15,7 +15,7 @@ use Rattle.cx_field.specs.declared.parts.Token.{Token}
 use Rattle.cx_model.specs.Request.{is_stale, not_below, same_request, same_token, token_of, was_sent}
 use Rattle.cx_history.specs.Requests.{Noted, asked, asked_op, asks_other, has_token, is_above, is_stale_among, request_of, requests_in, with_token}
 
--- two lists behind one another, and the length of the first
+-- two lists, one after the other, and the length of the first
 both_eq : (k l t u : List ℕ) → ((length k == length l) && bytes_eq (k ++ t) (l ++ u)) ≡ (bytes_eq k l && bytes_eq t u)
 both_eq [] [] t u = refl
 both_eq [] (y ∷ l) t u = rw (eqb-zero-suc (length l)) refl

@@ -1,18 +1,13 @@
 -- Records beside the roles that kept them.
-use Rattle.std.proofs.Common.{◌≡◌, ◌<◌, ◌≤◌, ◌+◌, ◌∙◌, ℕ, zero, suc, true, false, List, [], ◌∷◌, ◌++◌, Some, All, drop, length, slice_get, get_or, refl, ap, sym, subst, arith}
+use Rattle.std.proofs.Common.{◌≡◌, ◌<◌, ◌∙◌, ℕ, zero, suc, true, List, [], ◌∷◌, ◌++◌, Some, All, length, slice_get, get_or, refl, ap, sym, arith}
 use Rattle.std.proofs.lemmas.List.{length-map, map-append}
-use Rattle.std.proofs.lemmas.Bool.{and_parts}
-use Rattle.std.proofs.lemmas.Option.{slice_get-get_or}
 use Rattle.cx_base.specs.declared.role.RoleId.{RoleId}
-use Rattle.cx_base.specs.Role.{same_role}
 use Rattle.cx_msg.specs.Records.{fits, spelling}
 use Rattle.cx_msg.specs.declared.kept.Record.{Record}
 use Rattle.cx_msg.specs.declared.input.KeptRecord.{KeptRecord}
 use Rattle.cx_msg.proofs.RecordLaws.{recorded-again}
-use Rattle.cx_keeper.specs.Keeper.{all_fit}
 use Rattle.cx_keeper.specs.Pieces.{record_or}
 use Rattle.cx_history.specs.Kept.{IsKept, IsRecord, kept_by, record_in, records_in}
-use Rattle.cx_model.specs.World.{records_of}
 use Rattle.cx_history.proofs.Steps.{All-push}
 
 pub length-kept : (roles : List RoleId) (records : List Record) → length roles ≡ length records → length (kept_by roles records) ≡ length roles
@@ -56,45 +51,3 @@ pub counts : (roles : List RoleId) (pieces : List (List ℕ)) → IsKept roles p
 counts roles pieces h =
     let long : length (records_in pieces) ≡ length pieces = length-map pieces (λ (p : List ℕ). record_in p) in
     length-kept roles (records_in pieces) (h.same_count ∙ sym long) ∙ h.same_count
-
--- ---- the records of one role
-
-takes : (who : RoleId) (roles : List RoleId) (records : List Record) (n : ℕ) (role : RoleId) (what : Record) → slice_get roles n ≡ Some role → slice_get records n ≡ Some what → same_role who role ≡ true
-    → records_of who (drop n (kept_by roles records)) ≡ what ∷ records_of who (drop (suc n) (kept_by roles records))
-takes who [] records n role what h k e = cc
-takes who (r ∷ roles) [] n role what h k e = cc
-takes who (r ∷ roles) (w ∷ records) zero role what h k e = let same : r ≡ role = cc in let also : w ≡ what = cc in rw (same, also, e) refl
-takes who (r ∷ roles) (w ∷ records) (suc n) role what h k e = takes who roles records n role what h k e
-
-passes : (who : RoleId) (roles : List RoleId) (records : List Record) (n : ℕ) (role : RoleId) → slice_get roles n ≡ Some role → same_role who role ≡ false
-    → records_of who (drop n (kept_by roles records)) ≡ records_of who (drop (suc n) (kept_by roles records))
-passes who [] records n role h e = cc
-passes who (r ∷ roles) [] zero role h e = refl
-passes who (r ∷ roles) [] (suc n) role h e = refl
-passes who (r ∷ roles) (w ∷ records) zero role h e = let same : r ≡ role = cc in rw (same, e) refl
-passes who (r ∷ roles) (w ∷ records) (suc n) role h e = passes who roles records n role h e
-
--- the record of a number is the next one of its role
-pub next_taken : (who : RoleId) (roles : List RoleId) (records : List Record) (n : ℕ) (d : RoleId) (what : Record) → n < length roles → slice_get records n ≡ Some what → same_role who (get_or roles n d) ≡ true
-    → records_of who (drop n (kept_by roles records)) ≡ what ∷ records_of who (drop (n + 1) (kept_by roles records))
-next_taken who roles records n d what l k e =
-    let next : suc n ≡ n + 1 = omega arith in
-    subst (λ m. records_of who (drop n (kept_by roles records)) ≡ what ∷ records_of who (drop m (kept_by roles records))) next (takes who roles records n (get_or roles n d) what (slice_get-get_or roles n d l) k e)
-
--- and none of another's
-pub next_passed : (who : RoleId) (roles : List RoleId) (records : List Record) (n : ℕ) (d : RoleId) → n < length roles → same_role who (get_or roles n d) ≡ false
-    → records_of who (drop n (kept_by roles records)) ≡ records_of who (drop (n + 1) (kept_by roles records))
-next_passed who roles records n d l e =
-    let next : suc n ≡ n + 1 = omega arith in
-    subst (λ m. records_of who (drop n (kept_by roles records)) ≡ records_of who (drop m (kept_by roles records))) next (passes who roles records n (get_or roles n d) (slice_get-get_or roles n d l) e)
-
--- none is left behind the last one
-pub none_behind : (who : RoleId) (kept : List KeptRecord) (n : ℕ) → length kept ≤ n → records_of who (drop n kept) ≡ []
-none_behind who [] zero l = refl
-none_behind who [] (suc n) l = refl
-none_behind who (k ∷ kept) zero l = absurd (omega (arith, l))
-none_behind who (k ∷ kept) (suc n) l = none_behind who kept n (omega (arith, l))
-
-pub fit_more : (records : List Record) (what : Record) → all_fit records ≡ true → fits what ≡ true → all_fit (records ++ what ∷ []) ≡ true
-fit_more [] what all fit = rw fit refl
-fit_more (r ∷ records) what all fit = let parts = and_parts (fits r) (all_fit records) all in rw (parts.0, fit_more records what parts.1 fit) refl

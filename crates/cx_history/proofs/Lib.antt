@@ -1,7 +1,10 @@
 pub mod Among
 pub mod Counting
+pub mod Covered
 pub mod Keeping
-pub mod Reached
+pub mod Noting
+pub mod Numbered
+pub mod Owned
 pub mod Shorts
 pub mod Steps
 pub mod Walking

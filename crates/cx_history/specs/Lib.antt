@@ -1,6 +1,7 @@
 pub mod Answers
 pub mod Begins
+pub mod Held
 pub mod Kept
-pub mod Reached
+pub mod Own
 pub mod Requests
 pub mod Short

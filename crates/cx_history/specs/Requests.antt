@@ -70,7 +70,7 @@ asks_other t asks n = has_token t n && not (bytes_eq asks n.asks)
 abbrev pub is_above : Token → Noted → Bool
 is_above t n = not_below t (Some n.token)
 
--- `is_stale` of the model, told of the requests alone
+-- `is_stale` of the model, said of the requests alone
 abbrev pub is_stale_among : Token → List ℕ → List Noted → Bool
 is_stale_among t asks requests =
     list_any (asks_other t asks) requests || (not (list_any (has_token t) requests) && list_any (is_above t) requests)

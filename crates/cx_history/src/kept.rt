@@ -2,8 +2,6 @@
 
 ghost use Rattle.std.specs.Prelude.{◌≡◌, ◌<◌, ◌++◌, ◌∷◌, [], All, IfOk, OnOk, OnErr, IsTrue, Some, length, slice_get};
 ghost use Rattle.cx_msg.specs.Records.{fits};
-ghost use Rattle.cx_keeper.specs.Keeper.{all_fit};
-ghost use Rattle.cx_model.specs.World.{records_of};
 ghost use Rattle.cx_history.specs.Kept.{IsKept, IsRecord, kept_by, record_in, records_in};
 
 use cx_base::{NoMemory, RoleId};
@@ -35,7 +33,7 @@ impl Model for Kept {
     ghost invariant = { λ k. IsKept k.roles.items k.records };
 }
 
-// Puts a record behind the other pieces, by way of its bytes. Want of memory puts none.
+// Puts a record after the other pieces, by way of its bytes. Out of memory, it puts none.
 fn put_record(
     alloc: Global,
     what: &Record,
@@ -57,7 +55,6 @@ fn put_record(
 fn read_piece(alloc: Global, piece: &[u8]) -> Result<Record, NoMemory>
     requires { IsRecord piece.now }
     ensures what { IfOk result (λ what. what ≡ record_in piece.now) }
-    ensures ranges { IfOk result (λ what. IsTrue (fits what)) }
 {
     match record_from(alloc, piece) {
         Ok(what) => Ok(what),
@@ -72,32 +69,11 @@ fn read_record(alloc: Global, pieces: &Pieces, number: usize) -> Result<Record, 
     requires pieces { All IsRecord pieces.now }
     requires number { number < length pieces.now }
     ensures what { IfOk result (λ what. slice_get (records_in pieces.now) number ≡ Some what) }
-    ensures ranges { IfOk result (λ what. IsTrue (fits what)) }
 {
     match pieces.get(number) {
         Some(piece) => read_piece(alloc, piece),
         None => unreachable!(),
     }
-}
-
-// The records of a role.
-fn read_records(
-    alloc: Global,
-    roles: &[RoleId],
-    pieces: &Pieces,
-    role: RoleId,
-) -> Result<Vec<Record>, NoMemory>
-    requires { IsKept roles.now pieces.now }
-    ensures list { IfOk result (λ list. list.items ≡ records_of role (kept_by roles.now (records_in pieces.now))) }
-    ensures ranges { IfOk result (λ list. IsTrue (all_fit list.items)) }
-{
-    let mut list = Vec::new(alloc);
-    for number in 0..roles.len() {
-        if role.is(roles[number]) {
-            list.push(read_record(alloc, pieces, number)?)?;
-        }
-    }
-    Ok(list)
 }
 
 impl Kept {
@@ -130,15 +106,7 @@ impl Kept {
         Ok(KeptRecord { role, what })
     }
 
-    /// The records that a role kept, in order.
-    pub fn records_of(&self, role: RoleId) -> Result<Vec<Record>, NoMemory>
-        ensures list { IfOk result (λ list. list.items ≡ records_of role self.now) }
-        ensures ranges { IfOk result (λ list. IsTrue (all_fit list.items)) }
-    {
-        read_records(self.alloc, &self.roles, &self.records, role)
-    }
-
-    /// Notes a record that was kept last. Want of memory changes nothing.
+    /// Notes a record that was kept last. Out of memory, it changes nothing.
     pub fn push(&mut self, role: RoleId, what: &Record) -> Result<(), NoMemory>
         requires { IsTrue (fits what.now) }
         ensures ok { OnOk result (self.new ≡ self.old ++ record { role = role; what = what.now } ∷ []) }

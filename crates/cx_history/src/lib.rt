@@ -1,13 +1,15 @@
-//! The histories of a run: what happened, and what was sent.
+//! The histories of a run: the events, the datagrams that were sent, the records that were kept.
 //!
-//! Stands on datagrams and on the model's definition of stale requests; the world stands on it. Its theorem: `Sent`, which holds
-//! bytes, is the list of the datagrams that were noted, each of which is read again as it was (`Sent::get`, `Sent::since`), and
-//! `Events`, which holds the requests that were sent alone, is the list of what happened (`Events::push`, `Events::is_stale`).
+//! `Sent` and `Kept` hold bytes, `Events` holds requests alone. Its theorem is: contracts see
+//! `Sent`, `Kept` and `Events` as the lists of what was pushed, which `Sent::get`, `Sent::since` and
+//! `Kept::at` read again as it was; `Events::is_stale` is the model's test over all events.
 #![tactic(auto)]
 
+mod by_client;
 mod events;
 mod kept;
 mod kinds;
+mod own;
 mod requests;
 mod scratch;
 mod sent;
@@ -17,6 +19,3 @@ mod stale;
 pub use events::Events;
 pub use kept::Kept;
 pub use sent::Sent;
-
-#[cfg(test)]
-mod tests;

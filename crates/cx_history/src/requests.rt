@@ -65,7 +65,7 @@ impl Requests {
         read(self.pieces.get(number)?)
     }
 
-    /// One request more. Want of memory changes nothing.
+    /// One request more. Out of memory, it changes nothing.
     pub fn push(&mut self, token: Token, event: &Event) -> Result<(), NoMemory>
         ensures ok { OnOk result (self.new ≡ self.old ++ record { token = token; asks = asked event.now } ∷ []) }
         ensures err { OnErr result (self.new ≡ self.old) }

@@ -46,7 +46,7 @@ impl Scratch {
         &self.bytes[..self.len]
     }
 
-    // More bytes behind them.
+    // More bytes after them.
     fn add(&mut self, more: &[u8])
         requires { length self.old + length more.now ≤ 108 }
         ensures { self.new ≡ self.old ++ more.now }
@@ -93,7 +93,7 @@ impl Scratch {
         }
     }
 
-    /// What a request asks, behind the bytes.
+    /// What a request asks, after the bytes.
     pub fn add_asked(&mut self, event: &Event)
         requires { length self.old ≤ 10 }
         ensures { self.new ≡ self.old ++ asked event.now }

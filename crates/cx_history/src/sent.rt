@@ -1,11 +1,13 @@
 //! The datagrams that were sent.
 
-ghost use Rattle.std.specs.Prelude.{◌≡◌, ◌≤◌, ◌<◌, ◌+◌, ◌-◌, ◌^◌, ◌++◌, ◌∷◌, [], if◌then◌else◌, IfOk, OnOk, OnErr, drop, length, slice_get};
+ghost use Rattle.std.specs.Prelude.{◌≡◌, ◌≤◌, ◌<◌, ◌+◌, ◌-◌, ◌^◌, ◌++◌, ◌∷◌, [], if◌then◌else◌, IfOk, IfSome, OnOk, OnErr, drop, length, option_map, slice_get};
+ghost use Rattle.cx_msg.specs.Spelled.{IsShort, letter_of};
 ghost use Rattle.cx_history.specs.Begins.{IsPrefix};
 ghost use Rattle.cx_history.specs.Answers.{answers_in, read_answers_in};
 
 use crate::kinds::{is_answer, is_read_answer};
-use crate::short::{put_datagram, read_datagram, read_datagrams};
+use crate::short::{put_datagram, read_datagram, read_datagrams, shared};
+use bytes::Bytes;
 use cx_base::NoMemory;
 use cx_msg::Datagram;
 use cx_pieces::Pieces;
@@ -13,14 +15,13 @@ use std::alloc::Global;
 use std::marker::Model;
 
 /// The datagrams that were sent, numbered from 0 in the order of sending. What is held of one is its bytes, but for those that the
-/// others tell: a datagram is read when it is asked for.
+/// others give: a datagram is read when it is asked for.
 #[derive(Drop)]
 pub struct Sent {
     alloc: Global,
     pieces: Pieces,
-    // The bytes of one datagram on their way to the others: all of them, and those that are held.
-    whole: Vec<u8>,
-    short: Vec<u8>,
+    // The bytes of one datagram on their way to the others.
+    bytes: Vec<u8>,
     answers: u64,
     reads: u64,
 }
@@ -53,8 +54,7 @@ impl Sent {
         Sent {
             alloc,
             pieces: Pieces::new(alloc),
-            whole: Vec::new(alloc),
-            short: Vec::new(alloc),
+            bytes: Vec::new(alloc),
             answers: 0,
             reads: 0,
         }
@@ -81,6 +81,19 @@ impl Sent {
         self.reads
     }
 
+    /// The bytes that spell the datagram of this number, None exactly where it wasn't sent. They share their chunk with others:
+    /// no byte is copied.
+    pub fn spelled(&self, number: u64) -> Result<Option<Bytes>, NoMemory>
+        ensures short { IfOk result (λ bytes. IfSome bytes IsShort) }
+        ensures letter { IfOk result (λ bytes. option_map letter_of bytes ≡ slice_get self.now number) }
+    {
+        let number = number as usize;
+        if number >= self.pieces.len() {
+            return Ok(None);
+        }
+        Ok(Some(shared(&self.pieces, number)?))
+    }
+
     /// The datagram of this number, None exactly where it wasn't sent.
     pub fn get(&self, number: u64) -> Result<Option<Datagram>, NoMemory>
         ensures { IfOk result (λ datagram. datagram ≡ slice_get self.now number) }
@@ -92,7 +105,7 @@ impl Sent {
         Ok(Some(read_datagram(self.alloc, &self.pieces, number)?))
     }
 
-    /// The datagrams that were sent since there were so many.
+    /// The datagrams from this number on.
     pub fn since(&self, first: u64) -> Result<Vec<Datagram>, NoMemory>
         requires { first ≤ length self.now }
         ensures { IfOk result (λ list. list.items ≡ drop first self.now) }
@@ -100,18 +113,12 @@ impl Sent {
         read_datagrams(self.alloc, &self.pieces, first as usize)
     }
 
-    /// Notes a datagram that was sent last. Want of memory changes nothing.
+    /// Notes a datagram that was sent last. Out of memory, it changes nothing.
     pub fn push(&mut self, datagram: &Datagram) -> Result<(), NoMemory>
         ensures ok { OnOk result (self.new ≡ self.old ++ datagram.now ∷ []) }
         ensures err { OnErr result (self.new ≡ self.old) }
     {
-        put_datagram(
-            self.alloc,
-            datagram,
-            &mut self.whole,
-            &mut self.short,
-            &mut self.pieces,
-        )?;
+        put_datagram(datagram, &mut self.bytes, &mut self.pieces)?;
         // How many were sent fits, and so does how many of them answer.
         let _ = self.pieces.len();
         self.answers = counted(self.answers, is_answer(datagram));
@@ -119,7 +126,7 @@ impl Sent {
         Ok(())
     }
 
-    /// Notes datagrams in the order of sending. After want of memory the first of them may be noted.
+    /// Notes datagrams in the order of sending. After it ran out of memory the first of them may be noted.
     pub fn append(&mut self, datagrams: &[Datagram]) -> Result<(), NoMemory>
         ensures ok { OnOk result (self.new ≡ self.old ++ datagrams.now) }
         ensures err { OnErr result (IsPrefix self.old self.new) }

@@ -1,4 +1,4 @@
--- Each step keeps what is so of a round whose first phase was done.
+-- Each step keeps what is so of a round that was finished.
 use Rattle.std.proofs.Common.{◌≡◌, ℕ, ◌≤◌, true, false, ◌⊎◌, List, ◌∷◌, ◌++◌, Option, None, Some, ap, sym, subst, ◌∙◌, refl, inl, inr}
 use Rattle.cx_base.specs.declared.cluster.Cluster.{Cluster}
 use Rattle.cx_base.specs.declared.command.Value.{Value}

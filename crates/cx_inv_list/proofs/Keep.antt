@@ -49,22 +49,24 @@ log_grows me r history p =
     (role kind.Replica p)
 
 module _ (q : Requests) (history : List KeptRecord) (me : RoleId) (r : Record) where
-  still_noted : (client seq at : ℕ) (reply : Reply) → IsNoted history client seq at reply → IsNoted (entry_by me r ∷ history) client seq at reply
-  still_noted client seq at reply (p, h) =
+  still_right : (p client seq at : ℕ) (reply : Reply) → IsRight (log_in history p) client seq at reply → IsRight (log_in (entry_by me r ∷ history) p) client seq at reply
+  still_right p client seq at reply h =
       let more = log_grows me r history p in
-      (p, subst (λ vs. IsRight vs client seq at reply) (sym more.1) (grown_right (log_in history p) more.0 client seq at reply h))
+      subst (λ vs. IsRight vs client seq at reply) (sym more.1) (grown_right (log_in history p) more.0 client seq at reply h)
 
-  still_told : (t : Token) (n : ℕ) (found : Option (List ℕ)) → IsTold q history t n found → IsTold q (entry_by me r ∷ history) t n found
-  still_told t n found h =
-      let more = log_grows me r history h.replica in
+  still_noted : (client seq at : ℕ) (reply : Reply) → IsNoted history client seq at reply → IsNoted (entry_by me r ∷ history) client seq at reply
+  still_noted client seq at reply (p, h) = (p, still_right p client seq at reply h)
+
+  still_told : (p : ℕ) (t : Token) (n : ℕ) (found : Option (List ℕ)) → IsTold q history p t n found → IsTold q (entry_by me r ∷ history) p t n found
+  still_told p t n found h =
+      let more = log_grows me r history p in
       let l = h.within in
-      let longer : length (log_in (entry_by me r ∷ history) h.replica) ≡ length (log_in history h.replica ++ more.0) = ap length more.1 in
+      let longer : length (log_in (entry_by me r ∷ history) p) ≡ length (log_in history p ++ more.0) = ap length more.1 in
       record {
-        replica = h.replica;
         key = h.key;
         wanted = h.wanted;
-        within = omega (arith, longer, length-append (log_in history h.replica) more.0, l);
-        found_is = h.found_is ∙ ap (λ vs. text_at h.key (fold vs)) (sym (ap (λ vs. take n vs) more.1 ∙ take-append-le n (log_in history h.replica) more.0 l));
+        within = omega (arith, longer, length-append (log_in history p) more.0, l);
+        found_is = h.found_is ∙ ap (λ vs. text_at h.key (fold vs)) (sym (ap (λ vs. take n vs) more.1 ∙ take-append-le n (log_in history p) more.0 l));
       }
 
   still_says : (from to : RoleId) (m : Msg) → ListSays q history from to m → ListSays q (entry_by me r ∷ history) from to m
@@ -73,11 +75,11 @@ module _ (q : Requests) (history : List KeptRecord) (me : RoleId) (r : Record) w
   still_says from to (msg.Phase1B i cw votes) h = h
   still_says from to (msg.Propose i g s cw v) h = h
   still_says from to (msg.Phase2A i s cw v) h = h
-  still_says from to (msg.Results s answers) h = λ a m. still_noted a.client a.seq a.at a.reply (h a m)
+  still_says from to (msg.Results s answers) h = λ a m. still_right from.index a.client a.seq a.at a.reply (h a m)
   still_says from to (msg.Answer seq at reply) h = still_noted to.index seq at reply h
   still_says from to (msg.ReadReq seq replica key) h = h
   still_says from to (msg.Read t n key) h = h
-  still_says from to (msg.ReadAnswer seq n found) h = still_told (token to.index seq) n found h
+  still_says from to (msg.ReadAnswer seq n found) h = still_told from.index (token to.index seq) n found h
   still_says from to other h = tt
 
 with_says : (q : Requests) (history : List KeptRecord) (me : RoleId) (o : Option Record) (from to : RoleId) (m : Msg)

@@ -171,7 +171,7 @@ module _ (q : Requests) (c : Cluster) (history : List KeptRecord) (me : RoleId) 
   -- an unbatcher
 
   unbatcher_takes_listed : (from to : RoleId) (m : Msg) → ListSays q history from to m → IsListed q history me plain (unbatcher_takes me m)
-  unbatcher_takes_listed from to (msg.Results s answers) says = listed_replied plain _ _ _ tt (each_send q history (answer_to me) answers says)
+  unbatcher_takes_listed from to (msg.Results s answers) says = listed_replied plain _ _ _ tt (each_send q history (answer_to me) answers (λ a m. (from.index, says a m)))
   unbatcher_takes_listed from to other says = listed_answered plain _ tt tt
 
   pub unbatcher_listed : (i : Input) → Heard q history i → IsListed q history me plain (unbatcher_row c me tt tt i)

@@ -126,9 +126,8 @@ module _ (q : Requests) (c : Cluster) (history : List KeptRecord) (me : RoleId) 
 
 -- what a replica with these values answers to a read
 told_now : (q : Requests) (history : List KeptRecord) (p : ℕ) (log : List Value) → log_in history p ≡ log → (r : Deferred) → q.wanted r.token r.key
-    → IsTold q history r.token (length log) (text_at r.key (machine_of log).map)
+    → IsTold q history p r.token (length log) (text_at r.key (machine_of log).map)
 told_now q history p log e r h = record {
-  replica = p;
   key = r.key;
   wanted = h;
   within = subst (λ vs. length log ≤ length vs) (sym e) (omega arith);
@@ -163,7 +162,7 @@ module _ (q : Requests) (c : Cluster) (history : List KeptRecord) (p : ℕ) wher
       results_listed : Sends q longer (replica.results_from c me (length own.log) (machine_of own.log) values)
       results_listed =
           results_right (own.log ++ values) (λ (d : Letter). ListSays q longer d.from d.to d.msg) c me
-          (λ u slot answers right. λ a m. (p, subst (λ vs. IsRight vs a.client a.seq a.at a.reply) (sym log_is) (right a m)))
+          (λ u slot answers right. λ a m. subst (λ vs. IsRight vs a.client a.seq a.at a.reply) (sym log_is) (right a m))
           values (length own.log) (machine_of own.log)
           (are_at (own.log ++ values) own.log values [] (length own.log) (ap (λ vs. own.log ++ vs) (sym (append-nil values))) refl)
           (log_right own.log values)

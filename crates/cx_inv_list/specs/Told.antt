@@ -1,5 +1,5 @@
 -- What datagrams, records and roles say of the command list: each command in them was asked for, each answer in them is right by the values
--- that some replica kept, and each key in them is that of its read.
+-- that a replica kept, and each key in them is that of its read.
 use Rattle.std.specs.Prelude.{◌≡◌, ℕ, ◌≤◌, take, List, length, Option, None, Some}
 use Rattle.cx_base.specs.declared.command.Answered.{Answered}
 use Rattle.cx_base.specs.declared.command.Command.{Command}
@@ -48,9 +48,8 @@ log_in history p = (durable_of replica_rules (role kind.Replica p) history).log
 abbrev pub IsNoted : List KeptRecord → ℕ → ℕ → ℕ → Reply → Type 0
 IsNoted history client seq at reply = (p : ℕ) × IsRight (log_in history p) client seq at reply
 
--- a read's answer tells the text of its key in the map that so many values of some replica leave
-pub record IsTold (q : Requests) (history : List KeptRecord) (t : Token) (n : ℕ) (found : Option (List ℕ)) : Type 0 where
-  pub replica : ℕ
+-- a read's answer has the text of its key in the map that the first n values of this replica leave
+pub record IsTold (q : Requests) (history : List KeptRecord) (replica : ℕ) (t : Token) (n : ℕ) (found : Option (List ℕ)) : Type 0 where
   pub key : List ℕ
   pub wanted : q.wanted t key
   pub within : n ≤ length (log_in history replica)
@@ -62,11 +61,11 @@ ListSays q history from to (msg.Batch ks) = AreAsked q ks
 ListSays q history from to (msg.Phase1B i cw votes) = AreVotesAsked q votes
 ListSays q history from to (msg.Propose i g s cw v) = AreAsked q (commands_of v)
 ListSays q history from to (msg.Phase2A i s cw v) = AreAsked q (commands_of v)
-ListSays q history from to (msg.Results s answers) = (a : Answered) → Member a answers → IsNoted history a.client a.seq a.at a.reply
+ListSays q history from to (msg.Results s answers) = (a : Answered) → Member a answers → IsRight (log_in history from.index) a.client a.seq a.at a.reply
 ListSays q history from to (msg.Answer seq at reply) = IsNoted history to.index seq at reply
 ListSays q history from to (msg.ReadReq seq replica key) = q.wanted (token from.index seq) key
 ListSays q history from to (msg.Read t n key) = q.wanted t key
-ListSays q history from to (msg.ReadAnswer seq n found) = IsTold q history (token to.index seq) n found
+ListSays q history from to (msg.ReadAnswer seq n found) = IsTold q history from.index (token to.index seq) n found
 ListSays q history from to other = Unit {0}
 
 -- a vote's commands were asked for

@@ -38,14 +38,16 @@ abbrev no : ⊥ → ⊥
 no x = x
 
 -- of records that are no acceptor's: what they add is no vote, no watermark and no promise
-grows_else : (history : List KeptRecord) (me : RoleId) (r : Record) → (IsVoteRecord r → ⊥) → (IsWaterRecord r → ⊥)
+grows_else : (history : List KeptRecord) (sent : List Letter) (me : RoleId) (r : Record) → (IsVoteRecord r → ⊥) → (IsWaterRecord r → ⊥)
     → ((m : RoleId) (i j : Round) (h : Shape) → is_before j i ≡ true → HasLog history m i → HasMatch (entry_by me r ∷ history) m j h → HasMatch history m j h)
-    → Grows history (entry_by me r ∷ history)
-grows_else history me r vote water no_match = record {
+    → Grows history sent (entry_by me r ∷ history) sent
+grows_else history sent me r vote water no_match = record {
   more = λ k m. inr m;
+  wide = λ d m. m;
   no_vote = λ a j s v past x. old_votes me r history vote a j s v x;
   no_mark = λ a j n past x. old_marks me r history vote water a j n x;
   no_match = no_match;
+  no_proposal = λ j s v l x. x;
 }
 
 -- an acceptor's records: a round that isn't below its promise isn't below any that it has promised
@@ -63,8 +65,8 @@ module _ (c : Cluster) (history : List KeptRecord) (sent : List Letter) (states 
 
 module _ (c : Cluster) (history : List KeptRecord) (sent : List Letter) (states : RoleId → State) (facts : Facts c history sent states)
     (me : RoleId) (i : Round) (at_least : is_before i (durable_of acceptor_rules me history).promise ≡ false) where
-  pub grows_promise : Grows history (entry_by me (kept.Promise i) ∷ history)
-  grows_promise = grows_else history me (kept.Promise i) no no (λ m k j h l x y. old_matches me (kept.Promise i) history no m j h y)
+  pub grows_promise : Grows history sent (entry_by me (kept.Promise i) ∷ history) sent
+  grows_promise = grows_else history sent me (kept.Promise i) no no (λ m k j h l x y. old_matches me (kept.Promise i) history no m j h y)
 
   promise_bound : (x : Round) → HasPromise (entry_by me (kept.Promise i) ∷ history) me x → is_before i x ≡ false
   promise_bound x (inl m) = ⊎_elim
@@ -120,14 +122,16 @@ module _ (c : Cluster) (history : List KeptRecord) (sent : List Letter) (states 
       (kept_cases me a (kept.Vote i s low v) (kept.Vote j x.0 n x.1) history x.2)
   vote_mark_cases a j n (inr m) = inr (inr (kept_else me a (kept.Vote i s low v) (kept.Water j n) history (λ e. cc) m))
 
-  pub grows_vote : Grows history (entry_by me (kept.Vote i s low v) ∷ history)
+  pub grows_vote : Grows history sent (entry_by me (kept.Vote i s low v) ∷ history) sent
   grows_vote = record {
     more = λ k m. inr m;
+    wide = λ d m. m;
     no_vote = λ a j t w past x. ⊎_elim
         (λ q. absurd (not_past c history sent states facts me i at_least a j q.0 q.1 past)) (λ h. h) (vote_cases a j t w x);
     no_mark = λ a j n past x. ⊎_elim
         (λ q. absurd (not_past c history sent states facts me i at_least a j q.0 q.1 past)) (λ h. h) (vote_mark_cases a j n x);
     no_match = λ m k j h l x y. old_matches me (kept.Vote i s low v) history no m j h y;
+    no_proposal = λ j s v l x. x;
   }
 
   vote_bound : (x : Round) → HasPromise (entry_by me (kept.Vote i s low v) ∷ history) me x → is_before i x ≡ false
@@ -235,13 +239,15 @@ module _ (c : Cluster) (history : List KeptRecord) (sent : List Letter) (states 
       (λ o. inr (inr o))
       (kept_cases me a (kept.Water i low) (kept.Water j n) history m)
 
-  pub grows_water : Grows history (entry_by me (kept.Water i low) ∷ history)
+  pub grows_water : Grows history sent (entry_by me (kept.Water i low) ∷ history) sent
   grows_water = record {
     more = λ k m. inr m;
+    wide = λ d m. m;
     no_vote = λ a j t w past x. old_votes me (kept.Water i low) history no a j t w x;
     no_mark = λ a j n past x. ⊎_elim
         (λ q. absurd (not_past c history sent states facts me i at_least a j q.0 q.1 past)) (λ h. h) (water_mark_cases a j n x);
     no_match = λ m k j h l x y. old_matches me (kept.Water i low) history no m j h y;
+    no_proposal = λ j s v l x. x;
   }
 
   water_bound : (x : Round) → HasPromise (entry_by me (kept.Water i low) ∷ history) me x → is_before i x ≡ false
@@ -327,13 +333,13 @@ module _ (c : Cluster) (history : List KeptRecord) (sent : List Letter) (states 
       (λ o. o)
       (match_cases m j h z)
 
-  pub grows_match : Grows history (entry_by me (kept.Match i g) ∷ history)
-  grows_match = grows_else history me (kept.Match i g) no no match_below
+  pub grows_match : Grows history sent (entry_by me (kept.Match i g) ∷ history) sent
+  grows_match = grows_else history sent me (kept.Match i g) no no match_below
 
   match_asked : (m : RoleId) (j : Round) (h : Shape) → HasMatch (entry_by me (kept.Match i g) ∷ history) m j h
       → IsConfig (entry_by me (kept.Match i g) ∷ history) j h
   match_asked m j h x =
-      grown_config c history (entry_by me (kept.Match i g) ∷ history) grows_match j h
+      grown_config c history sent (entry_by me (kept.Match i g) ∷ history) sent grows_match j h
       (⊎_elim (λ q. rw (q.1, q.2) config) (λ o. facts.asked m j h o) (match_cases m j h x))
 
   match_own : IsLog (entry_by me (kept.Match i g) ∷ history) me (matchmaker_after (durable_of matchmaker_rules me history) (kept.Match i g))
@@ -373,7 +379,7 @@ module _ (c : Cluster) (history : List KeptRecord) (sent : List Letter) (states 
 -- a matchmaker forgets
 
 module _ (c : Cluster) (history : List KeptRecord) (sent : List Letter) (states : RoleId → State) (facts : Facts c history sent states)
-    (me : RoleId) (i : Round) (g : Shape) (config : IsConfig history i g) (collected : IsCollected c history i) (retiring : IsRetiring sent i)
+    (me : RoleId) (i : Round) (g : Shape) (config : IsConfig history i g) (collected : IsCollected c history sent i) (retiring : IsRetiring sent i)
     (raises : is_before (durable_of matchmaker_rules me history).watermark i ≡ true) where
   garbage_cases : (m : RoleId) (j : Round) (h : Shape) → HasGarbage (entry_by me (kept.Garbage i g) ∷ history) m j h
       → ((m ≡ me) × (j ≡ i) × (h ≡ g)) ⊎ HasGarbage history m j h
@@ -382,16 +388,16 @@ module _ (c : Cluster) (history : List KeptRecord) (sent : List Letter) (states 
       (λ o. inr o)
       (kept_cases me m (kept.Garbage i g) (kept.Garbage j h) history x)
 
-  pub grows_garbage : Grows history (entry_by me (kept.Garbage i g) ∷ history)
-  grows_garbage = grows_else history me (kept.Garbage i g) no no (λ m k j h l x y. old_matches me (kept.Garbage i g) history no m j h y)
+  pub grows_garbage : Grows history sent (entry_by me (kept.Garbage i g) ∷ history) sent
+  grows_garbage = grows_else history sent me (kept.Garbage i g) no no (λ m k j h l x y. old_matches me (kept.Garbage i g) history no m j h y)
 
   garbage_garbaged : (m : RoleId) (j : Round) (h : Shape) → HasGarbage (entry_by me (kept.Garbage i g) ∷ history) m j h
-      → IsConfig (entry_by me (kept.Garbage i g) ∷ history) j h × IsCollected c (entry_by me (kept.Garbage i g) ∷ history) j × IsRetiring sent j
+      → IsConfig (entry_by me (kept.Garbage i g) ∷ history) j h × IsCollected c (entry_by me (kept.Garbage i g) ∷ history) sent j × IsRetiring sent j
   garbage_garbaged m j h x =
-      let y : IsConfig history j h × IsCollected c history j × IsRetiring sent j =
+      let y : IsConfig history j h × IsCollected c history sent j × IsRetiring sent j =
       ⊎_elim (λ q. rw (q.1, q.2) (config, collected, retiring)) (λ o. facts.garbaged m j h o) (garbage_cases m j h x) in (
-        grown_config c history (entry_by me (kept.Garbage i g) ∷ history) grows_garbage j h y.0,
-        grown_collected c history (entry_by me (kept.Garbage i g) ∷ history) grows_garbage j y.1,
+        grown_config c history sent (entry_by me (kept.Garbage i g) ∷ history) sent grows_garbage j h y.0,
+        grown_collected c history sent (entry_by me (kept.Garbage i g) ∷ history) sent grows_garbage j y.1,
         y.2,
       )
 
@@ -442,12 +448,12 @@ chosen_at history first (v ∷ new) chosen (suc k) u x =
 
 module _ (c : Cluster) (history : List KeptRecord) (sent : List Letter) (states : RoleId → State) (facts : Facts c history sent states)
     (me : RoleId) (new : List Value) (chosen : AreChosen history (length (durable_of replica_rules me history).log) new) where
-  pub grows_log : Grows history (entry_by me (kept.Log new) ∷ history)
-  grows_log = grows_else history me (kept.Log new) no no (λ m k j h l x y. old_matches me (kept.Log new) history no m j h y)
+  pub grows_log : Grows history sent (entry_by me (kept.Log new) ∷ history) sent
+  grows_log = grows_else history sent me (kept.Log new) no no (λ m k j h l x y. old_matches me (kept.Log new) history no m j h y)
 
   log_own : (s : ℕ) (u : Value) → slice_get ((durable_of replica_rules me history).log ++ new) s ≡ Some u → IsChosen (entry_by me (kept.Log new) ∷ history) s u
   log_own s u x =
-      grown_chosen_somewhere c history (entry_by me (kept.Log new) ∷ history) grows_log s u
+      grown_chosen_somewhere c history sent (entry_by me (kept.Log new) ∷ history) sent grows_log s u
       (⊎_elim
       (λ o. facts.logged me s u o)
       (λ r. subst (λ t. IsChosen history t u) (sym r.1) (chosen_at history (length (durable_of replica_rules me history).log) new chosen r.0 u r.2))
@@ -477,8 +483,8 @@ module _ (c : Cluster) (history : List KeptRecord) (sent : List Letter) (states 
       (λ o. inr o)
       (kept_cases me a (kept.Round i g) (kept.Round j h) history x)
 
-  pub grows_round : Grows history (entry_by me (kept.Round i g) ∷ history)
-  grows_round = grows_else history me (kept.Round i g) no no (λ m k j h l x y. old_matches me (kept.Round i g) history no m j h y)
+  pub grows_round : Grows history sent (entry_by me (kept.Round i g) ∷ history) sent
+  grows_round = grows_else history sent me (kept.Round i g) no no (λ m k j h l x y. old_matches me (kept.Round i g) history no m j h y)
 
   round_owner : (a : RoleId) (j : Round) (h : Shape) → HasKept (entry_by me (kept.Round i g) ∷ history) a (kept.Round j h) → a ≡ role kind.Leader j.id
   round_owner a j h m = ⊎_elim (λ q. rw (q.0, q.1) owned) (λ o. facts.owner a j h o) (round_cases a j h m)

@@ -26,7 +26,7 @@ use Rattle.cx_model.specs.declared.states.Stage.TheVariants.{Off, Informing, Col
 use Rattle.cx_model.specs.Acceptor.{AcceptorDurable, acceptor_rules}
 use Rattle.cx_model.specs.Collection.{Collection}
 use Rattle.cx_model.specs.Facts.{HasVoted, IsProposed, IsRetiring, LeaderWasTold, ProxyWasTold, BatcherWasTold, ReplicaWasTold, ReaderWasTold}
-use Rattle.cx_model.specs.Leader.{LeaderVolatile, leader_rules, round_of, is_idle}
+use Rattle.cx_model.specs.Leader.{LeaderVolatile, leader_rules, round_of, is_idle, is_changed}
 use Rattle.cx_model.specs.Matchmaker.{MatchmakerDurable, matchmaker_rules, entry}
 use Rattle.cx_model.specs.Member.{Member}
 use Rattle.cx_model.specs.Promises.{HasKept, IsConfig}
@@ -39,15 +39,15 @@ use Rattle.cx_inv_match.specs.Words.{HasMatch, HasGarbage, HasMark, HasPromise, 
 abbrev pub Says : Cluster → List KeptRecord → List Letter → RoleId → Msg → Type 0
 Says c history sent from (msg.Leads i) = IsMatched c history i
 Says c history sent from (msg.MatchA i g) = IsConfig history i g
-Says c history sent from (msg.MatchB i w entries) = IsAnswer c history from i w entries
+Says c history sent from (msg.MatchB i w entries) = IsAnswer c history sent from i w entries
 Says c history sent from (msg.Phase1B i cw votes) = IsPromise history from i cw votes
-Says c history sent from (msg.Propose i g s cw v) = IsConfig history i g × IsMatched c history i × IsSafe c history i s v × (cw ≤ s)
+Says c history sent from (msg.Propose i g s cw v) = IsConfig history i g × IsMatched c history i × IsSafe c history sent i s v × (cw ≤ s)
 Says c history sent from (msg.Phase2A i s cw v) = IsProposed sent i s v × (cw ≤ s)
 Says c history sent from (msg.Phase2B i s) = (v : Value) × HasVoted history from i s v
 Says c history sent from (msg.Chosen s v) = IsChosen history s v
 Says c history sent from (msg.ChosenIn i s) = (v : Value) × IsChosenIn history i s v
 Says c history sent from (msg.Informed i n) = HasLow history from i n
-Says c history sent from (msg.GarbageA i g) = IsConfig history i g × IsCollected c history i
+Says c history sent from (msg.GarbageA i g) = IsConfig history i g × IsCollected c history sent i
 Says c history sent from other = Unit {0}
 
 -- No sender was counted twice.
@@ -60,8 +60,8 @@ abbrev pub told_by : List MatchAnswer → List ℕ
 told_by [] = []
 told_by (a ∷ told) = a.matchmaker ∷ told_by told
 
--- a leader before the end of its first phase: nothing of its round was proposed, nobody was asked to forget earlier ones for it, and it isn't
--- retiring them
+-- a leader that still asks matchmakers or acceptors: nothing of its round was proposed, nobody was asked to forget earlier ones for it, and it
+-- isn't retiring them
 pub record IsMatching (c : Cluster) (sent : List Letter) (own : Entry) (v : LeaderVolatile) : Type 0 where
   pub unproposed : (s : ℕ) (u : Value) → IsProposed sent own.round s u → ⊥
   pub unended : IsRetiring sent own.round → ⊥
@@ -74,11 +74,19 @@ pub record IsInforming (history : List KeptRecord) (own : Entry) (end : ℕ) (k 
   pub chosen : (s : ℕ) → k.mark ≤ s → s < end → (u : Value) × IsChosenIn history own.round s u
   pub lows : (a : ℕ) → Member a k.counted → HasLow history (role kind.Acceptor a) own.round k.mark
 
-abbrev pub InStage : Cluster → List KeptRecord → Entry → ℕ → Collection → Stage → Type 0
-InStage c history own end k Off = Unit {0}
-InStage c history own end k Informing = IsInforming history own end k
-InStage c history own end k Collecting = IsCollected c history own.round
-InStage c history own end k Retired = Unit {0}
+abbrev pub InStage : Cluster → List KeptRecord → List Letter → Entry → ℕ → Collection → Stage → Type 0
+InStage c history sent own end k Off = Unit {0}
+InStage c history sent own end k Informing = IsInforming history own end k
+InStage c history sent own end k Collecting = IsCollected c history sent own.round
+InStage c history sent own end k Retired = Unit {0}
+
+-- a leader that goes on with another grid: what it proposed in the round before may be proposed in this one, and from the next slot on any value
+pub record IsReady (c : Cluster) (history : List KeptRecord) (sent : List Letter) (own : Entry) (v : LeaderVolatile) : Type 0 where
+  pub once : (s : ℕ) (u w : Value) → Member {X = Placed} (record { slot = s; value = u }) v.proposed → Member {X = Placed} (record { slot = s; value = w }) v.proposed → u ≡ w
+  pub window : (p : Placed) → Member p v.proposed → (v.cw ≤ p.slot) × (p.slot < v.next)
+  pub safe : (p : Placed) → Member p v.proposed → IsSafe c history sent own.round p.slot p.value
+  pub free : (s : ℕ) (u : Value) → v.next ≤ s → IsSafe c history sent own.round s u
+  pub cw_next : v.cw ≤ v.next
 
 pub record IsLeading (c : Cluster) (history : List KeptRecord) (sent : List Letter) (own : Entry) (v : LeaderVolatile) : Type 0 where
   pub config : IsConfig history own.round own.grid
@@ -88,19 +96,19 @@ pub record IsLeading (c : Cluster) (history : List KeptRecord) (sent : List Lett
   pub remembered : (s : ℕ) (u : Value) → IsProposed sent own.round s u → (s < v.cw) ⊎ Member {X = Placed} (record { slot = s; value = u }) v.proposed
   pub once : (s : ℕ) (u w : Value) → Member {X = Placed} (record { slot = s; value = u }) v.proposed → Member {X = Placed} (record { slot = s; value = w }) v.proposed → u ≡ w
   pub window : (p : Placed) → Member p v.proposed → (v.cw ≤ p.slot) × (p.slot < v.next)
-  pub safe : (p : Placed) → Member p v.proposed → IsSafe c history own.round p.slot p.value
-  -- from the end of its first phase on any value is safe, and the next slot is not before that
-  pub free : (s : ℕ) (u : Value) → v.end ≤ s → IsSafe c history own.round s u
+  pub safe : (p : Placed) → Member p v.proposed → IsSafe c history sent own.round p.slot p.value
+  -- from the slot on that was the next one when it began to lead any value is safe, and the next slot is not before that
+  pub free : (s : ℕ) (u : Value) → v.end ≤ s → IsSafe c history sent own.round s u
   pub end_next : v.end ≤ v.next
   pub cw_next : v.cw ≤ v.next
   pub known : (s : ℕ) → Member s v.chosen → (u : Value) × IsChosenIn history own.round s u
-  pub stage : InStage c history own v.end v.collection v.collection.stage
+  pub stage : InStage c history sent own v.end v.collection v.collection.stage
 
 -- the record by which a leader asks the matchmakers is kept before, so one without a round is idle
 abbrev pub InMode : Cluster → List KeptRecord → List Letter → Option Entry → LeaderVolatile → Mode → Type 0
 InMode c history sent None v mode = is_idle mode ≡ true
 InMode c history sent (Some own) v Idle = Unit {0}
-InMode c history sent (Some own) v Matching = IsMatching c sent own v
+InMode c history sent (Some own) v Matching = IsMatching c sent own v × (is_changed own.round ≡ true → IsReady c history sent own v)
 InMode c history sent (Some own) v Phase1 = IsMatching c sent own v × (c.f < length v.told)
 InMode c history sent (Some own) v Leading = IsLeading c history sent own v
 
@@ -114,7 +122,7 @@ pub record IsPending (history : List KeptRecord) (sent : List Letter) (p : Pendi
 abbrev pub AreAsking : Cluster → ReaderVolatile → Type 0
 AreAsking c v = (r : Reading) → Member r v.reads → is_matched c r ≡ false → (a : Acked) → Member a r.acks → ⊥
 
--- What is known of a running role: what it counted, holds pending or was told came to it in datagrams, and what else its rows rest on.
+-- What is known of a running role: what it counted, holds pending or knows came to it in datagrams, and what else its rows rest on.
 abbrev pub InState : Cluster → List KeptRecord → List Letter → RoleId → State → Type 0
 InState c history sent me Down = Unit {0}
 InState c history sent me Plain = Unit {0}
@@ -159,7 +167,7 @@ pub record Facts (c : Cluster) (history : List KeptRecord) (sent : List Letter) 
   pub last : (me : RoleId) → IsLast history me (durable_of leader_rules me history).own
   -- a matchmaker records only what was kept, and forgets only for what may be collected
   pub asked : (m : RoleId) (i : Round) (g : Shape) → HasMatch history m i g → IsConfig history i g
-  pub garbaged : (m : RoleId) (i : Round) (g : Shape) → HasGarbage history m i g → IsConfig history i g × IsCollected c history i × IsRetiring sent i
+  pub garbaged : (m : RoleId) (i : Round) (g : Shape) → HasGarbage history m i g → IsConfig history i g × IsCollected c history sent i × IsRetiring sent i
   pub logs : (m : RoleId) → IsLog history m (durable_of matchmaker_rules m history)
   pub acceptors : (a : RoleId) → IsAcceptor history a (durable_of acceptor_rules a history)
   -- each vote was proposed, and one value for each round and slot

@@ -28,7 +28,7 @@ use Rattle.cx_inv_run.proofs.Sends.{batcher_sends, leader_sends, proxy_sends, un
 use Rattle.cx_inv_run.proofs.Steps.{run_keeps, run_from_keeps, run_append, run_cluster, along, all_allowed}
 use Rattle.cx_inv_match.specs.Facts.{Facts}
 use Rattle.cx_inv_vote.proofs.Steps.{facts_hold}
-use Rattle.cx_inv_read.specs.Reads.{Has, ReadSays, InReader, Reads, IsElse, Unread}
+use Rattle.cx_inv_read.specs.Reads.{Has, HasSent, ReadSays, InReader, Reads, IsElse, Unread}
 use Rattle.cx_inv_read.proofs.Keep.{Since, lands, no_acks, sent_more}
 use Rattle.cx_inv_read.proofs.Rows.{Each}
 use Rattle.cx_inv_read.proofs.Says.{Known}
@@ -37,8 +37,8 @@ use Rattle.cx_inv_read.proofs.Roles.{acceptor_lands, matchmaker_lands, replica_l
 use Rattle.cx_inv_read.proofs.Unread.{IsOther, unread_laws, not_asked}
 
 -- what is known from the asking on
-abbrev KnownSince : Cluster → List KeptRecord → List KeptRecord → List Letter → (RoleId → State) → Type 0
-KnownSince c asked history sent states = Known c history sent states × Has history asked
+abbrev KnownSince : Cluster → List KeptRecord → List Letter → List KeptRecord → List Letter → (RoleId → State) → Type 0
+KnownSince c asked sent0 history sent states = Known c history sent states × Has history asked × HasSent sent sent0
 
 fresh_reader : (c : Cluster) (k : Kind) → InReader c (fresh_state c k)
 fresh_reader c kind.Client = tt
@@ -63,22 +63,23 @@ requested P submit read (event.Crash r) = λ d m. absurd m
 requested P submit read (event.Restart r) = λ d m. absurd m
 
 -- the same facts, with other states of readers
-with_states : (c : Cluster) (asked : List KeptRecord) (t : Token) (history : List KeptRecord) (sent : List Letter) (states others : RoleId → State)
-    → Reads c asked t history sent states → ((a : RoleId) → InReader c (others a)) → Reads c asked t history sent others
-with_states c asked t history sent states others h readers = record { has = h.has; says = h.says; evidence = h.evidence; readers = readers }
+with_states : (c : Cluster) (asked : List KeptRecord) (sent0 : List Letter) (t : Token) (history : List KeptRecord) (sent : List Letter) (states others : RoleId → State)
+    → Reads c asked sent0 t history sent states → ((a : RoleId) → InReader c (others a)) → Reads c asked sent0 t history sent others
+with_states c asked sent0 t history sent states others h readers = record { has = h.has; has_sent = h.has_sent; says = h.says; evidence = h.evidence; readers = readers }
 
 module _ (c : Cluster) (asked : List KeptRecord) (sent0 : List Letter) (states0 : RoleId → State) (facts0 : Facts c asked sent0 states0) (t : Token) where
-  asks : (history : List KeptRecord) (sent : List Letter) (states : RoleId → State) (e : Event) → Known c history sent states → Reads c asked t history sent states
-      → Reads c asked t history (sent ++ request e) states
+  asks : (history : List KeptRecord) (sent : List Letter) (states : RoleId → State) (e : Event) → Known c history sent states → Reads c asked sent0 t history sent states
+      → Reads c asked sent0 t history (sent ++ request e) states
   asks history sent states e known reads =
-      sent_more c asked t history sent states known.1 reads (request e)
+      sent_more c asked sent0 t history sent states known.1 reads (request e)
       (requested (λ d. ReadSays asked t history d.from d.to d.msg) (λ from to command. tt) (λ from to seq replica key. tt) e)
       (λ w a n x. absurd (requested (λ d. (u : Token) (i : Round) (k : ℕ) → d.msg ≡ msg.PreReadAck u i k → ⊥)
       (λ from to command u i k q. cc) (λ from to seq replica key u i k q. cc) e _ x.1 t w n refl))
 
-  start : (states : RoleId → State) → ((a : RoleId) → (states a ≡ Down) ⊎ (states a ≡ fresh_state c a.kind)) → Since c asked t [] [] states
-  start states is has = record {
+  start : (states : RoleId → State) → ((a : RoleId) → (states a ≡ Down) ⊎ (states a ≡ fresh_state c a.kind)) → Since c asked sent0 t [] [] states
+  start states is has has_sent = record {
     has = has;
+    has_sent = has_sent;
     says = λ d m. absurd m;
     evidence = λ w. inr (inl (λ a n x. x.1));
     readers = λ a. elim (is a) [
@@ -87,46 +88,46 @@ module _ (c : Cluster) (asked : List KeptRecord) (sent0 : List Letter) (states0 
     ];
   }
 
-  pub reads_laws : Laws c (λ e. Unit {0}) (KnownSince c asked) (Since c asked t)
+  pub reads_laws : Laws c (λ e. Unit {0}) (KnownSince c asked sent0) (Since c asked sent0 t)
   reads_laws = record {
-    same = λ history sent states others e h has.
-        let reads = h has in with_states c asked t history sent states others reads (λ a. subst (λ s. InReader c s) (e a) (reads.readers a));
+    same = λ history sent states others e h has has_sent.
+        let reads = h has has_sent in with_states c asked sent0 t history sent states others reads (λ a. subst (λ s. InReader c s) (e a) (reads.readers a));
     start = start;
-    stop = λ history sent states me h has.
-        let reads = h has in
-        with_states c asked t history sent states _ reads (set_running (λ a s. InReader c s) me Down states tt (λ a e. reads.readers a));
-    wake = λ history sent states me h down has.
-        let reads = h has in
-        with_states c asked t history sent states _ reads (set_running (λ a s. InReader c s) me (fresh_state c me.kind) states (fresh_reader c me.kind) (λ a e. reads.readers a));
-    ask = λ history sent states e allowed known h has. asks history sent states e known.0 (h has);
+    stop = λ history sent states me h has has_sent.
+        let reads = h has has_sent in
+        with_states c asked sent0 t history sent states _ reads (set_running (λ a s. InReader c s) me Down states tt (λ a e. reads.readers a));
+    wake = λ history sent states me h down has has_sent.
+        let reads = h has has_sent in
+        with_states c asked sent0 t history sent states _ reads (set_running (λ a s. InReader c s) me (fresh_state c me.kind) states (fresh_reader c me.kind) (λ a e. reads.readers a));
+    ask = λ history sent states e allowed known h has has_sent. asks history sent states e known.0 (h known.1 known.2);
     batcher = λ history sent states b v i known h up given.
         let kinds = batcher_kinds c (role kind.Batcher b) refl v i in
-        lands c asked t history sent states known.0.1 (h known.1) (role kind.Batcher b) BatcherIn _
+        lands c asked sent0 t history sent states known.0.1 (h known.1 known.2) (role kind.Batcher b) BatcherIn _
         (sends_only (λ d. ReadSays asked t history d.from d.to d.msg) (role kind.Batcher b) _ kinds
         (λ to. batcher_sends (λ m. ReadSays asked t history (role kind.Batcher b) to m) (λ commands. tt)))
-        (no_acks c asked t history sent states known.0.1 (h known.1) (role kind.Batcher b) _ (λ e. cc) kinds) tt;
+        (no_acks c asked sent0 t history sent states known.0.1 (h known.1 known.2) (role kind.Batcher b) _ (λ e. cc) kinds) tt;
     leader = λ history sent states l v i known h up given.
         let kinds = leader_kinds c (role kind.Leader l) refl (durable_of leader_rules (role kind.Leader l) history) v i in
-        lands c asked t history sent states known.0.1 (h known.1) (role kind.Leader l) LeaderIn _
+        lands c asked sent0 t history sent states known.0.1 (h known.1 known.2) (role kind.Leader l) LeaderIn _
         (sends_only (λ d. ReadSays asked t history d.from d.to d.msg) (role kind.Leader l) _ kinds
         (λ to. leader_sends (λ m. ReadSays asked t history (role kind.Leader l) to m) (λ j. tt) (λ j g. tt) (λ j. tt) (λ j g s cw u. tt) (λ j cw. tt) (λ j g. tt)))
-        (no_acks c asked t history sent states known.0.1 (h known.1) (role kind.Leader l) _ (λ e. cc) kinds) tt;
+        (no_acks c asked sent0 t history sent states known.0.1 (h known.1 known.2) (role kind.Leader l) _ (λ e. cc) kinds) tt;
     proxy = λ history sent states p v i known h up given.
         let kinds = proxy_kinds c (role kind.Proxy p) refl v i in
-        lands c asked t history sent states known.0.1 (h known.1) (role kind.Proxy p) ProxyIn _
+        lands c asked sent0 t history sent states known.0.1 (h known.1 known.2) (role kind.Proxy p) ProxyIn _
         (sends_only (λ d. ReadSays asked t history d.from d.to d.msg) (role kind.Proxy p) _ kinds
         (λ to. proxy_sends (λ m. ReadSays asked t history (role kind.Proxy p) to m) (λ j s cw u. tt) (λ s u. tt) (λ j s. tt)))
-        (no_acks c asked t history sent states known.0.1 (h known.1) (role kind.Proxy p) _ (λ e. cc) kinds) tt;
-    acceptor = λ history sent states a i known h up given. acceptor_lands c asked sent0 states0 facts0 t history sent states known.0 (h known.1) a i given;
-    matchmaker = λ history sent states m i known h up given. matchmaker_lands c asked sent0 states0 facts0 t history sent states known.0 (h known.1) m i;
-    replica = λ history sent states p v i known h up given. replica_lands c asked sent0 states0 facts0 t history sent states known.0 (h known.1) p v i up given;
+        (no_acks c asked sent0 t history sent states known.0.1 (h known.1 known.2) (role kind.Proxy p) _ (λ e. cc) kinds) tt;
+    acceptor = λ history sent states a i known h up given. acceptor_lands c asked sent0 states0 facts0 t history sent states known.0 (h known.1 known.2) a i given;
+    matchmaker = λ history sent states m i known h up given. matchmaker_lands c asked sent0 states0 facts0 t history sent states known.0 (h known.1 known.2) m i;
+    replica = λ history sent states p v i known h up given. replica_lands c asked sent0 states0 facts0 t history sent states known.0 (h known.1 known.2) p v i up given;
     unbatcher = λ history sent states u i known h up given.
         let kinds = unbatcher_kinds c (role kind.Unbatcher u) refl i in
-        lands c asked t history sent states known.0.1 (h known.1) (role kind.Unbatcher u) plain _
+        lands c asked sent0 t history sent states known.0.1 (h known.1 known.2) (role kind.Unbatcher u) plain _
         (sends_only (λ d. ReadSays asked t history d.from d.to d.msg) (role kind.Unbatcher u) _ kinds
         (λ to. unbatcher_sends (λ m. ReadSays asked t history (role kind.Unbatcher u) to m) (λ seq at reply. tt)))
-        (no_acks c asked t history sent states known.0.1 (h known.1) (role kind.Unbatcher u) _ (λ e. cc) kinds) tt;
-    reader = λ history sent states r v i known h up given. reader_lands c asked sent0 states0 facts0 t history sent states known.0 (h known.1) r v i up given;
+        (no_acks c asked sent0 t history sent states known.0.1 (h known.1 known.2) (role kind.Unbatcher u) _ (λ e. cc) kinds) tt;
+    reader = λ history sent states r v i known h up given. reader_lands c asked sent0 states0 facts0 t history sent states known.0 (h known.1 known.2) r v i up given;
   }
 
 -- runs
@@ -143,15 +144,27 @@ has_run : (w : World) (es : List Event) (asked : List KeptRecord) → Has (rever
 has_run w [] asked has = has
 has_run w (e ∷ es) asked has = has_run (step w e) es asked (λ k m. has_step w e k (has k m))
 
-known_since : (c : Cluster) (asked : List KeptRecord) (w : World) (es : List Event) → HoldsAlong (Known c) w es → Has (reverse w.kept) asked → HoldsAlong (KnownSince c asked) w es
-known_since c asked w [] known has = (known, has)
-known_since c asked w (e ∷ es) known has = ((known.0, has), known_since c asked (step w e) es known.1 (λ k m. has_step w e k (has k m)))
+-- and so are datagrams
+sent_step : (w : World) (e : Event) → HasSent (step w e).sent w.sent
+unfolding step
+sent_step w e d m = Member-first d w.sent (change w e).sends m
+
+sent_run : (w : World) (es : List Event) (sent0 : List Letter) → HasSent w.sent sent0 → HasSent (run_from w es).sent sent0
+sent_run w [] sent0 has = has
+sent_run w (e ∷ es) sent0 has = sent_run (step w e) es sent0 (λ d m. sent_step w e d (has d m))
+
+known_since : (c : Cluster) (asked : List KeptRecord) (sent0 : List Letter) (w : World) (es : List Event) → HoldsAlong (Known c) w es → Has (reverse w.kept) asked
+    → HasSent w.sent sent0 → HoldsAlong (KnownSince c asked sent0) w es
+known_since c asked sent0 w [] known has has_sent = (known, has, has_sent)
+known_since c asked sent0 w (e ∷ es) known has has_sent =
+    ((known.0, has, has_sent), known_since c asked sent0 (step w e) es known.1 (λ k m. has_step w e k (has k m)) (λ d m. sent_step w e d (has_sent d m)))
 
 -- of each read from the start on
-pub reads_always : (c : Cluster) (es : List Event) (t : Token) → HoldsIn (Reads c [] t) (run c es)
+pub reads_always : (c : Cluster) (es : List Event) (t : Token) → HoldsIn (Reads c [] [] t) (run c es)
 reads_always c es t =
-    run_keeps c (λ e. Unit {0}) (KnownSince c []) (Since c [] t) (reads_laws c [] [] _ (facts_hold c []) t) es
-    (known_since c [] (run c []) es (along c (Known c) (known_holds c) [] es) (λ k m. absurd m)) (all_allowed (run c []) es) (λ k m. absurd m)
+    run_keeps c (λ e. Unit {0}) (KnownSince c [] []) (Since c [] [] t) (reads_laws c [] [] _ (facts_hold c []) t) es
+    (known_since c [] [] (run c []) es (along c (Known c) (known_holds c) [] es) (λ k m. absurd m) (λ d m. absurd m)) (all_allowed (run c []) es)
+    (λ k m. absurd m) (λ d m. absurd m)
 
 -- a read that was not asked for is unread
 pub unread_holds : (c : Cluster) (es : List Event) (t : Token) → was_asked t (run c es).events ≡ false → HoldsIn (Unread t) (run c es)
@@ -168,17 +181,19 @@ else_says asked history t from to other h = tt
 
 -- of a read, from a run on in which it was not asked for
 pub reads_since : (c : Cluster) (es more : List Event) (t : Token) → was_asked t (run c es).events ≡ false
-    → HoldsIn (Reads c (reverse (run c es).kept) t) (run c (es ++ more))
+    → HoldsIn (Reads c (reverse (run c es).kept) (run c es).sent t) (run c (es ++ more))
 reads_since c es more t h =
     let w = run c es in
     let asked = reverse w.kept in
     let unread = unread_holds c es t h in
-    let now : HoldsIn (Since c asked t) w = λ has. record {
+    let now : HoldsIn (Since c asked w.sent t) w = λ has has_sent. record {
       has = has;
+      has_sent = has_sent;
       says = λ d m. else_says asked asked t d.from d.to d.msg (unread d m);
       evidence = λ i. inr (inl (λ a n x. unread _ x.1 refl));
       readers = (reads_always c es t).readers;
     } in
-    let later = run_from_keeps c (λ e. Unit {0}) (KnownSince c asked) (Since c asked t) (reads_laws c asked w.sent (states_of w.roles) (facts_hold c es) t) w (run_cluster c es)
-    now more (known_since c asked w more (along c (Known c) (known_holds c) es more) (λ k m. m)) (all_allowed w more) (has_run w more asked (λ k m. m)) in
-    subst (λ x. HoldsIn (Reads c asked t) x) (sym (run_append c es more)) later
+    let later = run_from_keeps c (λ e. Unit {0}) (KnownSince c asked w.sent) (Since c asked w.sent t) (reads_laws c asked w.sent (states_of w.roles) (facts_hold c es) t) w (run_cluster c es)
+    now more (known_since c asked w.sent w more (along c (Known c) (known_holds c) es more) (λ k m. m) (λ d m. m)) (all_allowed w more)
+    (has_run w more asked (λ k m. m)) (sent_run w more w.sent (λ d m. m)) in
+    subst (λ x. HoldsIn (Reads c asked w.sent t) x) (sym (run_append c es more)) later

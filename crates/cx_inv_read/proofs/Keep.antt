@@ -20,16 +20,16 @@ use Rattle.cx_model.specs.Request.{same_read}
 use Rattle.cx_inv_run.specs.Kinds.{OfKind}
 use Rattle.cx_inv_run.specs.Laws.{Lands}
 use Rattle.cx_inv_run.specs.States.{State, Down, entry_by, with_record}
-use Rattle.cx_inv_run.proofs.Members.{Member-cases, Member-both, Member-any, any-Member}
+use Rattle.cx_inv_run.proofs.Members.{Member-cases, Member-first, Member-both, Member-any, any-Member}
 use Rattle.cx_inv_run.proofs.Histories.{kept_longer, set_running}
 use Rattle.cx_inv_run.proofs.Rounds.{same_round-true, same_round-itself}
 use Rattle.cx_inv_match.specs.Facts.{Facts}
-use Rattle.cx_inv_read.specs.Reads.{Has, Covers, IsRaised, IsReadAnswer, ReadSays, IsAcked, HasEvidence, InReader, Reads}
+use Rattle.cx_inv_read.specs.Reads.{Has, HasSent, Covers, IsRaised, IsReadAnswer, ReadSays, IsAcked, HasEvidence, InReader, Reads}
 use Rattle.cx_inv_read.proofs.Rows.{Each, same_read-true}
 
 -- from the asking on
-abbrev pub Since : Cluster → List KeptRecord → Token → List KeptRecord → List Letter → (RoleId → State) → Type 0
-Since c asked t history sent states = Has history asked → Reads c asked t history sent states
+abbrev pub Since : Cluster → List KeptRecord → List Letter → Token → List KeptRecord → List Letter → (RoleId → State) → Type 0
+Since c asked sent0 t history sent states = Has history asked → HasSent sent sent0 → Reads c asked sent0 t history sent states
 
 pub covers_older : (history longer : List KeptRecord) → Has longer history → (a : RoleId) (n : ℕ) → Covers longer a n → Covers history a n
 covers_older history longer more a n h = record {
@@ -57,10 +57,19 @@ module _ (history longer : List KeptRecord) (more : Has longer history) where
   still_says asked t from to (msg.ReadAnswer seq n found) h = h
   still_says asked t from to other h = tt
 
-  still_evidence : (c : Cluster) (asked : List KeptRecord) (t : Token) (sent : List Letter) (w : Round) → HasEvidence c asked t history sent w → HasEvidence c asked t longer sent w
-  still_evidence c asked t sent w (inl e) = inl e
-  still_evidence c asked t sent w (inr (inl x)) = inr (inl x)
-  still_evidence c asked t sent w (inr (inr k)) = inr (inr (k.0, (λ r m. more r (k.1 r m)), k.2, k.3, k.4))
+  still_evidence : (c : Cluster) (asked : List KeptRecord) (sent0 : List Letter) (t : Token) (sent : List Letter) (w : Round) → HasEvidence c asked sent0 t history sent w
+      → HasEvidence c asked sent0 t longer sent w
+  still_evidence c asked sent0 t sent w (inl e) = inl e
+  still_evidence c asked sent0 t sent w (inr (inl x)) = inr (inl x)
+  still_evidence c asked sent0 t sent w (inr (inr k)) = inr (inr (record {
+    past = k.past;
+    told = k.told;
+    within = λ r m. more r (k.within r m);
+    longer = k.longer;
+    wider = k.wider;
+    collected = k.collected;
+    covers = k.covers;
+  }))
 
 -- whether a message is an acceptor's answer to the read, with this watermark
 abbrev is_ack : Token → Round → Msg → Bool
@@ -79,35 +88,39 @@ is_ack-itself t w n = and_from _ _ (and_from _ _ (number_itself t.client) (numbe
 acked_cases : (sent ds : List Letter) (t : Token) (w : Round) (a : RoleId) (n : ℕ) → IsAcked (sent ++ ds) t w a n → IsAcked sent t w a n ⊎ IsAcked ds t w a n
 acked_cases sent ds t w a n h = elim (Member-cases _ sent ds h.1) [ inl m ↦ inl (h.0, m) | inr m ↦ inr (h.0, m) ]
 
-module _ (c : Cluster) (asked : List KeptRecord) (t : Token) (history : List KeptRecord) (sent : List Letter) (states : RoleId → State)
-    (facts : Facts c history sent states) (reads : Reads c asked t history sent states) where
+module _ (c : Cluster) (asked : List KeptRecord) (sent0 : List Letter) (t : Token) (history : List KeptRecord) (sent : List Letter) (states : RoleId → State)
+    (facts : Facts c history sent states) (reads : Reads c asked sent0 t history sent states) where
   -- answers of acceptors by what they kept till now, with a watermark that was raised
   abbrev pub AcksAreSo : List Letter → Type 0
   AcksAreSo ds = (w : Round) (a : RoleId) (n : ℕ) → IsAcked ds t w a n → Covers history a n × IsRaised history w
 
   -- no answer with this watermark, or all cover this history
   new_evidence : (w : Round) → IsRaised history w → ((a : RoleId) (n : ℕ) → IsAcked sent t w a n → ⊥) → (ds : List Letter) → AcksAreSo ds
-      → HasEvidence c asked t history (sent ++ ds) w
+      → HasEvidence c asked sent0 t history (sent ++ ds) w
   new_evidence w (inl e) none ds acks = inl e
   new_evidence w (inr x) none ds acks =
-      inr (inr (
-        history,
-        (λ k m. m),
-        reads.has,
-        (facts.garbaged x.0 w x.1 x.2).1,
-        λ a n y. elim (acked_cases sent ds t w a n y) [ inl z ↦ absurd (none a n z) | inr z ↦ (acks w a n z).0 ],
-      ))
+      inr (inr (record {
+        past = history;
+        told = sent;
+        within = λ k m. m;
+        longer = reads.has;
+        wider = reads.has_sent;
+        collected = (facts.garbaged x.0 w x.1 x.2).1;
+        covers = λ a n y. elim (acked_cases sent ds t w a n y) [ inl z ↦ absurd (none a n z) | inr z ↦ (acks w a n z).0 ];
+      }))
 
-  more_evidence : (ds : List Letter) → AcksAreSo ds → (w : Round) → HasEvidence c asked t history sent w → HasEvidence c asked t history (sent ++ ds) w
+  more_evidence : (ds : List Letter) → AcksAreSo ds → (w : Round) → HasEvidence c asked sent0 t history sent w → HasEvidence c asked sent0 t history (sent ++ ds) w
   more_evidence ds acks w (inl e) = inl e
   more_evidence ds acks w (inr (inr k)) =
-      inr (inr (
-        k.0,
-        k.1,
-        k.2,
-        k.3,
-        λ a n y. elim (acked_cases sent ds t w a n y) [ inl z ↦ k.4 a n z | inr z ↦ covers_older k.0 history k.1 a n (acks w a n z).0 ],
-      ))
+      inr (inr (record {
+        past = k.past;
+        told = k.told;
+        within = k.within;
+        longer = k.longer;
+        wider = k.wider;
+        collected = k.collected;
+        covers = λ a n y. elim (acked_cases sent ds t w a n y) [ inl z ↦ k.covers a n z | inr z ↦ covers_older k.past history k.within a n (acks w a n z).0 ];
+      }))
   more_evidence ds acks w (inr (inl none)) = elim (cases_Bool (list_any (λ (d : Letter). is_ack t w d.msg) ds)) [
     | inl h ↦ (
         let r = any-Member (λ (d : Letter). is_ack t w d.msg) ds h in
@@ -122,9 +135,10 @@ module _ (c : Cluster) (asked : List KeptRecord) (t : Token) (history : List Kep
   ]
 
   -- more datagrams, of no role's step
-  pub sent_more : (ds : List Letter) → Each (λ d. ReadSays asked t history d.from d.to d.msg) ds → AcksAreSo ds → Reads c asked t history (sent ++ ds) states
+  pub sent_more : (ds : List Letter) → Each (λ d. ReadSays asked t history d.from d.to d.msg) ds → AcksAreSo ds → Reads c asked sent0 t history (sent ++ ds) states
   sent_more ds says acks = record {
     has = reads.has;
+    has_sent = λ d m. Member-first d sent ds (reads.has_sent d m);
     says = Member-both (λ (d : Letter). ReadSays asked t history d.from d.to d.msg) sent ds reads.says says;
     evidence = λ w. more_evidence ds acks w (reads.evidence w);
     readers = reads.readers;
@@ -133,22 +147,24 @@ module _ (c : Cluster) (asked : List KeptRecord) (t : Token) (history : List Kep
   -- a row lands whose datagrams say what is so
   pub lands : {V : Type 0} (me : RoleId) (make : V → State) (o : Outcome V)
       → Each (λ d. ReadSays asked t history d.from d.to d.msg) o.sends → AcksAreSo o.sends → InReader c (make o.volatile)
-      → Lands (Since c asked t) history sent states me make o
+      → Lands (Since c asked sent0 t) history sent states me make o
   lands me make o says acks state = record {
-    whole = λ has. record {
+    whole = λ has has_sent. record {
       has = has;
+      has_sent = has_sent;
       says = Member-both (λ (d : Letter). ReadSays asked t (with_record me o.kept history) d.from d.to d.msg) sent o.sends
           (λ d m. still_says history (with_record me o.kept history) (kept_longer me o.kept history) asked t d.from d.to d.msg (reads.says d m))
           (λ d m. still_says history (with_record me o.kept history) (kept_longer me o.kept history) asked t d.from d.to d.msg (says d m));
       evidence = λ w.
-          still_evidence history (with_record me o.kept history) (kept_longer me o.kept history) c asked t (sent ++ o.sends) w
+          still_evidence history (with_record me o.kept history) (kept_longer me o.kept history) c asked sent0 t (sent ++ o.sends) w
           (more_evidence o.sends acks w (reads.evidence w));
       readers = set_running (λ a s. InReader c s) me (make o.volatile) states state (λ a e. reads.readers a);
     };
-    cut = λ r e has. record {
+    cut = λ r e has has_sent. record {
       has = has;
+      has_sent = has_sent;
       says = λ d m. still_says history (entry_by me r ∷ history) (λ k x. inr x) asked t d.from d.to d.msg (reads.says d m);
-      evidence = λ w. still_evidence history (entry_by me r ∷ history) (λ k x. inr x) c asked t sent w (reads.evidence w);
+      evidence = λ w. still_evidence history (entry_by me r ∷ history) (λ k x. inr x) c asked sent0 t sent w (reads.evidence w);
       readers = set_running (λ a s. InReader c s) me Down states tt (λ a e. reads.readers a);
     };
   }

@@ -23,7 +23,8 @@ use Rattle.cx_model.specs.Facts.{ReaderWasTold}
 use Rattle.cx_model.specs.Matched.{enough, is_counted, greatest_watermark, live_entries, rows_whole}
 use Rattle.cx_model.specs.Matchmaker.{entry}
 use Rattle.cx_model.specs.Member.{Member}
-use Rattle.cx_model.specs.Names.{names, names_role, names_body, count_of}
+use Rattle.cx_base.specs.Cluster.{count_of}
+use Rattle.cx_model.specs.Names.{names, names_role, names_body}
 use Rattle.cx_model.specs.Outcome.{Outcome, by_test}
 use Rattle.cx_model.specs.Reader.{Reading, ReaderVolatile, reading, token, reading_of, is_matched, acked_by, greatest_mark, match_ack_row, pre_read_ack_row, reader_takes, reader_row}
 use Rattle.cx_inv_run.specs.Laws.{Lands}
@@ -48,7 +49,7 @@ from_within c d k h e =
     ltb-true d.from.index (count_of c k) (subst (λ x. nat_lt d.from.index (count_of c x) ≡ true) e b.0)
 
 module _ (c : Cluster) (asked : List KeptRecord) (sent0 : List Letter) (states0 : RoleId → State) (facts0 : Facts c asked sent0 states0) (t : Token)
-    (history : List KeptRecord) (sent : List Letter) (states : RoleId → State) (known : Known c history sent states) (reads : Reads c asked t history sent states) where
+    (history : List KeptRecord) (sent : List Letter) (states : RoleId → State) (known : Known c history sent states) (reads : Reads c asked sent0 t history sent states) where
   abbrev facts : Facts c history sent states
   facts = known.1
 
@@ -63,7 +64,7 @@ module _ (c : Cluster) (asked : List KeptRecord) (sent0 : List Letter) (states0 
   abbrev Answers : List MatchAnswer → Type 0
   Answers told = (a : MatchAnswer) → Member a told → IsReadAnswer asked history (role kind.Matchmaker a.matchmaker) a.watermark a.entries
 
-  -- the greatest watermark told is none, or was raised
+  -- the greatest watermark reported is none, or was raised
   top_raised : (told : List MatchAnswer) → Answers told → IsRaised history (greatest_watermark told)
   top_raised told h = elim (top_told told) [
     | inl e ↦ inl e
@@ -90,13 +91,13 @@ module _ (c : Cluster) (asked : List KeptRecord) (sent0 : List Letter) (states0 
 
   -- acceptors that answered
   row_acks : (w : Round) (acks : List Acked) (one : Acked) → Member one acks → ((a : Acked) → Member a acks → IsAcked sent t w (role kind.Acceptor a.acceptor) a.mark)
-      → AreAcks c asked history w acks
+      → AreAcks c asked sent0 history w acks
   row_acks w acks one m h = record {
     covered = λ a k. let x = h a k in (reads.says _ x.1 refl).0;
     collected = elim (reads.evidence w) [
       | inl e ↦ inl e
       | inr (inl none) ↦ absurd (none (role kind.Acceptor one.acceptor) one.mark (h one m))
-      | inr (inr k) ↦ inr (k.0, k.1, k.2, k.3, λ a n. k.4 (role kind.Acceptor a.acceptor) a.mark (h a n))
+      | inr (inr k) ↦ inr (k.past, k.told, k.within, k.longer, k.wider, k.collected, λ a n. k.covers (role kind.Acceptor a.acceptor) a.mark (h a n))
     ];
   }
 
@@ -189,9 +190,9 @@ module _ (c : Cluster) (asked : List KeptRecord) (sent0 : List Letter) (states0 
     reader_good (input.Order order) given = record { sends = nothing; reads = all }
 
   pub reader_lands : (r : ℕ) (v : ReaderVolatile) (i : Input) → states (role kind.Reader r) ≡ ReaderIn v → Given sent (role kind.Reader r) i
-      → Lands (Since c asked t) history sent states (role kind.Reader r) ReaderIn (reader_row c (role kind.Reader r) tt v i)
+      → Lands (Since c asked sent0 t) history sent states (role kind.Reader r) ReaderIn (reader_row c (role kind.Reader r) tt v i)
   reader_lands r v i up given =
       let me : RoleId = role kind.Reader r in
       let good = reader_good me v (subst (λ s. InReader c s) up (reads.readers me)) (subst (λ s. InState c history sent me s) up (facts.running me)).0 i given in
-      lands c asked t history sent states facts reads me ReaderIn _ good.sends
-      (no_acks c asked t history sent states facts reads me _ (λ e. cc) (reader_kinds c me refl v i)) good.reads
+      lands c asked sent0 t history sent states facts reads me ReaderIn _ good.sends
+      (no_acks c asked sent0 t history sent states facts reads me _ (λ e. cc) (reader_kinds c me refl v i)) good.reads

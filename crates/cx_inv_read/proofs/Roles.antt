@@ -45,7 +45,7 @@ above_more : (asked : List KeptRecord) (n m : ℕ) → n ≤ m → IsAbove asked
 above_more asked n m l h j s v x = let p = h j s v x in omega arith
 
 module _ (c : Cluster) (asked : List KeptRecord) (sent0 : List Letter) (states0 : RoleId → State) (facts0 : Facts c asked sent0 states0) (t : Token)
-    (history : List KeptRecord) (sent : List Letter) (states : RoleId → State) (known : Known c history sent states) (reads : Reads c asked t history sent states) where
+    (history : List KeptRecord) (sent : List Letter) (states : RoleId → State) (known : Known c history sent states) (reads : Reads c asked sent0 t history sent states) where
   abbrev facts : Facts c history sent states
   facts = known.1
 
@@ -97,9 +97,9 @@ module _ (c : Cluster) (asked : List KeptRecord) (sent0 : List Letter) (states0 
   acceptor_acks me (input.Order order) given = λ d m. absurd m
 
   pub acceptor_lands : (a : ℕ) (i : Input) → Given sent (role kind.Acceptor a) i
-      → Lands (Since c asked t) history sent states (role kind.Acceptor a) plain (acceptor_row c (role kind.Acceptor a) (durable_of acceptor_rules (role kind.Acceptor a) history) tt i)
+      → Lands (Since c asked sent0 t) history sent states (role kind.Acceptor a) plain (acceptor_row c (role kind.Acceptor a) (durable_of acceptor_rules (role kind.Acceptor a) history) tt i)
   acceptor_lands a i given =
-      lands c asked t history sent states facts reads (role kind.Acceptor a) plain _ (acceptor_says (role kind.Acceptor a) i given)
+      lands c asked sent0 t history sent states facts reads (role kind.Acceptor a) plain _ (acceptor_says (role kind.Acceptor a) i given)
       (λ w b n x. acceptor_acks (role kind.Acceptor a) i given _ x.1 t w n refl refl) tt
 
   -- a matchmaker
@@ -120,10 +120,10 @@ module _ (c : Cluster) (asked : List KeptRecord) (sent0 : List Letter) (states0 
   matchmaker_says me (input.Order order) = nothing
 
   pub matchmaker_lands : (m : ℕ) (i : Input)
-      → Lands (Since c asked t) history sent states (role kind.Matchmaker m) plain (matchmaker_row c (role kind.Matchmaker m) (durable_of matchmaker_rules (role kind.Matchmaker m) history) tt i)
+      → Lands (Since c asked sent0 t) history sent states (role kind.Matchmaker m) plain (matchmaker_row c (role kind.Matchmaker m) (durable_of matchmaker_rules (role kind.Matchmaker m) history) tt i)
   matchmaker_lands m i =
-      lands c asked t history sent states facts reads (role kind.Matchmaker m) plain _ (matchmaker_says (role kind.Matchmaker m) i)
-      (no_acks c asked t history sent states facts reads (role kind.Matchmaker m) _ (λ e. cc)
+      lands c asked sent0 t history sent states facts reads (role kind.Matchmaker m) plain _ (matchmaker_says (role kind.Matchmaker m) i)
+      (no_acks c asked sent0 t history sent states facts reads (role kind.Matchmaker m) _ (λ e. cc)
       (matchmaker_kinds c (role kind.Matchmaker m) refl (durable_of matchmaker_rules (role kind.Matchmaker m) history) i)) tt
 
   -- a replica
@@ -141,10 +141,10 @@ module _ (c : Cluster) (asked : List KeptRecord) (sent0 : List Letter) (states0 
   replica_says me d v waits (input.Order order) given = nothing
 
   pub replica_lands : (p : ℕ) (v : ReplicaVolatile) (i : Input) → states (role kind.Replica p) ≡ ReplicaIn v → Given sent (role kind.Replica p) i
-      → Lands (Since c asked t) history sent states (role kind.Replica p) ReplicaIn (replica_row c (role kind.Replica p) (durable_of replica_rules (role kind.Replica p) history) v i)
+      → Lands (Since c asked sent0 t) history sent states (role kind.Replica p) ReplicaIn (replica_row c (role kind.Replica p) (durable_of replica_rules (role kind.Replica p) history) v i)
   replica_lands p v i up given =
-      lands c asked t history sent states facts reads (role kind.Replica p) ReplicaIn _
+      lands c asked sent0 t history sent states facts reads (role kind.Replica p) ReplicaIn _
       (replica_says (role kind.Replica p) (durable_of replica_rules (role kind.Replica p) history) v
       (subst (λ s. InState c history sent (role kind.Replica p) s) up (facts.running (role kind.Replica p))) i given)
-      (no_acks c asked t history sent states facts reads (role kind.Replica p) _ (λ e. cc)
+      (no_acks c asked sent0 t history sent states facts reads (role kind.Replica p) _ (λ e. cc)
       (replica_kinds c (role kind.Replica p) refl (durable_of replica_rules (role kind.Replica p) history) v i)) tt

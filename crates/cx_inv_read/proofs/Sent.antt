@@ -42,7 +42,7 @@ MayAck history a n = ((durable_of acceptor_rules a history).cw ≤ n) × ((j : R
 abbrev AckIsSo : List KeptRecord → Letter → Type 0
 AckIsSo history d = (t : Token) (w : Round) (n : ℕ) → d.msg ≡ msg.PreReadAck t w n → MayAck history d.from n
 
--- nothing stands behind all of a list
+-- nothing is after all of a list
 behind_all : {X : Type 0} (xs ys : List X) → xs ≡ xs ++ ys → (y : X) → Member y ys → ⊥
 behind_all xs ys e y m = subst (λ l. Member y l) (append_cancel_left xs ys [] (sym e ∙ sym (append-nil xs))) m
 

@@ -1,5 +1,13 @@
+<<<<<<< ours
 -- An answer tells no more values than some replica kept.
 use Rattle.std.proofs.Common.{◌≡◌, ◌⊎◌, ℕ, ◌+◌, ◌≤◌, ◌&&◌, not, List, [], ◌∷◌, ◌++◌, map, filter, length, inl, inr, ap, sym, subst, refl, arith}
+||||||| base
+-- An answer tells no more values than some replica kept.
+use Rattle.std.proofs.Common.{◌≡◌, ◌⊎◌, ℕ, ◌+◌, ◌≤◌, ◌&&◌, List, [], ◌∷◌, ◌++◌, map, filter, length, inl, inr, ap, sym, subst, refl, arith}
+=======
+-- An answer reports no more values than some replica kept.
+use Rattle.std.proofs.Common.{◌≡◌, ◌⊎◌, ℕ, ◌+◌, ◌≤◌, ◌&&◌, List, [], ◌∷◌, ◌++◌, map, filter, length, inl, inr, ap, sym, subst, refl, arith}
+>>>>>>> theirs
 use Rattle.std.specs.Prelude.{◌==◌, ◌%◌, nat_lt, nat_le, slice_get, Option, None, Some}
 use Rattle.std.specs.List.{list_any}
 use Rattle.std.proofs.lemmas.List.{length-append}
@@ -161,7 +169,7 @@ results_up P c me n says (v ∷ vs) slot m l h =
 abbrev Says : List KeptRecord → Letter → Type 0
 Says history d = TellsWithin history d.msg
 
--- whatever record is kept, a row's datagrams tell what is so by then
+-- whatever record is kept, a row's datagrams say what is so by then
 abbrev Good : {V : Type 0} → List KeptRecord → RoleId → Outcome V → Type 0
 Good history me o = Each (Says (with_record me o.kept history)) o.sends
 

@@ -30,6 +30,10 @@ use Rattle.cx_inv_match.specs.Words.{HasMatch, HasGarbage, HasMark, IsChosenIn, 
 abbrev pub Has : List KeptRecord → List KeptRecord → Type 0
 Has longer shorter = (k : KeptRecord) → Member k shorter → Member k longer
 
+-- the later datagrams have all of the earlier
+abbrev pub HasSent : List Letter → List Letter → Type 0
+HasSent later earlier = (d : Letter) → Member d earlier → Member d later
+
 -- a number above each slot that an acceptor voted in by this history, and at least each watermark that it kept
 pub record Covers (history : List KeptRecord) (a : RoleId) (n : ℕ) : Type 0 where
   pub votes : (j : Round) (s : ℕ) (v : Value) → HasVoted history a j s v → s < n
@@ -63,13 +67,21 @@ ReadSays asked t history from to other = Unit {0}
 abbrev pub IsAcked : List Letter → Token → Round → RoleId → ℕ → Type 0
 IsAcked sent t w a n = (to : RoleId) × Member (letter a to (msg.PreReadAck t w n)) sent
 
--- There is no watermark, or no acceptor answered with it, or all their answers cover one history that isn't shorter than that of the asking and in
--- which the rounds below the watermark could be forgotten.
-abbrev pub HasEvidence : Cluster → List KeptRecord → Token → List KeptRecord → List Letter → Round → Type 0
-HasEvidence c asked t history sent w =
-    (w ≡ no_round)
-    ⊎ (((a : RoleId) (n : ℕ) → IsAcked sent t w a n → ⊥)
-    ⊎ ((k : List KeptRecord) × Has history k × Has k asked × IsCollected c k w × ((a : RoleId) (n : ℕ) → IsAcked sent t w a n → Covers k a n)))
+-- All numbers by which acceptors answered with this watermark cover the records of one moment, not before that of the asking, at which the rounds
+-- below the watermark could be forgotten.
+pub record IsSeen (c : Cluster) (asked : List KeptRecord) (sent0 : List Letter) (t : Token) (history : List KeptRecord) (sent : List Letter) (w : Round) : Type 0 where
+  pub past : List KeptRecord
+  pub told : List Letter
+  pub within : Has history past
+  pub longer : Has past asked
+  pub wider : HasSent told sent0
+  pub collected : IsCollected c past told w
+  pub covers : (a : RoleId) (n : ℕ) → IsAcked sent t w a n → Covers past a n
+
+-- there is no watermark, or no acceptor answered with it, or that is so
+abbrev pub HasEvidence : Cluster → List KeptRecord → List Letter → Token → List KeptRecord → List Letter → Round → Type 0
+HasEvidence c asked sent0 t history sent w =
+    (w ≡ no_round) ⊎ (((a : RoleId) (n : ℕ) → IsAcked sent t w a n → ⊥) ⊎ IsSeen c asked sent0 t history sent w)
 
 -- no matchmaker was counted twice for a read, and each is one of the cluster's
 pub record IsReading (c : Cluster) (r : Reading) : Type 0 where
@@ -80,11 +92,12 @@ abbrev pub InReader : Cluster → State → Type 0
 InReader c (ReaderIn v) = (r : Reading) → Member r v.reads → IsReading c r
 InReader c other = Unit {0}
 
--- the facts on a read, once it was asked for in a world with these records
-pub record Reads (c : Cluster) (asked : List KeptRecord) (t : Token) (history : List KeptRecord) (sent : List Letter) (states : RoleId → State) : Type 0 where
+-- the facts on a read, once it was asked for in a world with these records and datagrams
+pub record Reads (c : Cluster) (asked : List KeptRecord) (sent0 : List Letter) (t : Token) (history : List KeptRecord) (sent : List Letter) (states : RoleId → State) : Type 0 where
   pub has : Has history asked
+  pub has_sent : HasSent sent sent0
   pub says : (d : Letter) → Member d sent → ReadSays asked t history d.from d.to d.msg
-  pub evidence : (w : Round) → HasEvidence c asked t history sent w
+  pub evidence : (w : Round) → HasEvidence c asked sent0 t history sent w
   pub readers : (me : RoleId) → InReader c (states me)
 
 -- a datagram that is of no read with this token
@@ -102,11 +115,11 @@ IsElse t from to other = Unit {0}
 abbrev pub Unread : Token → List KeptRecord → List Letter → (RoleId → State) → Type 0
 Unread t history sent states = (d : Letter) → Member d sent → IsElse t d.from d.to d.msg
 
--- some replica kept so many values
+-- some replica kept n values
 abbrev pub IsWithin : List KeptRecord → ℕ → Type 0
 IsWithin history n = (p : RoleId) × (n ≤ length (durable_of replica_rules p history).log)
 
--- an answer tells no more values than some replica kept
+-- an answer reports no more values than some replica kept
 abbrev pub TellsWithin : List KeptRecord → Msg → Type 0
 TellsWithin history (msg.Results s answers) = (a : Answered) → Member a answers → IsWithin history a.at
 TellsWithin history (msg.Answer seq at reply) = IsWithin history at

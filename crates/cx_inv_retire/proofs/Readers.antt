@@ -21,7 +21,8 @@ use Rattle.cx_msg.specs.declared.message.Msg.TheVariants as msg
 use Rattle.cx_model.specs.declared.states.MatchAnswer.{MatchAnswer}
 use Rattle.cx_model.specs.Matched.{enough, matchmakers, is_counted, greatest_watermark, live_entries, is_member_of, members_of, rows_whole}
 use Rattle.cx_model.specs.Member.{Member}
-use Rattle.cx_model.specs.Names.{names, names_role, names_body, count_of}
+use Rattle.cx_base.specs.Cluster.{count_of}
+use Rattle.cx_model.specs.Names.{names, names_role, names_body}
 use Rattle.cx_model.specs.Outcome.{Outcome, answered, replied, either_way, by_test}
 use Rattle.cx_model.specs.Reader.{Reading, ReaderVolatile, reading, reading_of, is_matched, acked_by, has_acked, greatest_mark, token, match_read_to, pre_read_to, ask_matchmakers, read_req_over, send_read, read_matched, match_ack_counted, match_ack_row, pre_read_ack_row, reader_takes, reader_row}
 use Rattle.cx_inv_run.specs.Laws.{Lands}

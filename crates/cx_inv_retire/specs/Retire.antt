@@ -1,4 +1,4 @@
--- What is told and sent once the rounds below some round are retired.
+-- What is reported and sent once the rounds below some round are retired.
 use Rattle.std.specs.Prelude.{◌≡◌, ◌⊎◌, ℕ, ◌+◌, ◌*◌, ◌<◌, Bool, true, false, List}
 use Rattle.cx_base.specs.declared.cluster.Cluster.{Cluster}
 use Rattle.cx_base.specs.declared.role.Kind.TheVariants as kind
@@ -46,7 +46,7 @@ IsFromRetired c past history to = (i : Round) → IsRetired c past i → IsMembe
 abbrev pub IsRisen : List KeptRecord → RoleId → Round → Type 0
 IsRisen past m w = (j : Round) (g : Shape) → HasGarbage past m j g → is_before w j ≡ false
 
--- these entries tell of rounds that were kept
+-- these entries are of rounds that were kept
 abbrev pub AreConfigs : List KeptRecord → List Entry → Type 0
 AreConfigs history es = (e : Entry) → Member e es → IsConfig history e.round e.grid
 

@@ -35,7 +35,7 @@ use Rattle.cx_model.specs.declared.states.Plan.{Plan}
 use Rattle.cx_model.specs.Acceptor.{AcceptorDurable, is_of, vote_at, acceptor_takes, acceptor_row}
 use Rattle.cx_model.specs.Batcher.{BatcherVolatile, batcher_takes, batcher_row}
 use Rattle.cx_model.specs.Collection.{Collection, with_informed, is_off, is_informing, is_collecting}
-use Rattle.cx_model.specs.Leader.{LeaderDurable, LeaderVolatile, is_idle, is_matching, is_promising, is_leading, is_own, round_of, match_a_to, phase1a_to, leads_to, propose_to, inform_to, garbage_a_to, begin_in, lead_with, matched_by, match_counted, promise_counted, is_past_window, propose_in, is_settled, collect_in, informed_in, leader_takes, open_values, stage_sends, tick_in, order_row, leader_row}
+use Rattle.cx_model.specs.Leader.{LeaderDurable, LeaderVolatile, is_idle, is_matching, is_promising, is_leading, is_own, round_of, match_a_to, phase1a_to, leads_to, propose_to, inform_to, garbage_a_to, begin_in, lead_with, is_changed, matched_by, match_counted, promise_counted, is_past_window, propose_in, is_settled, collect_in, informed_in, leader_takes, open_values, stage_sends, tick_in, order_row, leader_row, has_no_room}
 use Rattle.cx_model.specs.Matched.{matchmakers, is_counted, greatest_watermark, live_entries, is_member_of, members_of, members_in, rows_whole, enough}
 use Rattle.cx_model.specs.Matchmaker.{MatchmakerDurable, has_round, matchmaker_takes, matchmaker_row}
 use Rattle.cx_model.specs.Member.{Member}
@@ -326,7 +326,12 @@ module _ (c : Cluster) (me : RoleId) (is : me.kind ≡ kind.Leader) (d : LeaderD
 
   answers_counted : (o : Option Entry) (v : LeaderVolatile) → OfKind me (match_counted c me o v)
   answers_counted None v = quiet me _ v
-  answers_counted (Some own) v = pick me (nat_lt (length v.told) (enough c)) _ _ (quiet me _ v) (matched own v (live_entries v.told))
+  answers_counted (Some own) v =
+      pick me (nat_lt (length v.told) (enough c)) _ _ (quiet me _ v)
+      (pick me (is_changed own.round) _ _
+      (replying me _ _ _
+      (both me (map (propose_to c me own v.cw) v.proposed) (map (leads_to me own.round) (below c.batchers)) (proposing own v.cw v.proposed) (leading own.round)))
+      (matched own v (live_entries v.told)))
 
   promises_counted : (o : Option Entry) (v : LeaderVolatile) → OfKind me (promise_counted c me o v)
   promises_counted None v = quiet me _ v
@@ -357,7 +362,7 @@ module _ (c : Cluster) (me : RoleId) (is : me.kind ≡ kind.Leader) (d : LeaderD
       (pick me (is_counted from.index v.told) _ _ (quiet me _ v)
       (answers_counted d.own (record v { told = v.told ++ record { matchmaker = from.index; watermark = w; entries = es } ∷ [] })))
   leader_took v from (msg.MatchNack i reason other) =
-      pick me (is_idle v.mode || not (is_own d i)) _ _ (quiet me _ _) (pick me (reason == 2) _ _ (quiet me _ _) (quiet me _ _))
+      pick me (is_idle v.mode || not (is_own d i)) _ _ (quiet me _ _) (pick me (has_no_room reason) _ _ (quiet me _ _) (quiet me _ _))
   leader_took v from (msg.Phase1B i cw votes) =
       pick me (not (is_promising v.mode && is_own d i)) _ _ (quiet me _ v)
       (pick me (not (is_member_of (live_entries v.told) from.index)) _ _ (quiet me _ v)

@@ -11,6 +11,7 @@ use Rattle.cx_base.specs.declared.round.Round.{Round}
 use Rattle.cx_base.specs.Grid.{Shape}
 use Rattle.cx_base.specs.Role.{role}
 use Rattle.cx_field.specs.declared.parts.Entry.{Entry}
+use Rattle.cx_field.specs.declared.parts.NackReason.{NackReason}
 use Rattle.cx_field.specs.declared.parts.Token.{Token}
 use Rattle.cx_field.specs.declared.parts.Vote.{Vote}
 use Rattle.cx_msg.specs.Letter.{Letter, letter}
@@ -63,7 +64,7 @@ acceptor_sends P phase1b nack phase2b informed pre_read_ack (msg.Chosen t v) (in
 acceptor_sends P phase1b nack phase2b informed pre_read_ack (msg.Chosen t v) (inr e) = cc
 acceptor_sends P phase1b nack phase2b informed pre_read_ack other s = cc
 
-pub matchmaker_sends : (P : Msg → Type 0) → ((i w : Round) (entries : List Entry) → P (msg.MatchB i w entries)) → ((i : Round) (reason : ℕ) (other : Round) → P (msg.MatchNack i reason other))
+pub matchmaker_sends : (P : Msg → Type 0) → ((i w : Round) (entries : List Entry) → P (msg.MatchB i w entries)) → ((i : Round) (reason : NackReason) (other : Round) → P (msg.MatchNack i reason other))
     → ((i : Round) → P (msg.GarbageB i)) → ((t : Token) (w : Round) (entries : List Entry) → P (msg.MatchReadAck t w entries))
     → (m : Msg) → IsSender kind.Matchmaker m → P m
 matchmaker_sends P match_b match_nack garbage_b match_read_ack (msg.MatchB i w entries) s = match_b i w entries

@@ -40,7 +40,7 @@ use Rattle.cx_inv_run.specs.Laws.{Lands, Laws, anything, AllAllowed, HoldsAlong,
 use Rattle.cx_inv_run.proofs.Members.{Member-at}
 use Rattle.cx_inv_run.proofs.Histories.{durable_by_time, set_running, set_same}
 
--- How the roles of one kind stand among all: their list, all roles with another list of theirs, and what a role's state is.
+-- How the roles of one kind are placed among all: their list, all roles with another list of theirs, and what a role's state is.
 record Place (V : Type 0) (k : Kind) (make : V → State) : Type 0 where
   of : Roles → List (Option V)
   put : Roles → List (Option V) → Roles

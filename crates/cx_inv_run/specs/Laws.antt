@@ -23,12 +23,12 @@ use Rattle.cx_model.specs.Unbatcher.{unbatcher_row}
 use Rattle.cx_model.specs.World.{World, change, step, run, run_from}
 use Rattle.cx_inv_run.specs.States.{State, Down, Plain, BatcherIn, LeaderIn, ProxyIn, ReplicaIn, ReaderIn, plain, fresh_state, set_state, entry_by, with_record, durable_of, Given, Property, HoldsIn}
 
--- What a row comes to keeps a property: the whole step, and the step that is cut after its record was kept. (A step that is cut before is a stop.)
+-- The outcome of a row keeps a property: the whole step, and the step that is cut after its record was kept. (A step that is cut before is a stop.)
 pub record Lands {V : Type 0} (holds : Property) (kept : List KeptRecord) (sent : List Letter) (states : RoleId → State) (me : RoleId) (make : V → State) (o : Outcome V) : Type 0 where
   pub whole : holds (with_record me o.kept kept) (sent ++ o.sends) (set_state me (make o.volatile) states)
   pub cut : (r : Record) → o.kept ≡ Some r → holds (entry_by me r ∷ kept) sent (set_state me Down states)
 
--- The laws of a property over a cluster. `known` is another property that every moment is known to have, `Allowed` tells which requests go out.
+-- The laws of a property over a cluster. `known` is another property that every moment is known to have, `Allowed` says which requests go out.
 pub record Laws (c : Cluster) (Allowed : Event → Type 0) (known holds : Property) : Type 0 where
   -- only the state of each role counts
   pub same : (kept : List KeptRecord) (sent : List Letter) (states others : RoleId → State)

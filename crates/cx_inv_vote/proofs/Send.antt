@@ -9,8 +9,6 @@ use Rattle.cx_base.specs.Role.{role, same_role}
 use Rattle.cx_field.specs.declared.parts.Entry.{Entry}
 use Rattle.cx_msg.specs.Letter.{Letter}
 use Rattle.cx_msg.specs.declared.input.KeptRecord.{KeptRecord}
-use Rattle.cx_msg.specs.declared.message.Msg.{Msg}
-use Rattle.cx_msg.specs.declared.message.Msg.TheVariants as msg
 use Rattle.cx_model.specs.declared.states.Mode.{Mode}
 use Rattle.cx_model.specs.declared.states.Mode.TheVariants.{Idle, Matching, Phase1, Leading}
 use Rattle.cx_model.specs.declared.states.Pending.{Pending}
@@ -26,6 +24,8 @@ use Rattle.cx_inv_run.specs.States.{State, Down, Plain, BatcherIn, LeaderIn, Pro
 use Rattle.cx_inv_run.proofs.Members.{Member-cases, Member-first}
 use Rattle.cx_inv_run.proofs.Histories.{state_own, state_other}
 use Rattle.cx_inv_match.specs.Facts.{Says, InState, InMode, IsMatching, IsLeading, IsLast, IsPending, Facts}
+use Rattle.cx_inv_match.specs.Words.{IsLeft}
+use Rattle.cx_inv_match.proofs.Grow.{Grows, grown_says, grown_safe, grown_stage, grown_ready, grown_collected}
 use Rattle.cx_inv_vote.specs.Laws.{IsPlainMsg}
 
 -- what was proposed or ended after more was sent, was so before or by what was sent
@@ -48,22 +48,22 @@ still_proposed sent ds i s v h = (h.0, h.1, h.2, h.3, Member-first _ sent ds h.4
 pub still_retiring : (sent ds : List Letter) (i : Round) → IsRetiring sent i → IsRetiring (sent ++ ds) i
 still_retiring sent ds i h = (h.0, h.1, h.2, Member-first _ sent ds h.3)
 
-pub still_says : (c : Cluster) (history : List KeptRecord) (sent ds : List Letter) (from : RoleId) (m : Msg) → Says c history sent from m
-    → Says c history (sent ++ ds) from m
-still_says c history sent ds from (msg.Leads i) h = h
-still_says c history sent ds from (msg.MatchA i g) h = h
-still_says c history sent ds from (msg.MatchB i w es) h = h
-still_says c history sent ds from (msg.Phase1B i cw votes) h = h
-still_says c history sent ds from (msg.Propose i g s cw v) h = h
-still_says c history sent ds from (msg.Phase2A i s cw v) h = (still_proposed sent ds i s v h.0, h.1)
-still_says c history sent ds from (msg.Phase2B i s) h = h
-still_says c history sent ds from (msg.Chosen s v) h = h
-still_says c history sent ds from (msg.ChosenIn i s) h = h
-still_says c history sent ds from (msg.Informed i n) h = h
-still_says c history sent ds from (msg.GarbageA i g) h = h
-still_says c history sent ds from other h = tt
+-- more was sent, and nothing was proposed in a round that its leader had left
+pub record Widens (history : List KeptRecord) (sent wider : List Letter) : Type 0 where
+  pub wide : (d : Letter) → Member d sent → Member d wider
+  pub no_proposal : (j : Round) (s : ℕ) (v : Value) → IsLeft history j → IsProposed wider j s v → IsProposed sent j s v
 
--- what a role was told, it was told
+pub grows_wide : (history : List KeptRecord) (sent wider : List Letter) → Widens history sent wider → Grows history sent history wider
+grows_wide history sent wider h = record {
+  more = λ k m. m;
+  wide = h.wide;
+  no_vote = λ a j s v p x. x;
+  no_mark = λ a j n p x. x;
+  no_match = λ m i j g l p x. x;
+  no_proposal = h.no_proposal;
+}
+
+-- what a role received stays received
 
 pub leader_told : (sent ds : List Letter) (me : RoleId) (i : Round) (v : LeaderVolatile) → LeaderWasTold sent me i v → LeaderWasTold (sent ++ ds) me i v
 leader_told sent ds me i v h = record {
@@ -117,55 +117,66 @@ quiet_matching c sent ds own v q h = record {
   known = h.known;
 }
 
-pub quiet_leading : (c : Cluster) (history : List KeptRecord) (sent ds : List Letter) (own : Entry) (v : LeaderVolatile)
-    → ((s : ℕ) (u : Value) → IsProposed ds own.round s u → ⊥) → IsLeading c history sent own v → IsLeading c history (sent ++ ds) own v
-quiet_leading c history sent ds own v q h = record {
-  config = h.config;
-  matched = h.matched;
-  below_next = λ s u x. elim (proposed_cases sent ds own.round s u x) [ inl y ↦ h.below_next s u y | inr y ↦ absurd (q s u y) ];
-  remembered = λ s u x. elim (proposed_cases sent ds own.round s u x) [ inl y ↦ h.remembered s u y | inr y ↦ absurd (q s u y) ];
-  once = h.once;
-  window = h.window;
-  safe = h.safe;
-  free = h.free;
-  end_next = h.end_next;
-  cw_next = h.cw_next;
-  known = h.known;
-  stage = h.stage;
-}
+module _ (c : Cluster) (history : List KeptRecord) (sent ds : List Letter) (grows : Grows history sent history (sent ++ ds)) where
+  pub quiet_leading : (own : Entry) (v : LeaderVolatile)
+      → ((s : ℕ) (u : Value) → IsProposed ds own.round s u → ⊥) → IsLeading c history sent own v → IsLeading c history (sent ++ ds) own v
+  quiet_leading own v q h = record {
+    config = h.config;
+    matched = h.matched;
+    below_next = λ s u x. elim (proposed_cases sent ds own.round s u x) [ inl y ↦ h.below_next s u y | inr y ↦ absurd (q s u y) ];
+    remembered = λ s u x. elim (proposed_cases sent ds own.round s u x) [ inl y ↦ h.remembered s u y | inr y ↦ absurd (q s u y) ];
+    once = h.once;
+    window = h.window;
+    safe = λ p m. grown_safe c history sent history (sent ++ ds) grows own.round p.slot p.value (h.safe p m);
+    free = λ s u l. grown_safe c history sent history (sent ++ ds) grows own.round s u (h.free s u l);
+    end_next = h.end_next;
+    cw_next = h.cw_next;
+    known = h.known;
+    stage = grown_stage c history sent history (sent ++ ds) grows own v.end v.collection v.collection.stage h.stage;
+  }
 
-pub quiet_mode : (c : Cluster) (history : List KeptRecord) (sent ds : List Letter) (o : Option Entry) (v : LeaderVolatile) (mode : Mode)
-    → ((own : Entry) → o ≡ Some own → IsQuiet ds own.round) → InMode c history sent o v mode → InMode c history (sent ++ ds) o v mode
-quiet_mode c history sent ds None v mode q h = h
-quiet_mode c history sent ds (Some own) v Idle q h = tt
-quiet_mode c history sent ds (Some own) v Matching q h = quiet_matching c sent ds own v (q own refl) h
-quiet_mode c history sent ds (Some own) v Phase1 q h = (quiet_matching c sent ds own v (q own refl) h.0, h.1)
-quiet_mode c history sent ds (Some own) v Leading q h = quiet_leading c history sent ds own v (q own refl).0 h
+  pub quiet_mode : (o : Option Entry) (v : LeaderVolatile) (mode : Mode)
+      → ((own : Entry) → o ≡ Some own → IsQuiet ds own.round) → InMode c history sent o v mode → InMode c history (sent ++ ds) o v mode
+  quiet_mode None v mode q h = h
+  quiet_mode (Some own) v Idle q h = tt
+  quiet_mode (Some own) v Matching q h = (
+    quiet_matching c sent ds own v (q own refl) h.0,
+    λ t. grown_ready c history sent history (sent ++ ds) grows own v (h.1 t),
+  )
+  quiet_mode (Some own) v Phase1 q h = (quiet_matching c sent ds own v (q own refl) h.0, h.1)
+  quiet_mode (Some own) v Leading q h = quiet_leading own v (q own refl).0 h
 
--- what a role knows stays so where these datagrams neither propose in its own round nor end it
-pub carry_state : (c : Cluster) (history : List KeptRecord) (sent ds : List Letter) (me : RoleId) (s : State)
-    → ((own : Entry) → (durable_of leader_rules me history).own ≡ Some own → IsQuiet ds own.round)
-    → InState c history sent me s → InState c history (sent ++ ds) me s
-carry_state c history sent ds me Down quiet h = tt
-carry_state c history sent ds me Plain quiet h = tt
-carry_state c history sent ds me (BatcherIn v) quiet h = batcher_told sent ds me v h
-carry_state c history sent ds me (LeaderIn v) quiet h = (
-  leader_told sent ds me (round_of (durable_of leader_rules me history).own) v h.0,
-  quiet_mode c history sent ds (durable_of leader_rules me history).own v v.mode quiet h.1,
-)
-carry_state c history sent ds me (ProxyIn v) quiet h = (proxy_told sent ds me v h.0, λ p m. still_pending history sent ds p (h.1 p m))
-carry_state c history sent ds me (ReplicaIn v) quiet h = replica_told sent ds me v h
-carry_state c history sent ds me (ReaderIn v) quiet h = (reader_told sent ds me v h.0, h.1)
+  -- what a role knows stays so where these datagrams neither propose in its own round nor end it
+  pub carry_state : (me : RoleId) (s : State)
+      → ((own : Entry) → (durable_of leader_rules me history).own ≡ Some own → IsQuiet ds own.round)
+      → InState c history sent me s → InState c history (sent ++ ds) me s
+  carry_state me Down quiet h = tt
+  carry_state me Plain quiet h = tt
+  carry_state me (BatcherIn v) quiet h = batcher_told sent ds me v h
+  carry_state me (LeaderIn v) quiet h = (
+    leader_told sent ds me (round_of (durable_of leader_rules me history).own) v h.0,
+    quiet_mode (durable_of leader_rules me history).own v v.mode quiet h.1,
+  )
+  carry_state me (ProxyIn v) quiet h = (proxy_told sent ds me v h.0, λ p m. still_pending history sent ds p (h.1 p m))
+  carry_state me (ReplicaIn v) quiet h = replica_told sent ds me v h
+  carry_state me (ReaderIn v) quiet h = (reader_told sent ds me v h.0, h.1)
 
--- What a role sends says what is so, proposes and ends only rounds that name it, and one value for each round and slot; and its new state is
--- what it should be: then the facts hold.
+-- What a role sends says what is so, proposes and ends only rounds that name it, proposes in none that it left, and one value for each round and
+-- slot; and its new state is what it should be: then the facts hold.
 module _ (c : Cluster) (history : List KeptRecord) (sent : List Letter) (states : RoleId → State) (me : RoleId)
     (facts : Facts c history sent (set_state me Down states)) (ds : List Letter) (s : State)
+    (widens : Widens history sent (sent ++ ds))
     (says : (d : Letter) → Member d ds → Says c history (sent ++ ds) d.from d.msg)
     (mine : (i : Round) (t : ℕ) (v : Value) → IsProposed ds i t v → role kind.Leader i.id ≡ me)
     (ends : (i : Round) → IsRetiring ds i → role kind.Leader i.id ≡ me)
     (one_value : (i : Round) (t : ℕ) (v w : Value) → IsProposed ds i t v → IsProposed (sent ++ ds) i t w → v ≡ w)
     (running : InState c history (sent ++ ds) me s) where
+  abbrev wider : List Letter
+  wider = sent ++ ds
+
+  grows : Grows history sent history wider
+  grows = grows_wide history sent wider widens
+
   -- the round of another leader is neither proposed in nor ended
   other_quiet : (a : RoleId) → same_role a me ≡ false → (o : Option Entry) → IsLast history a o → (own : Entry) → o ≡ Some own → IsQuiet ds own.round
   other_quiet a d None last own e = cc
@@ -174,17 +185,17 @@ module _ (c : Cluster) (history : List KeptRecord) (sent : List Letter) (states 
       let q : a ≡ role kind.Leader own.round.id = subst (λ (y : Entry). a ≡ role kind.Leader y.round.id) p (facts.owner a first.round first.grid last.0) in
       (λ t v x. other_role a me d (q ∙ mine own.round t v x), λ x. other_role a me d (q ∙ ends own.round x))
 
-  other_running : (a : RoleId) → same_role a me ≡ false → (st : State) → InState c history sent a st → InState c history (sent ++ ds) a st
+  other_running : (a : RoleId) → same_role a me ≡ false → (st : State) → InState c history sent a st → InState c history wider a st
   other_running a d st h =
-      carry_state c history sent ds a st (other_quiet a d (durable_of leader_rules a history).own (facts.last a)) h
+      carry_state c history sent ds grows a st (other_quiet a d (durable_of leader_rules a history).own (facts.last a)) h
 
-  pub send : Facts c history (sent ++ ds) (set_state me s states)
+  pub send : Facts c history wider (set_state me s states)
   send = record {
     owner = facts.owner;
     one_grid = facts.one_grid;
     last = facts.last;
     asked = facts.asked;
-    garbaged = λ m i g x. let y = facts.garbaged m i g x in (y.0, y.1, still_retiring sent ds i y.2);
+    garbaged = λ m i g x. let y = facts.garbaged m i g x in (y.0, grown_collected c history sent history wider grows i y.1, still_retiring sent ds i y.2);
     logs = facts.logs;
     acceptors = facts.acceptors;
     voted = λ a i t v h. still_proposed sent ds i t v (facts.voted a i t v h);
@@ -193,11 +204,11 @@ module _ (c : Cluster) (history : List KeptRecord) (sent : List Letter) (states 
       | inr k ↦ one_value i t v w k y
     ];
     logged = facts.logged;
-    says = λ d m. elim (Member-cases d sent ds m) [ inl k ↦ still_says c history sent ds d.from d.msg (facts.says d k) | inr k ↦ says d k ];
+    says = λ d m. elim (Member-cases d sent ds m) [ inl k ↦ grown_says c history sent history wider grows d.from d.msg (facts.says d k) | inr k ↦ says d k ];
     running =
-        by_role (λ a. InState c history (sent ++ ds) a (set_state me s states a)) me
-        (subst (λ st. InState c history (sent ++ ds) me st) (sym (state_own me s states)) running)
-        (λ a e. subst (λ st. InState c history (sent ++ ds) a st) (sym (state_other me a s states e))
+        by_role (λ a. InState c history wider a (set_state me s states a)) me
+        (subst (λ st. InState c history wider me st) (sym (state_own me s states)) running)
+        (λ a e. subst (λ st. InState c history wider a st) (sym (state_other me a s states e))
         (other_running a e (states a)
         (subst (λ st. InState c history sent a st) (state_other me a Down states e) (facts.running a))));
   }
@@ -209,10 +220,17 @@ QuietSends ds = (d : Letter) → Member d ds → IsPlainMsg d.msg
 pub quiet_round : (ds : List Letter) → QuietSends ds → (i : Round) → IsQuiet ds i
 quiet_round ds quiet i = (λ s v x. (quiet _ x.4).0 i x.2 s x.3 v refl, λ x. (quiet _ x.3).1 i x.2 refl)
 
+pub quiet_widens : (history : List KeptRecord) (sent ds : List Letter) → QuietSends ds → Widens history sent (sent ++ ds)
+quiet_widens history sent ds quiet = record {
+  wide = λ d m. Member-first d sent ds m;
+  no_proposal = λ j s v l x. elim (proposed_cases sent ds j s v x) [ inl y ↦ y | inr y ↦ absurd ((quiet_round ds quiet j).0 s v y) ];
+}
+
 -- what a role knows stays so while they are sent
 pub still_state : (c : Cluster) (history : List KeptRecord) (sent ds : List Letter) → QuietSends ds → (me : RoleId) (s : State)
     → InState c history sent me s → InState c history (sent ++ ds) me s
-still_state c history sent ds quiet me s h = carry_state c history sent ds me s (λ own e. quiet_round ds quiet own.round) h
+still_state c history sent ds quiet me s h =
+    carry_state c history sent ds (grows_wide history sent (sent ++ ds) (quiet_widens history sent ds quiet)) me s (λ own e. quiet_round ds quiet own.round) h
 
 -- the frame: the facts hold after they are sent
 pub send_plain : (c : Cluster) (history : List KeptRecord) (sent : List Letter) (states : RoleId → State) (me : RoleId)
@@ -220,6 +238,6 @@ pub send_plain : (c : Cluster) (history : List KeptRecord) (sent : List Letter) 
     → ((d : Letter) → Member d ds → Says c history (sent ++ ds) d.from d.msg) → QuietSends ds
     → InState c history (sent ++ ds) me s → Facts c history (sent ++ ds) (set_state me s states)
 send_plain c history sent states me facts ds s says quiet running =
-    send c history sent states me facts ds s says
+    send c history sent states me facts ds s (quiet_widens history sent ds quiet) says
     (λ i t v x. absurd ((quiet_round ds quiet i).0 t v x)) (λ i x. absurd ((quiet_round ds quiet i).1 x))
     (λ i t v w x y. absurd ((quiet_round ds quiet i).0 t v x)) running

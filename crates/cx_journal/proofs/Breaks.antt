@@ -13,7 +13,7 @@ pub read_stop : (k : Option Kind) (bytes : List ℕ) (records : List Record) (at
 read_stop k bytes records at read more (stop.Break place) is stops = is ∙ ap (with_all records) (stops more) ∙ with_all-Err records place
 read_stop k bytes records at read more stop.NoMemory is stops = tt
 
--- what stops behind records that were read stops the whole
+-- what stops after records that were read stops the whole
 pub breaks_so : (records : List Record) (whole more : Image) (s : Stop) → whole ≡ with_all records more → Breaks more s → Breaks whole s
 breaks_so records whole more (stop.Break place) is stops = is ∙ ap (with_all records) stops ∙ with_all-Err records place
 breaks_so records whole more stop.NoMemory is stops = tt

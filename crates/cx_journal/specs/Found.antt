@@ -11,14 +11,14 @@ use Rattle.cx_journal.specs.declared.split.Stop.TheVariants as stop
 use Rattle.cx_keeper.specs.declared.keeper.OpenFault.{OpenFault}
 use Rattle.cx_keeper.specs.declared.keeper.OpenFault.TheVariants as fault
 
--- the records stand in the bytes, each gate at its place
+-- the records are in the bytes, each gate at its place
 pub record IsFound (k : Option Kind) (bytes : List ℕ) (found : Found) : Type 0 where
   pub stands : StandsFor (payloads found.records.items) bytes
   pub fit : all_kept_by k found.records.items ≡ true
   pub gates : found.gates.items ≡ gates_from 0 (payloads found.records.items)
   pub gate : found.gate ≡ length (frames (payloads found.records.items))
 
--- an image breaks there, unless memory was wanting
+-- an image breaks there, unless memory ran out
 abbrev pub Breaks : Image → Stop → Type 0
 Breaks image (stop.Break at) = image ≡ Err at
 Breaks image stop.NoMemory = Unit {0}
@@ -33,13 +33,13 @@ abbrev pub IsStopAt : ℕ → Result Record ℕ → Stop → Type 0
 IsStopAt at read (stop.Break place) = (image : Image) → with_first at read image ≡ Err place
 IsStopAt at read stop.NoMemory = Unit {0}
 
--- the fault is the first break of the bytes, or of the outside
+-- the fault is the first break of the bytes, a failure of the disk, or out of memory
 abbrev pub IsFaultOf : Option Kind → List ℕ → OpenFault → Type 0
 IsFaultOf k bytes (fault.NotJournal at byte) = IsBreak k bytes at byte
 IsFaultOf k bytes fault.Failed = Unit {0}
 IsFaultOf k bytes fault.NoMemory = Unit {0}
 
--- the outside failed, or memory was wanting
+-- the disk failed, or memory ran out
 abbrev pub IsOutside : OpenFault → Type 0
 IsOutside (fault.NotJournal at byte) = ⊥
 IsOutside fault.Failed = Unit {0}

@@ -10,7 +10,7 @@ use Rattle.cx_journal.specs.Payload.{payload_read, part_break}
 abbrev pub Image : Type 0
 Image = Result (List Record) ℕ
 
--- a record in front of an image
+-- a record before an image
 abbrev pub with_record : Record → Image → Image
 with_record r (Ok records) = Ok (r ∷ records)
 with_record r (Err break) = Err break
@@ -19,19 +19,19 @@ abbrev pub with_all : List Record → Image → Image
 with_all [] image = image
 with_all (r ∷ records) image = with_record r (with_all records image)
 
--- a payload that was read, in front of an image; its break counts from the payload's place
+-- a payload that was read, before an image; its break counts from the payload's place
 abbrev pub with_first : ℕ → Result Record ℕ → Image → Image
 with_first at (Ok r) image = with_record r image
 with_first at (Err place) image = Err (at + place)
 
--- a payload of n bytes behind its length, at this place
+-- a payload of n bytes after its length, at this place
 abbrev pub sized : Option Kind → ℕ → List ℕ → ℕ → (ℕ → List ℕ → Image) → Image
 sized k at bytes n next =
     if n == 0 || nat_lt 32768 n then Err at
     else if nat_lt (length bytes) (4 + n) then Err (at + 4 + part_break k n (drop 4 bytes))
     else with_first (at + 4) (payload_read k (take n (drop 4 bytes))) (next (at + (4 + n)) (drop (4 + n) bytes))
 
--- what stands behind an open gate
+-- what comes after an open gate
 abbrev pub framed : Option Kind → ℕ → List ℕ → (ℕ → List ℕ → Image) → Image
 framed k at bytes next = if nat_lt (length bytes) 4 then Err (at + length bytes) else sized k at bytes (big_number 4 bytes) next
 

@@ -1,4 +1,4 @@
-//! A record put behind the closed gate: its bytes first, then the gate, each with a sync of its own.
+//! A record put after the closed gate: its bytes first, then the gate, each with a sync of its own.
 ghost use Rattle.std.specs.Prelude.{◌≡◌, ◌+◌, ◌<◌, ◌≤◌, ◌++◌, [], ◌∷◌, max, is_some, List, ℕ, Some, length, IfOk, IfErr, OnOk, IsErrOf};
 ghost use Rattle.cx_base.specs.Faults.{Rises};
 ghost use Rattle.cx_msg.specs.Records.{spelling};
@@ -28,7 +28,7 @@ pub(crate) fn write_synced<D: Disk>(disk: &mut D, at: u64, bytes: &[u8]) -> Resu
     Ok(())
 }
 
-/// What stands behind the gate of a record: its length, its bytes, and a closed gate.
+/// What comes after the gate of a record: its length, its bytes, and a closed gate.
 fn body_of(alloc: Global, what: &Record) -> Result<Vec<u8>, NoMemory>
     ensures body { IfOk result (λ v. v.items ≡ body (spelling what.now)) }
     ensures most { IfOk result (λ _. length (spelling what.now) ≤ 27970) }
@@ -42,7 +42,7 @@ fn body_of(alloc: Global, what: &Record) -> Result<Vec<u8>, NoMemory>
     Ok(bytes)
 }
 
-/// Puts a record behind the closed gate at a place, and answers the place of the next one.
+/// Puts a record after the closed gate at a place, and returns the place of the next one.
 pub(crate) fn append_at<D: Disk>(
     alloc: Global,
     disk: &mut D,
@@ -81,7 +81,7 @@ pub(crate) fn append_at<D: Disk>(
     Ok(gate + bytes.len() as u64)
 }
 
-/// The same, with the place of the next gate put behind the others.
+/// The same, with the place of the next gate added to the others.
 pub(crate) fn append_in<D: Disk>(
     alloc: Global,
     disk: &mut D,

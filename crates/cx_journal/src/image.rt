@@ -99,7 +99,7 @@ fn records_in(alloc: Global, kind: Option<Kind>, bytes: &[u8]) -> Result<Found, 
     }
 }
 
-/// No records, behind one closed gate at the front.
+/// No records, and the closed gate at the start.
 pub(crate) fn first_gate(alloc: Global) -> Result<Found, NoMemory>
     ensures none { IfOk result (λ f. f.records.items ≡ []) }
     ensures gates { IfOk result (λ f. f.gates.items ≡ 0 ∷ []) }
@@ -116,8 +116,8 @@ pub(crate) fn first_gate(alloc: Global) -> Result<Found, NoMemory>
 
 /// The records of at least two bytes, for a role of the kind or of any kind. `NotJournal` names the first break: a length out of
 /// 1..=32,768 at its first byte; a tag or a field that is bad, at its first byte; bytes that are left in a payload, at the
-/// first of them; the end where a length, a payload or a gate should be, with no byte. A payload that the end cuts may have such a tag, field or
-/// bytes before it, and then breaks there.
+/// first of them; the end where a length, a payload or a gate should be, with no byte. A payload that the end cuts may have such
+/// a tag, field or bytes before the end, and then breaks there.
 pub(crate) fn found_in(alloc: Global, kind: Option<Kind>, bytes: &[u8]) -> Result<Found, OpenFault>
     requires least { 2 ≤ length bytes.now }
     requires most { length bytes.now < 2 ^ 63 }

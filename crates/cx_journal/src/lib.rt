@@ -1,6 +1,8 @@
 //! The journal of a role: its records on a disk, which outlive a crash at any moment.
 //!
-//! Stands on disks, on the records of cx_msg and on keepers; the node stands on it.
+//! Its theorems are: after an append answered with Ok every crash leaves the record; a crash at any
+//! moment of one leaves the records from before, or those and the one in flight; `open` gives
+//! exactly the records of the bytes, or the first break with its place.
 #![tactic(auto)]
 
 mod adding;
@@ -13,6 +15,3 @@ mod split;
 
 pub use image::Found;
 pub use journal::Journal;
-
-#[cfg(test)]
-mod tests;

@@ -6,6 +6,7 @@ ghost use Rattle.cx_journal.specs.Journal.{gates_from, IsAtRest};
 ghost use Rattle.cx_journal.specs.Payload.{payloads, all_kept_by};
 ghost use Rattle.cx_journal.specs.Image.{image, SameImage};
 ghost use Rattle.cx_journal.specs.Found.{IsFaultOf};
+ghost use Rattle.cx_journal.specs.State.{IsUnwritten};
 
 use crate::Found;
 use crate::adding::write_synced;
@@ -35,8 +36,8 @@ fn fill<D: Disk>(disk: &mut D, bytes: &mut Vec<u8>) -> Result<(), Failed>
     disk.read(0, bytes)
 }
 
-/// Makes what a read gives last, and reads the records, for a role of the kind or of any kind. Where the disk has at most one
-/// byte, it writes the first closed gate.
+/// Syncs the disk and reads its records, for a role of the kind or of any kind. Where the disk has at most one byte, it writes
+/// the first closed gate. Out of memory, it writes nothing.
 pub(crate) fn read_disk<D: Disk>(
     alloc: Global,
     kind: Option<Kind>,
@@ -59,6 +60,7 @@ pub(crate) fn read_disk<D: Disk>(
     ensures later { D.faults disk.old ≤ D.faults disk.new }
     ensures still { (IsErrOf result OpenFault.Failed → ⊥) → D.faults disk.new ≡ D.faults disk.old }
     ensures failed { IsErrOf result OpenFault.Failed → Rises (D.faults disk.old) (D.faults disk.new) }
+    ensures unwritten { IsErrOf result OpenFault.NoMemory → IsUnwritten D.seen D.may_leave D.size disk.old disk.new }
 {
     match disk.sync() {
         Ok(()) => {}
@@ -66,13 +68,13 @@ pub(crate) fn read_disk<D: Disk>(
     }
     let len = disk.len();
     if len < 2 {
-        match write_synced(disk, 0, &[0]) {
-            Ok(()) => {}
-            Err(_) => return Err(OpenFault::Failed),
-        }
-        return match first_gate(alloc) {
-            Ok(found) => Ok(found),
-            Err(_) => Err(OpenFault::NoMemory),
+        let found = match first_gate(alloc) {
+            Ok(found) => found,
+            Err(_) => return Err(OpenFault::NoMemory),
+        };
+        return match write_synced(disk, 0, &[0]) {
+            Ok(()) => Ok(found),
+            Err(_) => Err(OpenFault::Failed),
         };
     }
     let mut bytes = match zeros(alloc, len as usize) {

@@ -1,4 +1,4 @@
--- Pieces stay what they are behind more bytes, and spell what was put.
+-- Pieces stay what they are when bytes are added, and spell what was put.
 use Rattle.std.proofs.Common.{◌≡◌, ◌≤◌, ◌+◌, ◌-◌, ◌∙◌, ℕ, zero, suc, true, List, [], ◌∷◌, ◌++◌, Some, Ok, length, take, drop, ap, sym, refl, arith}
 use Rattle.std.specs.List.{slice_get}
 use Rattle.std.proofs.lemmas.List.{drop-append-le, take-append-le, length-append, length-drop, map-append}
@@ -9,7 +9,7 @@ use Rattle.cx_msg.proofs.RecordLaws.{recorded-again}
 use Rattle.cx_keeper.specs.Pieces.{ArePieces, IsPiece, IsPut, bytes_at, record_at, record_or, records_at}
 use Rattle.cx_keeper.specs.declared.records.Piece.{Piece}
 
--- the bytes of a record behind others, as a piece
+-- the bytes of a record after others, as a piece
 pub put : (r : Record) → fits r ≡ true → (old new : List ℕ) (from size : ℕ) → new ≡ old ++ spelling r → from ≡ length old → size ≡ length new - from
     → IsPut r old (record { from = from; size = size }) new
 put r fit old new from size bytes begins long =

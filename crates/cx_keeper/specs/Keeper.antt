@@ -11,12 +11,13 @@ use Rattle.cx_keeper.specs.declared.keeper.KeepFault.TheVariants.{Failed, NoMemo
 abbrev pub all_fit : List Record → Bool
 all_fit records = list_all (λ (r : Record). fits r) records
 
--- Ok: the list and the record, where the keeper tells what it keeps. Failed: only where the count rose, the list or the list
--- and the record. No memory: the list.
+-- Ok: the list and the record, where what is kept is known. Failed, exactly where the count of faults rose: the list, or the
+-- list and the record. Out of memory: the list.
 pub record IsAppend {K : Type 0} (tells : K → Bool) (kept : K → List Record) (faults : K → ℕ) (old : K) (r : Record) (answer : Result (Unit {0}) KeepFault) (new : K) : Type 0 where
   pub ok : answer ≡ Ok tt → tells old ≡ true → kept new ≡ kept old ++ r ∷ []
   pub failed : answer ≡ Err Failed → (kept new ≡ kept old) ⊎ (kept new ≡ kept old ++ r ∷ [])
   pub cause : answer ≡ Err Failed → Rises (faults old) (faults new)
   pub no_memory : answer ≡ Err NoMemory → kept new ≡ kept old
   pub told : tells new ≡ tells old
+  pub still : (answer ≡ Err Failed → ⊥) → faults new ≡ faults old
   pub later : faults old ≤ faults new

@@ -44,16 +44,16 @@ cut_short_is : (cut : Cut) (old : MemKeeperState) (r : Record) (new : MemKeeperS
 cut_short_is Whole old r new h = absurd h
 cut_short_is Torn old r new h =
     let e = ap faults_of h in
-    record { ok = λ e. cc; failed = λ _. inl (ap kept_of h); cause = λ _. rw e (one_more_rises old.faults); no_memory = λ e. cc; told = refl; later = rw e (one_more_later old.faults) }
+    record { ok = λ e. cc; failed = λ _. inl (ap kept_of h); cause = λ _. rw e (one_more_rises old.faults); no_memory = λ e. cc; told = refl; still = λ no. absurd (no refl); later = rw e (one_more_later old.faults) }
 cut_short_is Kept old r new h =
     let e = ap faults_of h in
-    record { ok = λ e. cc; failed = λ _. inr (ap kept_of h); cause = λ _. rw e (one_more_rises old.faults); no_memory = λ e. cc; told = refl; later = rw e (one_more_later old.faults) }
+    record { ok = λ e. cc; failed = λ _. inr (ap kept_of h); cause = λ _. rw e (one_more_rises old.faults); no_memory = λ e. cc; told = refl; still = λ no. absurd (no refl); later = rw e (one_more_later old.faults) }
 
 pub mem_append_is : (old : MemKeeperState) (r : Record) (answer : Result (Unit {0}) KeepFault) (new : MemKeeperState) → mem_append_gives old r answer new → IsAppend tells_of kept_of faults_of old r answer new
 mem_append_is old r (Ok u) new h =
     let e = ap faults_of h.1 in
-    record { ok = λ _ _. ap kept_of h.1; failed = λ e. cc; cause = λ e. cc; no_memory = λ e. cc; told = refl; later = omega arith }
+    record { ok = λ _ _. ap kept_of h.1; failed = λ e. cc; cause = λ e. cc; no_memory = λ e. cc; told = refl; still = λ _. e; later = omega arith }
 mem_append_is old r (Err Failed) new h = cut_short_is old.cut old r new h
 mem_append_is old r (Err NoMemory) new h =
     let e = ap faults_of h in
-    record { ok = λ e. cc; failed = λ e. cc; cause = λ e. cc; no_memory = λ _. ap kept_of h; told = refl; later = omega arith }
+    record { ok = λ e. cc; failed = λ e. cc; cause = λ e. cc; no_memory = λ _. ap kept_of h; told = refl; still = λ _. e; later = omega arith }

@@ -6,7 +6,7 @@ use Rattle.cx_msg.specs.declared.kept.Record.{Record}
 use Rattle.cx_msg.specs.declared.kept.Record.TheVariants as kept
 use Rattle.cx_keeper.specs.declared.records.Piece.{Piece}
 
--- what stands for bytes that spell no record, of which there are none here
+-- what bytes that spell no record are read as; there are none here
 abbrev pub no_record : Record
 no_record = kept.Log []
 
@@ -33,7 +33,7 @@ abbrev pub ArePieces : List ℕ → List Piece → Type 0
 ArePieces bytes [] = Unit {0}
 ArePieces bytes (p ∷ pieces) = IsPiece bytes p × ArePieces bytes pieces
 
--- the bytes of a record were put behind others, as this piece
+-- the bytes of a record were put after others, as this piece
 pub record IsPut (r : Record) (old : List ℕ) (p : Piece) (new : List ℕ) : Type 0 where
   pub bytes : new ≡ old ++ spelling r
   pub piece : IsPiece new p

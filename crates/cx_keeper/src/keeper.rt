@@ -17,7 +17,7 @@ use thiserror::Error;
 /// Why a record was not kept for certain.
 #[derive(Debug, Drop, Error)]
 pub enum KeepFault {
-    /// The store failed; the record is kept or lost, and only `recover` may follow.
+    /// The store failed: the record is kept or lost, and `recover` says which.
     #[error("a record could not be kept")]
     Failed,
     #[error("no memory")]
@@ -51,7 +51,7 @@ impl<T: Drop> From<AllocFailed<T>> for KeepFault {
 /// Why records could not be read.
 #[derive(Debug, Drop, Error)]
 pub enum OpenFault {
-    /// The bytes are no list of records; the first break is at this place, in bytes, at this byte or at the end.
+    /// The bytes are no list of records. The first break is at this place, in bytes: at this byte, or at the end.
     #[error("no journal at {at}")]
     NotJournal { at: u64, byte: Option<u8> },
     #[error("the store failed")]
@@ -70,10 +70,10 @@ impl From<NoMemory> for OpenFault {
 
 /// A list of records that outlives a crash. A crash inside an append keeps or loses that one record.
 pub trait Keeper {
-    /// Whether it tells what it keeps. A keeper over a file of the operating system doesn't.
+    /// Whether what it keeps is known. Of a file of the operating system it isn't.
     ghost tells: { Self → Bool };
 
-    /// The records that it keeps, where it tells them.
+    /// The records that it keeps, where they are known.
     ghost kept: { Self → List Record };
 
     /// How often it has failed.
@@ -82,13 +82,15 @@ pub trait Keeper {
     /// What an append may answer, and leave.
     ghost append_gives: { Self → Record → Result (Unit {0}) KeepFault → Self → Type 0 };
 
-    /// Adds a record at the end. After `Failed` only `recover` may follow.
+    /// Adds a record at the end. Out of memory, nothing changes. After `Failed` the record is kept or lost, and an append
+    /// may follow as well as `recover`.
     fn append(&mut self, what: &Record) -> Result<(), KeepFault>
         requires { IsTrue (fits what.now) }
         ensures gives { append_gives self.old what.now result self.new }
         ensures told { tells self.new ≡ tells self.old };
 
-    /// Reads the records again. `Failed` only where the count of faults rose; `NotJournal` never where it tells what it keeps.
+    /// Reads the records again, which changes none of them. `Failed` comes exactly where the count of faults rose, and
+    /// `NotJournal` never where what it keeps is known.
     fn recover(&mut self) -> Result<Vec<Record>, OpenFault>
         ensures list { IfOk result (λ records. tells self.old ≡ true → records.items ≡ kept self.old) }
         ensures ranges { IfOk result (λ records. IsTrue (all_fit records.items)) }
@@ -96,6 +98,7 @@ pub trait Keeper {
         ensures told { tells self.new ≡ tells self.old }
         ensures cause { result ≡ Err open_fault.Failed → Rises (faults self.old) (faults self.new) }
         ensures never { tells self.old ≡ true → (at : ℕ) (byte : Option ℕ) → result ≡ Err (open_fault.NotJournal at byte) → ⊥ }
+        ensures still { (result ≡ Err open_fault.Failed → ⊥) → faults self.new ≡ faults self.old }
         ensures later { faults self.old ≤ faults self.new };
 
     ghost append_is: { (old : Self) (r : Record) (answer : Result (Unit {0}) KeepFault) (new : Self) → append_gives old r answer new → IsAppend tells kept faults old r answer new };

@@ -1,7 +1,8 @@
-//! What keeps the records of a role, so that they outlive its crash.
+//! Keepers: what keeps the records of a role, so that they outlive its crash.
 //!
-//! Stands on the records of cx_msg; roles, the world and the journal stand on it. Its theorem: an append that is answered
-//! Ok leaves the list and the record, a failed one the list, with the record or without.
+//! Roles know the trait `Keeper` alone; journals implement it too. Its theorem is the trait's
+//! contract at `MemKeeper`: after an append answered with Ok the list has the record, after a failed
+//! one it has it or not, and `recover` gives the list. Out of memory, nothing changes.
 #![tactic(auto)]
 
 mod keeper;
@@ -11,6 +12,3 @@ mod records;
 pub use keeper::{KeepFault, Keeper, OpenFault};
 pub use mem_keeper::MemKeeper;
 pub use records::Records;
-
-#[cfg(test)]
-mod tests;

@@ -10,7 +10,7 @@ use cx_msg::Record;
 use std::alloc::Global;
 use std::marker::Model;
 
-/// Keeps records in memory, and lets an append fail where it is told to.
+/// Keeps records in memory. An append fails where `cut` says so.
 #[derive(Drop)]
 pub struct MemKeeper {
     kept: Records,
@@ -49,7 +49,7 @@ impl MemKeeper {
         self.kept.len()
     }
 
-    /// The record that was kept since there were so many, if one was.
+    /// The record that was kept since there were `count`, if one was.
     pub fn kept_since(&self, count: usize) -> Result<Option<Record>, NoMemory>
         requires least { count ≤ length self.now.kept }
         requires most { length self.now.kept ≤ count + 1 }

@@ -10,14 +10,14 @@ use std::alloc::Global;
 use std::marker::Model;
 
 /// Where in a buffer the bytes of a record begin, and how many they are.
-#[derive(Clone, Copy, Debug, PartialEq, Eq)]
+#[derive(Clone, Copy)]
 pub struct Piece {
     pub from: usize,
     pub size: usize,
 }
 
-/// Records in the order in which they were kept. What is held is the bytes that spell them, all in one buffer: a record is read
-/// when it is asked for.
+/// Records in the order in which they were kept. What is held is the bytes that spell them, all in one buffer. A record is
+/// read when it is asked for.
 #[derive(Drop)]
 pub struct Records {
     alloc: Global,
@@ -37,7 +37,7 @@ impl Model for Records {
     ghost invariant = { λ r. ArePieces r.bytes.items r.pieces.items };
 }
 
-// Puts the bytes of a record at the end of a buffer. Want of memory puts none.
+// Puts the bytes of a record at the end of a buffer. Out of memory, it puts none.
 fn put_piece(alloc: Global, what: &Record, bytes: &mut Vec<u8>) -> Result<Piece, NoMemory>
     requires { IsTrue (fits what.now) }
     ensures ok { IfOk result (λ piece. IsPut what.now bytes.old.items piece bytes.new.items) }
@@ -120,7 +120,7 @@ impl Records {
         read_pieces(self.alloc, &self.bytes, &self.pieces)
     }
 
-    /// Notes one more behind the others. Want of memory changes nothing.
+    /// Adds a record at the end. Out of memory, nothing changes.
     pub fn push(&mut self, what: &Record) -> Result<(), NoMemory>
         requires { IsTrue (fits what.now) }
         ensures ok { OnOk result (self.new ≡ self.old ++ what.now ∷ []) }

@@ -1,4 +1,4 @@
--- The map behind two lists of commands, one after the other.
+-- The map after two lists of commands, one after the other.
 use Rattle.std.proofs.Common.{◌≡◌, ◌++◌, ◌∷◌, [], List, refl, ap, ◌∙◌, append-nil, append_assoc, if◌then◌else◌}
 use Rattle.cx_base.specs.Fold.{acts, map_after, map_behind}
 use Rattle.cx_base.specs.declared.command.Command.{Command}

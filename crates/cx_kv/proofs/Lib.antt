@@ -2,4 +2,5 @@ pub mod Behind
 pub mod Keys
 pub mod Maps
 pub mod Names
+pub mod Picking
 pub mod Used

@@ -1,19 +1,17 @@
 -- Maps with rising keys, cut at a place.
-use Rattle.std.proofs.Common.{◌≡◌, ℕ, zero, suc, ◌+◌, ◌<◌, ◌≤◌, ◌⊎◌, inl, inr, true, false, nat_lt, List, [], ◌∷◌, length, get_or, drop, set, refl, ap, sym, subst, ◌∙◌, arith, Option, Some, None, Result, Ok, Err, OnOk, OnErr}
+use Rattle.std.proofs.Common.{◌≡◌, ℕ, zero, suc, ◌+◌, ◌<◌, ◌≤◌, ◌⊎◌, inl, inr, true, false, nat_lt, List, [], ◌∷◌, length, get_or, drop, set, refl, ap, sym, subst, ◌∙◌, arith, Option, Some, None}
 use Rattle.std.specs.Str.{bytes_eq}
 use Rattle.std.specs.List.{AllWithin, insert, remove}
 use Rattle.std.specs.List.Sorted.{IsPartitionedBy}
 use Rattle.std.proofs.lemmas.Bool.{cases_Bool, cases_eq}
 use Rattle.std.proofs.lemmas.Bool.Decides.{nat_tests}
-use Rattle.cx_base.specs.Fold.{is_less, longer, map_after, map_appended, text_at, with_text, without_key}
+use Rattle.cx_base.specs.Fold.{is_less, map_appended, text_at, with_text, without_key}
 use Rattle.cx_base.specs.declared.command.Pair.{Pair}
-use Rattle.cx_base.specs.declared.command.Op.{Op}
-use Rattle.cx_base.specs.declared.command.Op.TheVariants.{Put, Del, App}
 use Rattle.cx_kv.specs.Rising.{IsBeforeAll, IsRising}
 use Rattle.cx_kv.proofs.Keys.{is_less-back, is_less-ne, is_less-trans, is_less-other, same_bytes, bytes_ne}
 
 -- a key before all comes before each
-IsBeforeAll-at : (key : List ℕ) (map : List Pair) (j : ℕ) (d : Pair) → IsBeforeAll key map → j < length map → is_less key (get_or map j d).key ≡ true
+pub IsBeforeAll-at : (key : List ℕ) (map : List Pair) (j : ℕ) (d : Pair) → IsBeforeAll key map → j < length map → is_less key (get_or map j d).key ≡ true
 IsBeforeAll-at key [] j d h l = absurd (omega arith)
 IsBeforeAll-at key (p ∷ map) zero d h l = h.0
 IsBeforeAll-at key (p ∷ map) (suc j) d h l = IsBeforeAll-at key map j d h.1 (omega arith)
@@ -32,7 +30,7 @@ IsRising-parted key map h i j d ij l less = step (cases_eq i j)
     step (inl e) = rw e less
     step (inr n) = is_less-trans (get_or map i d).key (get_or map j d).key key (IsRising-at map i j d h (omega arith) l) less
 
--- a key that is not behind the first key and differs from it comes before all
+-- a key that is not after the first key and differs from it comes before all
 IsBeforeAll-weaker : (key other : List ℕ) (map : List Pair) → is_less key other ≡ true → IsBeforeAll other map → IsBeforeAll key map
 IsBeforeAll-weaker key other [] less h = tt
 IsBeforeAll-weaker key other (p ∷ map) less h = (is_less-trans key other p.key less h.0, IsBeforeAll-weaker key other map less h.1)
@@ -132,13 +130,13 @@ IsBeforeAll-with_text first key text (p ∷ map) less h = elim (cases_Bool (byte
   ]
 ]
 
-pub IsRising-with_text : (key text : List ℕ) (map : List Pair) → IsRising map → IsRising (with_text key text map)
-IsRising-with_text key text [] h = (tt, tt)
-IsRising-with_text key text (p ∷ map) h = elim (cases_Bool (bytes_eq p.key key)) as (λ _. IsRising (with_text key text (p ∷ map))) [
+pub rising_with_text : (key text : List ℕ) (map : List Pair) → IsRising map → IsRising (with_text key text map)
+rising_with_text key text [] h = (tt, tt)
+rising_with_text key text (p ∷ map) h = elim (cases_Bool (bytes_eq p.key key)) as (λ _. IsRising (with_text key text (p ∷ map))) [
   | inl e ↦ rw e (subst (λ (k : List ℕ). IsBeforeAll k map) (same_bytes p.key key e) h.0, h.1)
   | inr e ↦ elim (cases_Bool (is_less key p.key)) as (λ _. IsRising (with_text key text (p ∷ map))) [
     | inl f ↦ rw (e, f) ((f, IsBeforeAll-weaker key p.key map f h.0), h)
-    | inr f ↦ rw (e, f) (IsBeforeAll-with_text p.key key text map (is_less-other key p.key f (bytes_ne p.key key e)) h.0, IsRising-with_text key text map h.1)
+    | inr f ↦ rw (e, f) (IsBeforeAll-with_text p.key key text map (is_less-other key p.key f (bytes_ne p.key key e)) h.0, rising_with_text key text map h.1)
   ]
 ]
 
@@ -149,11 +147,11 @@ IsBeforeAll-without_key first key (p ∷ map) h = elim (cases_Bool (bytes_eq p.k
   | inr e ↦ rw e (h.0, IsBeforeAll-without_key first key map h.1)
 ]
 
-pub IsRising-without_key : (key : List ℕ) (map : List Pair) → IsRising map → IsRising (without_key key map)
-IsRising-without_key key [] h = tt
-IsRising-without_key key (p ∷ map) h = elim (cases_Bool (bytes_eq p.key key)) as (λ _. IsRising (without_key key (p ∷ map))) [
+pub rising_without_key : (key : List ℕ) (map : List Pair) → IsRising map → IsRising (without_key key map)
+rising_without_key key [] h = tt
+rising_without_key key (p ∷ map) h = elim (cases_Bool (bytes_eq p.key key)) as (λ _. IsRising (without_key key (p ∷ map))) [
   | inl e ↦ rw e h.1
-  | inr e ↦ rw e (IsBeforeAll-without_key p.key key map h.0, IsRising-without_key key map h.1)
+  | inr e ↦ rw e (IsBeforeAll-without_key p.key key map h.0, rising_without_key key map h.1)
 ]
 
 -- a key is set to the text that it has
@@ -184,18 +182,3 @@ pub map_appended_full : (map : List Pair) (key more old : List ℕ) → IsRising
 map_appended_full map key more old h e l =
     let long : nat_lt 64 (length old + length more) ≡ true = grind (arith, nat_tests) in
     rw (e, long) (sym (with_text-same key old map h e))
-
-pub IsRising-map_after : (map : List Pair) (op : Op) → IsRising map → IsRising (map_after map op)
-IsRising-map_after map (Put key text) h = IsRising-with_text key text map h
-IsRising-map_after map (Del key) h = IsRising-without_key key map h
-IsRising-map_after map (App key more) h = appended (text_at key map)
-  where
-    appended : (old : Option (List ℕ)) → IsRising (map_appended map key more old)
-    appended None = IsRising-with_text key more map h
-    appended (Some old) = IsRising-with_text key (longer old more) map h
-
--- the order is kept by a step, and where memory is wanting
-pub IsRising_either : {A E : Type 0} (result : Result A E) (old new : List Pair) (op : Op)
-    → OnOk result (new ≡ map_after old op) → OnErr result (new ≡ old) → IsRising old → IsRising new
-IsRising_either (Ok a) old new op ok err h = subst IsRising (sym ok) (IsRising-map_after old op h)
-IsRising_either (Err e) old new op ok err h = subst IsRising (sym err) h

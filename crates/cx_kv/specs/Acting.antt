@@ -1,4 +1,4 @@
--- What clients' greatest numbers tell of commands in their order.
+-- What clients' greatest numbers say of commands in their order.
 use Rattle.std.specs.Prelude.{◌≡◌, ℕ, Bool, not, ◌&&◌, ◌||◌, nat_lt, max, List}
 use Rattle.std.specs.List.{list_any}
 use Rattle.cx_base.specs.Fold.{overtakes}
@@ -9,6 +9,6 @@ use Rattle.cx_base.specs.declared.command.Command.{Command}
 abbrev pub has_used : List ℕ → ℕ → ℕ → Bool
 has_used greatest client seq = nat_lt client 64 && not (is_above greatest client (max seq 1))
 
--- the greatest numbers, and the commands that they know nothing of, tell of each number whether the list overtakes it
+-- the greatest numbers, and the commands that they know nothing of, decide for each number whether the list overtakes it
 abbrev pub Decides : List ℕ → List Command → List Command → Type 0
 Decides greatest rest list = (client seq : ℕ) → list_any (overtakes client seq) list ≡ (has_used greatest client seq || list_any (overtakes client seq) rest)

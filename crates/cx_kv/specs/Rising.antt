@@ -8,7 +8,7 @@ abbrev pub IsBeforeAll : List ℕ → List Pair → Type 0
 IsBeforeAll key [] = Unit {0}
 IsBeforeAll key (p ∷ map) = (is_less key p.key ≡ true) × IsBeforeAll key map
 
--- each key comes before all keys behind it
+-- each key comes before all keys after it
 abbrev pub IsRising : List Pair → Type 0
 IsRising [] = Unit {0}
 IsRising (p ∷ map) = IsBeforeAll p.key map × IsRising map

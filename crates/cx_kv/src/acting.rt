@@ -1,4 +1,4 @@
-//! Which commands act behind others.
+//! Which commands act after others.
 
 ghost use Rattle.std.specs.Prelude.{◌≡◌, ◌++◌, ◌∷◌, [], OnErr, OnOk};
 ghost use Rattle.cx_base.specs.Fold.{acts};
@@ -9,7 +9,7 @@ use cx_ring::{Tells, Told};
 use std::alloc::Global;
 use std::marker::Model;
 
-/// Commands in their order, of which contracts see the list. What is held is each client's greatest number, by which it is told
+/// Commands in their order, of which contracts see the list. What is held is each client's greatest number, which decides
 /// at once which commands act.
 #[derive(Drop)]
 pub struct Executed {
@@ -70,15 +70,15 @@ impl Executed {
         }
     }
 
-    /// Whether a command acts behind these, as `acts` tells. It takes no memory.
+    /// Whether a command acts after these, by the definition `acts`. It takes no memory.
     pub fn acts(&self, command: &Command) -> bool
         ensures { result ≡ acts self.now command.now }
     {
         !has_used(&self.greatest, command.client, command.seq) && acts(&self.rest, command)
     }
 
-    /// One command more, behind the others. It takes memory only for a command that no cluster has: of a client from 64 on, or with
-    /// number 0. Want of memory changes nothing.
+    /// One command more, after the others. It takes memory only for a command that no cluster has: of a client from 64 on, or with
+    /// number 0. Out of memory, it changes nothing.
     pub fn push(&mut self, command: &Command) -> Result<(), NoMemory>
         ensures ok { OnOk result (self.new ≡ self.old ++ command.now ∷ []) }
         ensures err { OnErr result (self.new ≡ self.old) }

@@ -1,16 +1,15 @@
 //! Texts that grow.
 
-ghost use Rattle.std.specs.Prelude.{◌≡◌, ◌+◌, ◌++◌, ◌≤◌, length, take, IfOk, OnErr, OnOk};
+ghost use Rattle.std.specs.Prelude.{◌≡◌, ◌+◌, ◌++◌, ◌<◌, ◌≤◌, length, take};
 ghost use Rattle.cx_base.specs.Fold.{map_appended, reply_appended, text_at};
-ghost use Rattle.cx_kv.specs.Rising.{IsRising};
 
-use crate::pairs::{get, put};
-use cx_base::{Key, NoMemory, Pair, Reply, Text};
+use crate::pairs::Pairs;
+use cx_base::{Key, Reply, TEXT_LENGTH, Text};
 
 /// How many bytes a text may have.
-const LONGEST: usize = 64;
+const LONGEST: usize = TEXT_LENGTH;
 
-/// Writes one list and then the other at the front of a longer one.
+/// Writes one list and then the other at the start of a longer one.
 fn lay(bytes: &mut [u8], one: &[u8], other: &[u8])
     requires { length one.now + length other.now ≤ length bytes.old }
     ensures { take (length one.now + length other.now) bytes.new ≡ one.now ++ other.now }
@@ -32,21 +31,23 @@ fn joined(one: &Text, other: &Text) -> Text
     Text::new(&bytes[..one.len() + other.len()])
 }
 
-/// Adds a text at the end of a key's, or sets it; a text that would grow past its limit stays.
-pub fn append(pairs: &mut Vec<Pair>, key: &Key, more: &Text) -> Result<Reply, NoMemory>
-    requires { IsRising pairs.old.items }
-    ensures reply { IfOk result (λ reply. reply ≡ reply_appended more.now (text_at key.now pairs.old.items)) }
-    ensures ok { OnOk result (pairs.new.items ≡ map_appended pairs.old.items key.now more.now (text_at key.now pairs.old.items)) }
-    ensures err { OnErr result (pairs.new.items ≡ pairs.old.items) }
-{
-    let Some(old) = get(pairs, key).copied() else {
-        put(pairs, key, more)?;
-        return Ok(Reply::Len(more.as_bytes().len() as u8));
-    };
-    let length = old.as_bytes().len() + more.as_bytes().len();
-    if length > LONGEST {
-        return Ok(Reply::Full);
+impl Pairs {
+    /// Adds a text at the end of a key's, or sets it; a text that would grow past its limit stays. It takes no memory.
+    pub fn append(&mut self, key: &Key, more: &Text) -> Reply
+        requires { 0 < self.old.spare }
+        ensures reply { result ≡ reply_appended more.now (text_at key.now self.old.pairs) }
+        ensures pairs { self.new.pairs ≡ map_appended self.old.pairs key.now more.now (text_at key.now self.old.pairs) }
+        ensures spare { self.old.spare ≤ self.new.spare + 1 }
+    {
+        let Some(old) = self.get(key).copied() else {
+            self.put(key, more);
+            return Reply::Len(more.as_bytes().len() as u8);
+        };
+        let length = old.as_bytes().len() + more.as_bytes().len();
+        if length > LONGEST {
+            return Reply::Full;
+        }
+        self.put(key, &joined(&old, more));
+        Reply::Len(length as u8)
     }
-    put(pairs, key, &joined(&old, more))?;
-    Ok(Reply::Len(length as u8))
 }

@@ -1,12 +1,13 @@
-//! The key-value map of a replica, and the fold of commands.
+//! The key-value map of a replica, and what executing commands leaves in it.
 //!
-//! Replicas stand on its step, which leaves the map and gives the reply that the definitions of the fold name: `Store::apply`.
-//! Summaries of runs stand on the commands of values, one value behind another: `execute`, and `Executed`, which tells the commands
-//! that act without holding those before them.
+//! Its theorems are: `Store::apply` is one step of the fold of commands, with its reply, and so is
+//! `Pairs::apply`, which can't fail, since room was taken beforehand; `execute` does those commands
+//! of a value that take effect after others, which `Executed` knows without holding all of these.
 #![tactic(auto)]
 
 mod acting;
 mod append;
+mod apply;
 mod folding;
 mod order;
 mod pairs;
@@ -14,67 +15,5 @@ mod store;
 
 pub use acting::Executed;
 pub use folding::execute;
+pub use pairs::Pairs;
 pub use store::Store;
-
-#[cfg(test)]
-mod tests {
-    use super::*;
-    use cx_base::{Command, Duplicate, Few, Key, Op, Reply, Text, Value};
-    use std::test::Fail;
-
-    #[test]
-    fn applies(rt: HostRuntime) -> Result<(), Fail> {
-        let client = 1;
-        let seq = 1;
-        let a = Key::from_bytes(b"a").ok_or("a key")?;
-        let b = Key::from_bytes(b"b").ok_or("a key")?;
-        let one = Text::from_bytes(b"1").ok_or("a text")?;
-        let longest = Text::from_bytes(&[b'x'; 64]).ok_or("a text")?;
-        let mut store = Store::new(rt.alloc())?;
-        let ops = [
-            (Op::Put(b, one), Reply::Okay),
-            (Op::App(a, one), Reply::Len(1)),
-            (Op::App(b, one), Reply::Len(2)),
-            (Op::App(b, longest), Reply::Full),
-            (Op::Del(a), Reply::Was(one)),
-            (Op::Del(a), Reply::Absent),
-            (Op::App(a, longest), Reply::Len(64)),
-            (Op::Put(a, one), Reply::Okay),
-        ];
-        for (op, reply) in &ops {
-            let op = *op;
-            assert_eq!(rt; store.apply(&Command { client, seq, op })?, *reply);
-        }
-        let mut text = Vec::new(rt.alloc());
-        store.copy(rt.alloc())?.print_into(&mut text)?;
-        assert_eq!(rt; text.as_slice(), b" a=1 b=11".as_slice());
-        assert_eq!(rt; store.get(&a).copied(), Some(one));
-        assert_eq!(rt; store.as_slice().len(), 2);
-        Ok(())
-    }
-
-    #[test]
-    fn folds(rt: HostRuntime) -> Result<(), Fail> {
-        let alloc = rt.alloc();
-        let key = Key::from_bytes(b"a").ok_or("a key")?;
-        let one = Text::from_bytes(b"1").ok_or("a text")?;
-        let command = |client, seq| Command {
-            client,
-            seq,
-            op: Op::App(key, one),
-        };
-        let values = [
-            Value::Batch(Few::from_vec(vec![in alloc; command(0, 2)]?)),
-            Value::Noop,
-            Value::Batch(Few::from_vec(vec![in alloc; command(0, 1), command(0, 2)]?)),
-            Value::Batch(Few::from_vec(vec![in alloc; command(1, 1), command(0, 3)]?)),
-        ];
-        let mut before = Executed::new(alloc);
-        let mut store = Store::new(alloc)?;
-        for value in &values {
-            execute(&mut before, &mut store, value)?;
-        }
-        assert_eq!(rt; store.get(&key).copied(), Text::from_bytes(b"111"));
-        Ok(())
-    }
-}

@@ -1,10 +1,11 @@
-//! Where a key stands among rising keys.
+//! Where a key is in the order of pairs.
 
-ghost use Rattle.std.specs.Prelude.{◌≡◌, IfErr, IfOk};
+ghost use Rattle.std.specs.Prelude.{◌≡◌, ◌<◌, ℕ, length, slice_get, slice_index_or, IfErr, IfOk};
 ghost use Rattle.std.specs.Str.{bytes_eq};
 ghost use Rattle.cx_base.specs.Fold.{is_less};
+ghost use Rattle.cx_base.specs.declared.command.Pair.{Pair};
+ghost use Rattle.cx_kv.specs.Picked.{AreBelow, comes_before, picked, IsOrdered};
 ghost use Rattle.cx_kv.specs.Place.{IsFreeAt, IsHeldAt, IsPlace};
-ghost use Rattle.cx_kv.specs.Rising.{IsRising};
 
 use cx_base::{Key, Pair};
 
@@ -21,22 +22,51 @@ pub fn same_key(one: &Key, other: &Key) -> bool
     one == other
 }
 
-/// The place of a key, or where it would stand.
-pub fn place_of(pairs: &[Pair], key: &Key) -> usize
-    requires { IsRising pairs.now }
-    ensures { IsPlace key.now pairs.now result }
+/// Where the pair at a place of the order is.
+#[tactic(auto, using(crate::proofs::Picking::inside_at))]
+pub fn index_at(order: &[u32], place: usize) -> usize
+    requires { place < length order.now }
+    ensures index { result ≡ slice_index_or order.now place 0 }
+    ensures inside { (end : ℕ) → AreBelow end order.now → result < end }
 {
-    pairs.partition_point(|pair| is_less(&pair.key, key))
+    order[place] as usize
 }
 
-/// Where a key stands, or else where it belongs.
-pub fn look_up(pairs: &[Pair], key: &Key) -> Result<usize, usize>
-    requires { IsRising pairs.now }
-    ensures held { IfOk result (IsHeldAt key.now pairs.now) }
-    ensures free { IfErr result (IsFreeAt key.now pairs.now) }
+/// The pair at a place of the order.
+pub fn pair_at<'a>(list: &'a [Pair], order: &[u32], place: usize) -> &'a Pair
+    requires ordered { IsOrdered list.now order.now }
+    requires inside { place < length order.now }
+    ensures { (d : Pair) → slice_index_or (picked list.now order.now) place d ≡ result.now }
 {
-    let place = place_of(pairs, key);
-    if place < pairs.len() && same_key(&pairs[place].key, key) {
+    let index = index_at(order, place);
+    &list[index]
+}
+
+fn comes_before(list: &[Pair], index: u32, key: &Key) -> bool
+    ensures { result ≡ comes_before key.now (slice_get list.now index) }
+{
+    match list.get(index as usize) {
+        Some(pair) => is_less(&pair.key, key),
+        None => false,
+    }
+}
+
+/// The place of a key in the order, or where it would be.
+pub fn place_of(list: &[Pair], order: &[u32], key: &Key) -> usize
+    requires { IsOrdered list.now order.now }
+    ensures { IsPlace key.now (picked list.now order.now) result }
+{
+    order.partition_point(|index| comes_before(list, *index, key))
+}
+
+/// Where a key is in the order, or else where it belongs.
+pub fn look_up(list: &[Pair], order: &[u32], key: &Key) -> Result<usize, usize>
+    requires { IsOrdered list.now order.now }
+    ensures held { IfOk result (IsHeldAt key.now (picked list.now order.now)) }
+    ensures free { IfErr result (IsFreeAt key.now (picked list.now order.now)) }
+{
+    let place = place_of(list, order, key);
+    if place < order.len() && same_key(&pair_at(list, order, place).key, key) {
         return Ok(place);
     }
     Err(place)

@@ -15,7 +15,7 @@ use Rattle.cx_leader.specs.Proposing.{Proposing, open_value, open_values}
 abbrev pub slot_of : Placed → ℕ
 slot_of p = p.slot
 
--- no value stands above the last slot
+-- no value is above the last slot
 none_above : (a n k : ℕ) (ps : List Placed) → map slot_of ps ≡ numbers a n → a + n ≤ k → value_at slot_of k ps ≡ None
 none_above a n k [] h le = refl
 none_above a zero k (p ∷ ps) h le = cc
@@ -96,7 +96,7 @@ next_from a (suc n) k (p ∷ ps) x h le found =
           rw (here, gone) (next_from (a + 1) n k ps x rest (grind (arith, nat_tests)) (sym on ∙ found))
     ]
 
--- all stand from the first slot on
+-- all are from the first slot on
 all_from : (a n k : ℕ) (ps : List Placed) → map slot_of ps ≡ numbers a n → k ≤ a → values_from slot_of k ps ≡ ps
 all_from a n k [] h le = refl
 all_from a zero k (p ∷ ps) h le = cc
@@ -106,7 +106,7 @@ all_from a (suc n) k (p ∷ ps) h le =
     let here : nat_le k p.slot ≡ true = grind (arith, nat_tests) in
     rw here (ap (λ xs. p ∷ xs) (all_from (a + 1) n k ps rest (omega arith)))
 
--- and none behind the last one
+-- and none after the last one
 none_from : (a n k : ℕ) (ps : List Placed) → map slot_of ps ≡ numbers a n → a + n ≤ k → values_from slot_of k ps ≡ []
 none_from a n k [] h le = refl
 none_from a zero k (p ∷ ps) h le = cc
@@ -165,7 +165,7 @@ open_by p n s (Some x) h le at =
     let own : x.slot ≡ s = slot_found s p.proposed x at in
     rw (at, next_from p.cw n s p.proposed x h le at) (open_some p s x (values_from slot_of (s + 1) p.proposed) _ refl own)
 
--- the open values from a slot on: the slot's own, and those behind it
+-- the open values from a slot on: the slot's own, and those after it
 open_on : (p : Proposing) (n s : ℕ) → map slot_of p.proposed ≡ numbers p.cw n → p.cw ≤ s → open_from s p ≡ open_value s p ++ open_from (s + 1) p
 open_on p n s h le = open_by p n s _ h le refl
 
@@ -173,13 +173,13 @@ open_on p n s h le = open_by p n s _ h le refl
 pub sent_none : (p : Proposing) (n : ℕ) → map slot_of p.proposed ≡ numbers p.cw n → open_from p.cw p ≡ open_values p
 sent_none p n h = ap (λ xs. filter (λ (x : Placed). not (is_in x.slot p.chosen)) xs) (all_from p.cw n p.cw p.proposed h (omega arith))
 
--- then what is open behind a slot,
+-- then what is open after a slot,
 pub sent_to : (f : Placed → Letter) (p : Proposing) (n s : ℕ) (sent all : List Letter) → map slot_of p.proposed ≡ numbers p.cw n → p.cw ≤ s → sent ++ map f (open_from s p) ≡ all → (sent ++ map f (open_value s p)) ++ map f (open_from (s + 1) p) ≡ all
 sent_to f p n s sent all slots le h =
     append_assoc sent (map f (open_value s p)) (map f (open_from (s + 1) p))
     ∙ ap (λ xs. sent ++ xs) (sym (map-append f (open_value s p) (open_from (s + 1) p)) ∙ ap (λ xs. map f xs) (sym (open_on p n s slots le))) ∙ h
 
--- and behind the last one nothing.
+-- and after the last one nothing.
 pub sent_all : (f : Placed → Letter) (p : Proposing) (n s : ℕ) (sent all : List Letter) → map slot_of p.proposed ≡ numbers p.cw n → p.cw + n ≤ s → sent ++ map f (open_from s p) ≡ all → sent ≡ all
 sent_all f p n s sent all slots le h =
     sym (append-nil sent) ∙ ap (λ xs. sent ++ map f (filter (λ (x : Placed). not (is_in x.slot p.chosen)) xs)) (sym (none_from p.cw n s p.proposed slots le)) ∙ h

@@ -13,7 +13,7 @@ use Rattle.cx_field.specs.declared.parts.Vote.{Vote}
 use Rattle.cx_msg.specs.declared.message.Msg.{Msg}
 use Rattle.cx_msg.specs.declared.message.Msg.TheVariants as msg
 use Rattle.cx_model.specs.Collection.{is_informing, is_collecting, with_informed}
-use Rattle.cx_model.specs.Leader.{LeaderDurable, LeaderVolatile, is_idle, is_matching, is_promising, is_leading, is_own, is_past_window, matched_by, match_counted, match_b_row, promise_counted, phase1b_row, propose_in, chosen_in_row, informed_in, leader_takes, leader_row, leader_rules}
+use Rattle.cx_model.specs.Leader.{LeaderDurable, LeaderVolatile, is_idle, is_matching, is_promising, is_leading, is_own, is_past_window, is_changed, matched_by, match_counted, match_b_row, promise_counted, phase1b_row, propose_in, chosen_in_row, informed_in, leader_takes, leader_row, leader_rules, has_no_room}
 use Rattle.cx_model.specs.Matched.{enough, is_counted, is_member_of, live_entries, rows_whole}
 use Rattle.cx_model.specs.Names.{names}
 use Rattle.cx_model.specs.Outcome.{Outcome, either_way}
@@ -30,7 +30,9 @@ module _ (c : Cluster) (me : RoleId) (d : LeaderDurable) where
 
   counted_fits : (own : Option Entry) (v : LeaderVolatile) → Fits (match_counted c me own v)
   counted_fits None v = tt
-  counted_fits (Some own) v = either_way Fits (nat_lt (length v.told) (enough c)) _ _ tt (matched_fits own v (live_entries v.told))
+  counted_fits (Some own) v =
+      either_way Fits (nat_lt (length v.told) (enough c)) _ _ tt
+      (either_way Fits (is_changed own.round) _ _ tt (matched_fits own v (live_entries v.told)))
 
   match_b_fits : (v : LeaderVolatile) (from : RoleId) (i w : Round) (es : List Entry) → Fits (match_b_row c me d v from i w es)
   match_b_fits v from i w es =
@@ -64,7 +66,7 @@ module _ (c : Cluster) (me : RoleId) (d : LeaderDurable) where
 
   takes_fits : (v : LeaderVolatile) (from : RoleId) (m : Msg) → Fits (leader_takes c me d v from m)
   takes_fits v from (msg.MatchB i w es) = match_b_fits v from i w es
-  takes_fits v from (msg.MatchNack i reason other) = either_way Fits (is_idle v.mode || not (is_own d i)) _ _ tt (either_way Fits (reason == 2) _ _ tt tt)
+  takes_fits v from (msg.MatchNack i reason other) = either_way Fits (is_idle v.mode || not (is_own d i)) _ _ tt (either_way Fits (has_no_room reason) _ _ tt tt)
   takes_fits v from (msg.Phase1B i cw votes) = phase1b_fits v from i cw votes
   takes_fits v from (msg.Nack i promise) = either_way Fits (is_idle v.mode || not (is_own d i)) _ _ tt tt
   takes_fits v from (msg.Batch commands) = either_way Fits (is_leading v.mode) _ _ (propose_fits v commands d.own) tt

@@ -63,7 +63,7 @@ in_from k s (x ∷ xs) =
     left true true c h = let e : true ≡ false = h refl in cc
     left true false c h = refl
 
--- a slot that is noted stands in both
+-- a slot that is noted is in both
 pub same_noted : (s : ℕ) (held list : List ℕ) → AreSame held list → AreSame (with_value itself s held) (list ++ s ∷ [])
 same_noted s held list are =
     record { same = λ x. in_put x s held ∙ ap (λ b. b || (s == x)) (are.same x) ∙ sym (in_push x s list) }
@@ -81,6 +81,6 @@ is_found s (x ∷ xs) =
       | inr e ↦ rw e (is_found s xs)
     ]
 
--- a slot that is held stands in the list
+-- a slot that is held is in the list
 pub found_in : (s : ℕ) (held list : List ℕ) → AreSame held list → is_some (value_at itself s held) ≡ is_in s list
 found_in s held list are = is_found s held ∙ are.same s

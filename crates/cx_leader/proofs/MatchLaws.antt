@@ -1,4 +1,4 @@
--- What matchmakers told, one answer after the other.
+-- What matchmakers reported, one answer after the other.
 use Rattle.std.specs.Prelude.{◌≡◌, ◌≤◌, ℕ, Bool, true, false, ◌&&◌, if◌then◌else◌, nat_lt, nat_le, filter, List, [], ◌∷◌, ◌++◌, All, refl}
 use Rattle.std.specs.List.{list_all}
 use Rattle.std.proofs.Common.{ap, append_assoc, arith, sym, ◌∙◌}
@@ -31,11 +31,11 @@ greatest_high (n ∷ ns) k all =
     let here : n ≤ k = All-head (λ x. x ≤ k) n ns all in
     omega (arith, here, greatest_high ns k (All-tail (λ x. x ≤ k) n ns all))
 
--- what enough replicas hold is a number that one of them told
+-- what enough replicas hold is a number that one of them reported
 pub held_high : (count k : ℕ) (held : List ℕ) → All (λ n. n ≤ k) held → held_by count held ≤ k
 held_high count k held all = greatest_high (filter (λ n. nat_le count (reaching n held)) held) k (All-filter (λ n. nat_le count (reaching n held)) (λ x. x ≤ k) held all)
 
--- ---- names of what was told
+-- ---- names of what was reported
 
 named_below : (n k : ℕ) (ids : List ℕ) → n ≤ k → list_all (λ id. nat_lt id n) ids ≡ true → list_all (λ id. nat_lt id k) ids ≡ true
 named_below n k [] le h = refl

@@ -27,6 +27,6 @@ zeros_low : (k first n : ℕ) → All (λ h. h ≤ k) (map (λ (r : ℕ). 0) (nu
 zeros_low k first zero = All-nil (λ h. h ≤ k)
 zeros_low k first (suc n) = All-cons (λ h. h ≤ k) 0 (map (λ (r : ℕ). 0) (numbers (first + 1) n)) (omega arith) (zeros_low k (first + 1) n)
 
--- no replica told anything
+-- no replica reported anything
 pub none_told : (c : Cluster) → IsHeld c (map (λ (r : ℕ). 0) (below c.replicas))
 none_told c = record { count = length-zeros 0 c.replicas; marks = zeros_low (2 ^ 40) 0 c.replicas }

@@ -13,7 +13,7 @@ use Rattle.cx_model.specs.Plan.{placed_from}
 use Rattle.cx_phase1.specs.Planned.{IsPlan}
 use Rattle.cx_phase1.specs.Window.{Window, IsWindow, is_used_up, free_slot}
 use Rattle.cx_ring.specs.Ring.{RingState, with_value, raised}
-use Rattle.cx_leader.specs.Proposing.{IsSlot, IsProposal, IsProposing, IsHolding, planned, open_values}
+use Rattle.cx_leader.specs.Proposing.{IsSlot, IsProposal, IsProposing, IsHolding}
 use Rattle.cx_leader.proofs.BySlot.{slot_of, put_next, slots_next}
 
 -- ---- a value at the next slot
@@ -131,10 +131,7 @@ proposed_plan p is =
       values = all_placed p.cw p.cw p.values (omega arith) (omega (arith, is.count, is.high)) (omega (arith, is.count, is.end)) is.values;
     }
 
-none_chosen : (ps : List Placed) → filter (λ (x : Placed). not (is_in x.slot [])) ps ≡ ps
-none_chosen [] = refl
-none_chosen (p ∷ ps) = ap (λ xs. p ∷ xs) (none_chosen ps)
-
--- all that a plan proposes is open
-pub open_planned : (p : Plan) → open_values (planned p) ≡ placed_from p.cw p.values
-open_planned p = none_chosen (placed_from p.cw p.values)
+-- where none is known to be chosen, all are open
+pub none_known : (ps : List Placed) → filter (λ (x : Placed). not (is_in x.slot [])) ps ≡ ps
+none_known [] = refl
+none_known (p ∷ ps) = ap (λ xs. p ∷ xs) (none_known ps)

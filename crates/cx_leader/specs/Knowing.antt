@@ -14,6 +14,6 @@ noted s k = record k { list = k.list ++ s ∷ [] }
 abbrev pub known_from : ℕ → Knowing → Knowing
 known_from s k = record { first = max k.first s; list = filter (λ x. nat_le (max k.first s) x) k.list }
 
--- the same slots stand in both
+-- the same slots are in both
 pub record AreSame (held list : List ℕ) : Type 0 where
   pub same : (s : ℕ) → is_in s held ≡ is_in s list

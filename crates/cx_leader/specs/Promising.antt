@@ -20,7 +20,7 @@ promises_of phase1 = option_map_or (λ (k : Counting). k.promises) phase1 []
 abbrev pub live_of : Option Counting → Option (List Entry)
 live_of phase1 = option_map (λ (k : Counting). k.live) phase1
 
--- the row of an acceptor's answer, by what the answer comes to
+-- the row of an acceptor's answer, by how the answer counts
 abbrev pub promised_row : Cluster → RoleId → Entry → LeaderVolatile → Promised → Told → Outcome LeaderVolatile
 promised_row c me own v p told.Unasked = answered why.Unasked v
 promised_row c me own v p told.Same = answered why.Same v

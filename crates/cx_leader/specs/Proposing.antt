@@ -1,18 +1,18 @@
 -- What a leader proposed, as contracts see it.
-use Rattle.std.specs.Prelude.{◌≡◌, ◌≤◌, ◌<◌, ◌+◌, ◌-◌, ◌^◌, ℕ, Bool, true, false, not, nat_le, max, map, filter, List, [], ◌∷◌, ◌++◌, All, Option, None, Some, IsTrue, if◌then◌else◌}
-use Rattle.std.specs.List.{list_all}
+use Rattle.std.specs.Prelude.{◌≡◌, ◌≤◌, ◌<◌, ◌+◌, ◌-◌, ◌^◌, ℕ, Bool, true, false, nat_le, max, map, filter, List, [], ◌∷◌, ◌++◌, All, Option, None, Some, IsTrue, if◌then◌else◌}
 use Rattle.cx_base.specs.declared.command.Placed.{Placed}
 use Rattle.cx_base.specs.declared.command.Value.{Value}
 use Rattle.cx_base.specs.Grid.{is_in}
 use Rattle.cx_base.specs.Lists.{numbers}
 use Rattle.cx_model.specs.declared.states.Plan.{Plan}
+use Rattle.cx_model.specs.Leader.{are_known, without_known}
 use Rattle.cx_model.specs.Plan.{placed_from}
 use Rattle.cx_field.specs.Fields as field
 use Rattle.cx_phase1.specs.Window.{IsWindow, is_used_up}
 use Rattle.cx_ring.specs.Ring.{RingState, value_at}
 
--- the chosen watermark and the next free slot; the slot before which it proposed when its first phase was done; what it proposed
--- from the watermark on, and which of these slots it knows to be chosen
+-- the chosen watermark and the next free slot; the slot before which it proposed when it began to lead; what it proposed from the
+-- watermark on, and which of these slots it knows to be chosen
 pub record Proposing : Type 0 where
   pub cw : ℕ
   pub next : ℕ
@@ -27,6 +27,10 @@ nothing_from cw = record { cw = cw; next = cw; end = cw; proposed = []; chosen =
 -- what a plan proposes
 abbrev pub planned : Plan → Proposing
 planned p = record { cw = p.cw; next = p.end; end = p.end; proposed = placed_from p.cw p.values; chosen = [] }
+
+-- what it proposed, proposed again in the next round, where nothing is known to be chosen yet
+abbrev pub led_on : Proposing → Proposing
+led_on p = record p { end = p.next; chosen = [] }
 
 -- a value at the next slot
 abbrev pub with_value : Value → Proposing → Proposing
@@ -50,13 +54,13 @@ raised cw p =
       chosen = filter (λ s. nat_le (max p.cw cw) s) p.chosen;
     }
 
--- whether all that it proposed when its first phase was done is known to be chosen, or held
+-- whether all that it proposed when it began to lead is known to be chosen, or held
 abbrev pub is_settled : Proposing → Bool
-is_settled p = list_all (λ s. is_in s p.chosen) (numbers p.cw (p.end - p.cw))
+is_settled p = are_known p.chosen p.cw p.end
 
 -- the values that aren't known to be chosen
 abbrev pub open_values : Proposing → List Placed
-open_values p = filter (λ (x : Placed). not (is_in x.slot p.chosen)) p.proposed
+open_values p = without_known p.chosen p.proposed
 
 -- a slot that a leader with this watermark may propose at
 pub record IsSlot (cw s : ℕ) : Type 0 where

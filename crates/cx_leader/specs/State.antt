@@ -20,7 +20,7 @@ abbrev pub own_fits : ℕ → Option Entry → Bool
 own_fits index None = true
 own_fits index (Some e) = field.round.fits e.round && (e.round.id == index)
 
--- whether a matchmaker told only entries whose names lie in the cluster
+-- whether a matchmaker reported only entries whose names lie in the cluster
 abbrev pub is_named : Cluster → MatchAnswer → Bool
 is_named c a = list_all (λ (e : Entry). names_entry c e) a.entries
 
@@ -30,7 +30,7 @@ pub record IsBegun (c : Cluster) (index : ℕ) (own : Option Entry) (mode : Mode
   pub fits : IsTrue (own_fits index own)
   pub begun : IsTrue (is_idle mode || is_some own)
 
--- It counts at most f + 1 matchmakers. While it asks acceptors, it asks those of the live grids that the matchmakers told, and
+-- It counts at most f + 1 matchmakers. While it asks acceptors, it asks those of the live grids that the matchmakers reported, and
 -- none before that.
 pub record IsMatched (c : Cluster) (mode : Mode) (told : List MatchAnswer) (phase1 : Option Counting) : Type 0 where
   pub count : length told ≤ c.f + 1
@@ -39,7 +39,7 @@ pub record IsMatched (c : Cluster) (mode : Mode) (told : List MatchAnswer) (phas
   pub unasked : IsTrue (is_matching mode) → phase1 ≡ None
   pub asked : IsTrue (is_promising mode) → live_of phase1 ≡ Some (live_entries told)
 
--- each replica told a number of slots
+-- each replica reported a number of slots
 pub record IsHeld (c : Cluster) (held : List ℕ) : Type 0 where
   pub count : length held ≡ c.replicas
   pub marks : All (λ n. n ≤ 2 ^ 40) held

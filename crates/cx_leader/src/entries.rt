@@ -1,4 +1,4 @@
-//! What the matchmakers told (JSys 2021): the greatest watermark, and the entries that are not retired.
+//! What the matchmakers reported (JSys 2021): the greatest watermark, and the entries that are not retired.
 
 ghost use Rattle.std.specs.Prelude.{◌≡◌, ◌∷◌, ◌++◌, [], not, IfOk};
 ghost use Rattle.cx_base.specs.Round.{is_before};
@@ -40,7 +40,7 @@ fn is_live(entry: &Entry, watermark: Round) -> bool
     !entry.round.is_before(&watermark)
 }
 
-// The entries from the watermark on, behind those of a list.
+// The entries from the watermark on, after those of a list.
 fn add_live(live: &mut Vec<Entry>, entries: &[Entry], watermark: Round) -> Result<(), NoMemory>
     ensures { IfOk result (λ _. live.new.items ≡ live.old.items ++ entries_from watermark entries.now) }
 {

@@ -14,7 +14,7 @@ fn reaching(held: &[u64], n: u64) -> usize
     held.iter().filter(|other| **other >= n).count()
 }
 
-// The greatest of the numbers that so many of them reach.
+// The greatest of the numbers that `count` of them reach.
 fn held_by(held: &[u64], count: usize) -> u64
     ensures { result ≡ held_by count held.now }
 {
@@ -28,7 +28,7 @@ fn held_by(held: &[u64], count: usize) -> u64
 }
 
 impl Leader {
-    /// A replica tells how many slots it holds. What enough of them hold is the chosen watermark, if it is greater.
+    /// A replica reports how many slots it holds. What enough of them hold is the chosen watermark, if it is greater.
     pub(crate) fn replica_holds(&mut self, from: RoleId, n: u64) -> Why
         requires replica { from.index < self.old.cluster.replicas }
         requires mark { n ≤ 2 ^ 40 }

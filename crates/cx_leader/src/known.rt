@@ -16,7 +16,7 @@ use std::marker::Model;
 #[derive(Drop)]
 pub struct Known {
     slots: Ring<u64, Itself>,
-    // A slot that is noted twice stands here twice.
+    // A slot that is noted twice is here twice.
     noted: Told<u64>,
 }
 
@@ -71,7 +71,7 @@ impl Known {
         }
     }
 
-    /// Notes a slot of the window. Want of memory changes nothing.
+    /// Notes a slot of the window. Out of memory, it changes nothing.
     #[tactic(auto, using(crate::proofs::Knows::same_noted))]
     pub fn note(&mut self, alloc: Global, slot: u64) -> Result<(), NoMemory>
         requires low { self.old.first ≤ slot }
@@ -112,7 +112,7 @@ impl Known {
         self.slots.get(slot).is_some()
     }
 
-    /// Whether each of so many slots from the first on is known to be chosen. It takes no memory.
+    /// Whether each of `count` slots from the first on is known to be chosen. It takes no memory.
     #[tactic(auto, using(cx_grid::proofs::Crossing::numbers_more))]
     pub fn contains_all(&self, first: u64, count: u64) -> bool
         requires { first + count < 2 ^ 64 }

@@ -1,6 +1,9 @@
 //! The leader's state.
 
-ghost use Rattle.std.specs.Prelude.{◌≡◌, [], IfOk, OnErr, IsTrue, false};
+ghost use Rattle.std.specs.Prelude.{◌≡◌, ◌<◌, [], IfOk, OnErr, IsTrue, false, true};
+ghost use Rattle.cx_base.specs.Role.{role};
+ghost use Rattle.cx_base.specs.declared.role.Kind.TheVariants as kind;
+ghost use Rattle.cx_leader.specs.State.{own_fits};
 ghost use Rattle.cx_model.specs.Leader.{LeaderDurable, LeaderVolatile, is_idle, leader_takes, leader_rules};
 ghost use Rattle.cx_model.specs.Names.{names};
 ghost use Rattle.cx_role.specs.Role.{Replies, takes_no_memory};
@@ -28,7 +31,7 @@ pub struct Leader {
     pub(crate) own: Option<Entry>,
     pub(crate) mode: Mode,
     pub(crate) seen: Round,
-    // The greatest number of slots that each replica told.
+    // The greatest number of slots that each replica reported.
     pub(crate) held: Vec<u64>,
     pub(crate) told: Vec<MatchAnswer>,
     // Who has promised, where acceptors are asked.
@@ -96,6 +99,34 @@ impl Leader {
     }
 }
 
+// A leader that was just opened, whose records left this round.
+#[tactic(auto, using(crate::proofs::Opened::none_told))]
+fn opened(
+    alloc: Global,
+    cluster: &Cluster,
+    index: u16,
+    own: Option<Entry>,
+) -> Result<Leader, NoMemory>
+    requires named { index < cluster.now.leaders }
+    requires fits { IsTrue (own_fits index own) }
+    ensures { IfOk result (λ leader. leader ≡ record { cluster = cluster.now; me = role kind.Leader index; live = true; durable = record { own = own }; volatile = leader_rules.fresh cluster.now }) }
+{
+    Ok(Leader {
+        alloc,
+        cluster: *cluster,
+        index,
+        live: true,
+        own,
+        mode: Mode::Idle,
+        seen: Round::ZERO,
+        held: none_held(alloc, cluster.replicas)?,
+        told: Vec::new(alloc),
+        phase1: None,
+        proposals: Proposals::new(alloc),
+        collector: Collector::off(),
+    })
+}
+
 impl Role for Leader {
     ghost Durable = { LeaderDurable };
 
@@ -112,21 +143,22 @@ impl Role for Leader {
         me: RoleId,
         records: &[Record],
     ) -> Result<Self, WakeFault> {
-        let own = last_begun(cluster, me, records)?;
-        Ok(Leader {
+        let own = last_begun(None, cluster, me, records)?;
+        Ok(opened(alloc, cluster, me.index, own)?)
+    }
+
+    #[tactic(auto, using(crate::proofs::Opened::leader_itself, crate::proofs::Opened::leader_named, crate::proofs::Opened::none_told))]
+    fn reopen(self, records: &[Record]) -> Result<Self, WakeFault> {
+        let Leader {
             alloc,
-            cluster: *cluster,
-            index: me.index,
-            live: true,
+            cluster,
+            index,
             own,
-            mode: Mode::Idle,
-            seen: Round::ZERO,
-            held: none_held(alloc, cluster.replicas)?,
-            told: Vec::new(alloc),
-            phase1: None,
-            proposals: Proposals::new(alloc),
-            collector: Collector::off(),
-        })
+            ..
+        } = self;
+        let me = RoleId::new(Kind::Leader, index);
+        let own = last_begun(own, &cluster, me, records)?;
+        Ok(opened(alloc, &cluster, index, own)?)
     }
 
     #[tactic(auto, using(crate::proofs::Fits::take_fits))]

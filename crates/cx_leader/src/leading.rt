@@ -1,9 +1,12 @@
-//! What a leader that leads does: it proposes what its first phase told, gives each batch a slot, and notes which slots are
-//! chosen (VLDB 2021).
+//! What a leader that leads does: it proposes what its first phase reported, or what it proposed in the round before, gives each
+//! batch a slot, and notes which slots are chosen (VLDB 2021).
 
-ghost use Rattle.std.specs.Prelude.{◌≡◌, [], Some, IsTrue, IfOk, OnErr, false};
+ghost use Rattle.std.specs.Prelude.{◌≡◌, ◌++◌, [], Some, map, IsTrue, IfOk, OnOk, OnErr, false};
+ghost use Rattle.cx_base.specs.declared.role.Kind.{Kind as KindOf};
+ghost use Rattle.cx_base.specs.Lists.{below};
+ghost use Rattle.cx_base.specs.Role.{role};
 ghost use Rattle.cx_field.specs.Fields as field;
-ghost use Rattle.cx_model.specs.Leader.{lead_with, batch_row, chosen_in_row, leader_rules};
+ghost use Rattle.cx_model.specs.Leader.{leads_to, propose_to, lead_with, batch_row, chosen_in_row, leader_rules};
 ghost use Rattle.cx_phase1.specs.Planned.{IsPlan};
 ghost use Rattle.cx_role.specs.Role.{Replies, takes_no_memory};
 
@@ -11,14 +14,40 @@ use crate::Leader;
 use crate::proposals::Proposals;
 use crate::rounds::{is_same, round_of};
 use crate::sending::{proposal, tell_batchers};
-use cx_base::{Commands, Duplicate, NoMemory, Round, Value, Why};
+use cx_base::{Cluster, Commands, Duplicate, Kind, NoMemory, Round, Value, WINDOW_LENGTH, Why};
 use cx_field::Entry;
 use cx_model::{Mode, Plan};
 use cx_role::Outbox;
+use std::alloc::Global;
+
+/// Proposes all values in a leader's own round, and announces the round to the batchers. Out of memory, nothing is sent.
+pub fn begin_to_lead(
+    alloc: Global,
+    cluster: &Cluster,
+    leader: u16,
+    own: &Entry,
+    proposals: &Proposals,
+    out: &mut Outbox,
+) -> Result<(), NoMemory>
+    requires round { IsTrue (field.round.fits own.now.round) }
+    requires empty { out.old.list ≡ [] }
+    ensures list { OnOk result (out.new.list ≡ map (propose_to cluster.now (role Kind.Leader leader) own.now proposals.now.cw) proposals.now.proposed ++ map (leads_to (role Kind.Leader leader) own.now.round) (below cluster.now.batchers)) }
+    ensures none { OnErr result (out.new.list ≡ []) }
+{
+    out.room(WINDOW_LENGTH + usize::from(cluster.batchers))?;
+    match proposals.propose_all(alloc, cluster, leader, own, out) {
+        Ok(()) => {}
+        Err(NoMemory) => {
+            out.clear();
+            return Err(NoMemory);
+        }
+    }
+    tell_batchers(leader, own.round, cluster.batchers, out);
+    Ok(())
+}
 
 impl Leader {
-    /// Its first phase is done: it leads, proposes what the plan says, and tells the batchers.
-    #[tactic(auto, using(crate::proofs::Proposed::open_planned))]
+    /// Its first phase is done: it leads, proposes what the plan says, and announces it to the batchers.
     pub(crate) fn finish(
         &mut self,
         own: &Entry,
@@ -34,15 +63,7 @@ impl Leader {
         ensures sends { OnErr result (out.new.list ≡ []) }
     {
         let proposals = Proposals::planned(self.alloc, plan)?;
-        out.room(32 + usize::from(self.cluster.batchers))?;
-        match proposals.propose_open(self.alloc, &self.cluster, self.index, own, out) {
-            Ok(()) => {}
-            Err(NoMemory) => {
-                out.clear();
-                return Err(NoMemory);
-            }
-        }
-        tell_batchers(self.index, own.round, self.cluster.batchers, out);
+        begin_to_lead(self.alloc, &self.cluster, self.index, own, &proposals, out)?;
         self.mode = Mode::Leading;
         self.phase1 = None;
         self.proposals = proposals;
@@ -77,7 +98,7 @@ impl Leader {
         }
     }
 
-    /// A proxy tells that a slot is chosen in this round.
+    /// A proxy reports that a slot is chosen in this round.
     pub(crate) fn chosen_in(&mut self, round: Round, slot: u64) -> Result<Why, NoMemory>
         ensures ok { IfOk result (λ why. Replies leader_rules self.old (chosen_in_row self.old.durable self.old.volatile round slot) why self.new []) }
         ensures no_memory { OnErr result (self.new ≡ self.old) }

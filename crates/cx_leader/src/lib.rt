@@ -1,9 +1,8 @@
-//! The leader: it begins rounds and retires the earlier ones (JSys 2021), and gives each batch a slot while it leads
-//! (VLDB 2021).
+//! The leader: it begins and retires rounds (JSys 2021), and gives each batch a slot (VLDB 2021).
 //!
-//! Stands on the model, the keepers, `Role`, the windows of slots, the first phase and the collection; the world and the
-//! node drive it. Its theorem: each step of a `Leader` is its row in `leader_rules` of the model, over any keeper; want of
-//! memory leaves all as it was, and a failed append sends nothing.
+//! The world and the node drive it through the trait `Role`. Its theorem is `Role`'s contract at
+//! `leader_rules`: each step is the model's row, over any keeper, and `open` names exactly the first
+//! record that isn't its own.
 #![tactic(auto)]
 
 mod entries;
@@ -19,8 +18,7 @@ mod refusing;
 mod retiring;
 mod rounds;
 mod sending;
-#[cfg(test)]
-mod tests;
+mod tending;
 mod ticks;
 
 pub use leader::Leader;

@@ -4,7 +4,7 @@ ghost use Rattle.std.specs.Prelude.{◌≡◌, ◌++◌, ◌∷◌, [], Some, ma
 ghost use Rattle.std.specs.List.{list_all};
 ghost use Rattle.cx_base.specs.declared.why.Why.TheVariants as reason;
 ghost use Rattle.cx_model.specs.declared.states.Mode.TheVariants as mode;
-ghost use Rattle.cx_model.specs.Leader.{is_matching, finish, phase1a_to, matched_by, match_counted, match_b_row, leader_rules};
+ghost use Rattle.cx_model.specs.Leader.{is_matching, bypass, finish, phase1a_to, matched_by, match_counted, match_b_row, leader_rules};
 ghost use Rattle.cx_model.specs.Matched.{live_entries, members_of};
 ghost use Rattle.cx_model.specs.Names.{names_entry};
 ghost use Rattle.cx_model.specs.Outcome.{replied};
@@ -14,6 +14,7 @@ ghost use Rattle.cx_leader.specs.State.{is_named};
 
 use crate::Leader;
 use crate::entries::{is_counted, live_entries};
+use crate::leading::begin_to_lead;
 use crate::rounds::{is_same, round_of};
 use crate::sending::{ask_acceptors, tell_batchers};
 use cx_base::{Duplicate, NoMemory, RoleId, Round, Why};
@@ -48,6 +49,31 @@ impl Leader {
         Ok(Why::Leads)
     }
 
+    // The round came by a change, so nobody is asked: it begins with what its leader proposed in the round before.
+    fn bypass(
+        &mut self,
+        answer: MatchAnswer,
+        own: &Entry,
+        out: &mut Outbox,
+    ) -> Result<Why, NoMemory>
+        requires mode { IsTrue (is_matching self.old.volatile.mode) }
+        requires own { self.old.durable.own ≡ Some own.now }
+        requires named { IsTrue (is_named self.old.cluster answer) }
+        requires empty { out.old.list ≡ [] }
+        ensures ok { IfOk result (λ why. Replies leader_rules self.old (bypass self.old.cluster self.old.me own.now (record self.old.volatile { told = self.old.volatile.told ++ answer ∷ [] })) why self.new out.new.list) }
+        ensures no_memory { OnErr result (self.new ≡ self.old) }
+        ensures spared { OnErr result (takes_no_memory (bypass self.old.cluster self.old.me own.now (record self.old.volatile { told = self.old.volatile.told ++ answer ∷ [] })).why ≡ false) }
+        ensures sends { OnErr result (out.new.list ≡ []) }
+    {
+        self.told.reserve(1)?;
+        let proposals = &self.proposals;
+        begin_to_lead(self.alloc, &self.cluster, self.index, own, proposals, out)?;
+        self.told.push_reserved(answer);
+        self.mode = Mode::Leading;
+        self.proposals.lead_on();
+        Ok(Why::Bypassed)
+    }
+
     // The acceptors of the live grids are asked.
     fn ask(
         &mut self,
@@ -76,7 +102,7 @@ impl Leader {
         Ok(Why::Phase1)
     }
 
-    // Enough matchmakers have answered.
+    // Enough matchmakers have answered, in a round that came by an order to lead.
     fn matched(
         &mut self,
         answer: MatchAnswer,
@@ -110,11 +136,14 @@ impl Leader {
         ensures spared { OnErr result (takes_no_memory (match_counted self.old.cluster self.old.me self.old.durable.own (record self.old.volatile { told = self.old.volatile.told ++ answer ∷ [] })).why ≡ false) }
         ensures sends { OnErr result (out.new.list ≡ []) }
     {
-        if self.told.len() == usize::from(self.cluster.f) {
-            return self.matched(answer, own, out);
+        if self.told.len() < usize::from(self.cluster.f) {
+            self.told.push(answer)?;
+            return Ok(Why::Counted);
         }
-        self.told.push(answer)?;
-        Ok(Why::Counted)
+        if own.round.s > 0 {
+            return self.bypass(answer, own, out);
+        }
+        self.matched(answer, own, out)
     }
 
     /// A matchmaker answers with its watermark and its entries.

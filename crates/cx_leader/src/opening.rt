@@ -4,7 +4,7 @@ ghost use Rattle.std.specs.Prelude.{◌≡◌, None, map, IfOk, IfErr, IsTrue};
 ghost use Rattle.cx_base.specs.Lists.{below};
 ghost use Rattle.cx_keeper.specs.Keeper.{all_fit};
 ghost use Rattle.cx_model.specs.Leader.{leader_rules};
-ghost use Rattle.cx_model.specs.Rules.{folded, refused};
+ghost use Rattle.cx_model.specs.Rules.{folded_from, refused_from};
 ghost use Rattle.cx_role.specs.Wake.{IsWakeFault};
 ghost use Rattle.cx_leader.specs.State.{own_fits};
 
@@ -15,7 +15,7 @@ use cx_msg::Record;
 use cx_role::WakeFault;
 use std::alloc::Global;
 
-/// No replica told anything.
+/// No replica reported anything.
 pub fn none_held(alloc: Global, replicas: u16) -> Result<Vec<u64>, NoMemory>
     ensures { IfOk result (λ held. held.items ≡ map (λ r. 0) (below replicas)) }
 {
@@ -26,20 +26,22 @@ pub fn none_held(alloc: Global, replicas: u16) -> Result<Vec<u64>, NoMemory>
     Ok(held)
 }
 
-/// The round that these records leave, with its grid.
+/// The round that these records leave after an earlier one, with its grid.
 #[tactic(auto, unfolding(cx_msg::specs::Records::kept_record, cx_msg::specs::Records::round_grid))]
 pub fn last_begun(
+    before: Option<Entry>,
     cluster: &Cluster,
     me: RoleId,
     records: &[Record],
 ) -> Result<Option<Entry>, WakeFault>
-    requires { IsTrue (all_fit records.now) }
-    ensures own { IfOk result (λ own. record { own = own } ≡ folded leader_rules records.now) }
-    ensures whole { IfOk result (λ _. refused leader_rules cluster.now me records.now ≡ None) }
+    requires before { IsTrue (own_fits me.index before) }
+    requires records { IsTrue (all_fit records.now) }
+    ensures own { IfOk result (λ own. record { own = own } ≡ folded_from leader_rules (record { own = before }) records.now) }
+    ensures whole { IfOk result (λ _. refused_from leader_rules cluster.now me (record { own = before }) 0 records.now ≡ None) }
     ensures fits { IfOk result (λ own. IsTrue (own_fits me.index own)) }
-    ensures fault { IfErr result (IsWakeFault (refused leader_rules cluster.now me records.now)) }
+    ensures fault { IfErr result (IsWakeFault (refused_from leader_rules cluster.now me (record { own = before }) 0 records.now)) }
 {
-    let mut own = None;
+    let mut own = before;
     for (index, record) in records.iter().enumerate() {
         let Record::Round { round, grid } = record else {
             return Err(WakeFault::Record { index });

@@ -65,7 +65,7 @@ impl Leader {
         }
     }
 
-    /// An acceptor promises, and tells its votes.
+    /// An acceptor promises, and reports its votes.
     pub(crate) fn promise(
         &mut self,
         from: RoleId,

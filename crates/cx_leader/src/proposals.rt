@@ -1,15 +1,18 @@
 //! What a leader proposed, and what it knows to be chosen.
 
 ghost use Rattle.std.specs.Prelude.{◌≡◌, ◌≤◌, ◌<◌, ◌+◌, ◌-◌, ◌^◌, ◌++◌, ◌∷◌, [], true, not, max, map, length, None, Some, All, IsTrue, IfOk, IfSome, OnOk, OnErr};
+ghost use Rattle.std.specs.List.{list_all};
 ghost use Rattle.cx_base.specs.declared.role.Kind.{Kind as KindOf};
 ghost use Rattle.cx_base.specs.Grid.{is_in};
+ghost use Rattle.cx_base.specs.Lists.{numbers};
 ghost use Rattle.cx_base.specs.Role.{role};
 ghost use Rattle.cx_field.specs.Fields as field;
 ghost use Rattle.cx_model.specs.Leader.{propose_to};
 ghost use Rattle.cx_model.specs.Plan.{placed_from};
 ghost use Rattle.cx_phase1.specs.Planned.{IsPlan};
 ghost use Rattle.cx_phase1.specs.Window.{IsWindow, is_used_up};
-ghost use Rattle.cx_leader.specs.Proposing.{Proposing, Adds, IsSlot, nothing_from, planned, with_value, with_chosen, raised, is_settled, open_value, open_values};
+ghost use Rattle.cx_leader.specs.Proposing.{Proposing, Adds, IsSlot, nothing_from, planned, led_on, with_value, with_chosen, raised, is_settled, only, open_value, open_values};
+ghost use Rattle.cx_ring.specs.Ring.{value_at};
 
 use crate::known::Known;
 use crate::sending::proposal;
@@ -23,11 +26,11 @@ use std::alloc::Global;
 use std::marker::Model;
 
 /// The values that a leader proposed from the chosen watermark on, one a slot, and which of these slots it knows to be chosen
-/// in its round.
+/// in its round. While it goes on to the next round these are the values of the round before.
 #[derive(Drop)]
 pub struct Proposals {
     slots: Slots,
-    // The slot before which it proposed when its first phase was done.
+    // The slot before which it proposed when it began to lead.
     end: u64,
     list: Ring<Placed, BySlot>,
     chosen: Known,
@@ -108,6 +111,14 @@ impl Proposals {
         self.chosen.clear();
     }
 
+    /// Lets the next round begin with all that was proposed, where nothing is known to be chosen yet. It takes no memory.
+    pub fn lead_on(&mut self)
+        ensures { self.new ≡ led_on self.old }
+    {
+        self.end = self.slots.next();
+        self.chosen.clear();
+    }
+
     /// Gives a value the next slot, or answers None where no slot is free.
     pub fn add(&mut self, alloc: Global, value: &Value) -> Result<Option<u64>, NoMemory>
         requires { IsTrue (field.value.fits value.now) }
@@ -125,7 +136,7 @@ impl Proposals {
         Ok(Some(slot))
     }
 
-    /// Notes that a slot below the next free one is chosen. Want of memory changes nothing.
+    /// Notes that a slot below the next free one is chosen. Out of memory, it changes nothing.
     pub fn note(&mut self, alloc: Global, slot: u64) -> Result<(), NoMemory>
         requires low { self.old.cw ≤ slot }
         requires high { slot < self.old.next }
@@ -148,8 +159,32 @@ impl Proposals {
         self.chosen.raise(cw);
     }
 
-    // Proposes the value of a slot, if it has one that is not known to be chosen.
+    // Proposes the value of a slot, if it has one.
     fn propose(
+        &self,
+        alloc: Global,
+        cluster: &Cluster,
+        leader: u16,
+        own: &Entry,
+        slot: u64,
+        out: &mut Outbox,
+    ) -> Result<(), NoMemory>
+        requires spare { 0 < out.old.spare }
+        requires round { IsTrue (field.round.fits own.now.round) }
+        ensures list { OnOk result (out.new.list ≡ out.old.list ++ map (propose_to cluster.now (role Kind.Leader leader) own.now self.now.cw) (only (value_at (λ p. p.slot) slot self.now.proposed))) }
+        ensures spare { OnOk result (out.old.spare ≤ out.new.spare + 1) }
+    {
+        let Some(placed) = self.list.get(slot) else {
+            return Ok(());
+        };
+        let value = placed.value.copy(alloc)?;
+        let cw = self.slots.cw();
+        out.push(proposal(cluster, leader, own, cw, placed.slot, value));
+        Ok(())
+    }
+
+    // The same, unless the slot is known to be chosen.
+    fn propose_if_open(
         &self,
         alloc: Global,
         cluster: &Cluster,
@@ -163,19 +198,33 @@ impl Proposals {
         ensures list { OnOk result (out.new.list ≡ out.old.list ++ map (propose_to cluster.now (role Kind.Leader leader) own.now self.now.cw) (open_value slot self.now)) }
         ensures spare { OnOk result (out.old.spare ≤ out.new.spare + 1) }
     {
-        if self.is_chosen(slot) {
-            return Ok(());
+        if !self.is_chosen(slot) {
+            self.propose(alloc, cluster, leader, own, slot, out)?;
         }
-        let Some(placed) = self.list.get(slot) else {
-            return Ok(());
-        };
-        let value = placed.value.copy(alloc)?;
-        let cw = self.slots.cw();
-        out.push(proposal(cluster, leader, own, cw, placed.slot, value));
         Ok(())
     }
 
-    /// Proposes each value that is not known to be chosen, at most 32 of them; want of memory may leave some sent.
+    /// Proposes each value, at most 32 of them; out of memory, it may leave some sent.
+    pub fn propose_all(
+        &self,
+        alloc: Global,
+        cluster: &Cluster,
+        leader: u16,
+        own: &Entry,
+        out: &mut Outbox,
+    ) -> Result<(), NoMemory>
+        requires spare { 32 ≤ out.old.spare }
+        requires round { IsTrue (field.round.fits own.now.round) }
+        ensures list { OnOk result (out.new.list ≡ out.old.list ++ map (propose_to cluster.now (role Kind.Leader leader) own.now self.now.cw) self.now.proposed) }
+        ensures spare { OnOk result (out.old.spare ≤ out.new.spare + 32) }
+    {
+        for slot in self.slots.cw()..self.slots.next() {
+            self.propose(alloc, cluster, leader, own, slot, out)?;
+        }
+        Ok(())
+    }
+
+    /// Proposes each value that is not known to be chosen, at most 32 of them; out of memory, it may leave some sent.
     pub fn propose_open(
         &self,
         alloc: Global,
@@ -190,7 +239,7 @@ impl Proposals {
         ensures spare { OnOk result (out.old.spare ≤ out.new.spare + 32) }
     {
         for slot in self.slots.cw()..self.slots.next() {
-            self.propose(alloc, cluster, leader, own, slot, out)?;
+            self.propose_if_open(alloc, cluster, leader, own, slot, out)?;
         }
         Ok(())
     }
@@ -217,7 +266,16 @@ impl Proposals {
         self.chosen.contains(slot)
     }
 
-    /// Whether all that it proposed when its first phase was done is known to be chosen, or held by enough replicas.
+    /// Whether each slot from the chosen watermark to the next free one is known to be chosen.
+    pub fn all_chosen(&self) -> bool
+        ensures { result ≡ list_all (λ s. is_in s self.now.chosen) (numbers self.now.cw (self.now.next - self.now.cw)) }
+    {
+        let cw = self.slots.cw();
+        self.chosen
+            .contains_all(cw, self.slots.next().saturating_sub(cw))
+    }
+
+    /// Whether all that it proposed when it began to lead is known to be chosen, or held by enough replicas.
     pub fn is_settled(&self) -> bool
         ensures { result ≡ is_settled self.now }
     {

@@ -1,4 +1,4 @@
-//! Who refuses a leader's round, and tells a greater one.
+//! Who refuses a leader's round, and reports a greater one.
 
 ghost use Rattle.std.specs.Prelude.{◌≡◌, []};
 ghost use Rattle.cx_model.specs.Leader.{nack_row, match_nack_row, leader_rules};
@@ -8,10 +8,8 @@ use crate::Leader;
 use crate::entries::later;
 use crate::rounds::{is_same, round_of};
 use cx_base::{Round, Why};
+use cx_field::NackReason;
 use cx_model::Mode;
-
-// A matchmaker has no room for the round.
-const NO_ROOM: u8 = 2;
 
 impl Leader {
     /// An acceptor has promised a greater round, which is noted whatever the answer; a leader of the refused round gives it up.
@@ -26,15 +24,15 @@ impl Leader {
         Why::Nacked
     }
 
-    /// A matchmaker does not record the round, and tells another one; where it has no room the leader goes on.
-    pub(crate) fn match_nack(&mut self, round: Round, reason: u8, other: Round) -> Why
+    /// A matchmaker does not record the round, and reports another one; where it has no room the leader goes on.
+    pub(crate) fn match_nack(&mut self, round: Round, reason: NackReason, other: Round) -> Why
         ensures { Replies leader_rules self.old (match_nack_row self.old.durable self.old.volatile round reason other) result self.new [] }
     {
         self.seen = later(self.seen, other);
         if matches!(self.mode, Mode::Idle) || !is_same(round, round_of(&self.own)) {
             return Why::Old;
         }
-        if reason == NO_ROOM {
+        if matches!(reason, NackReason::Full) {
             return Why::Full;
         }
         self.mode = Mode::Idle;

@@ -1,4 +1,4 @@
-//! How a leader retires the rounds below its own (JSys 2021): a column of its grid is told how many slots enough replicas hold
+//! How a leader retires the rounds below its own (JSys 2021): a column of its grid learns how many slots enough replicas hold
 //! (this project's own), then f + 1 matchmakers forget the earlier rounds.
 
 ghost use Rattle.std.specs.Prelude.{◌≡◌, ◌<◌, ◌&&◌, [], IfOk, OnErr, false};
@@ -22,7 +22,8 @@ impl Leader {
         matches!(self.mode, Mode::Leading) && is_same(round, round_of(&self.own))
     }
 
-    /// The order to retire all earlier rounds, once all that its first phase told is chosen, or held.
+    /// The order to retire all earlier rounds, once all that it proposed when it began to lead is known to be chosen, or
+    /// held.
     pub(crate) fn collect(&mut self, out: &mut Outbox) -> Result<Why, NoMemory>
         requires empty { out.old.list ≡ [] }
         ensures ok { IfOk result (λ why. Replies leader_rules self.old (collect_row self.old.cluster self.old.me self.old.durable self.old.volatile) why self.new out.new.list) }

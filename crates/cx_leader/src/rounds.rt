@@ -6,18 +6,17 @@ ghost use Rattle.cx_model.specs.Leader.{round_of, follows, begin_in, lead_row, c
 ghost use Rattle.cx_model.specs.Names.{names_round, names_grid};
 ghost use Rattle.cx_model.specs.Rules.{IsFit};
 ghost use Rattle.cx_field.specs.Fields as field;
-ghost use Rattle.cx_role.specs.declared.role.StepFault.TheVariants as fault;
-ghost use Rattle.cx_role.specs.Role.{Steps, StaysAt, FailsAt, takes_no_memory};
+ghost use Rattle.cx_role.specs.Role.{Steps, StaysAt, FailsAt, KeepsDurable, takes_no_memory};
 
 use crate::Leader;
 use crate::sending::{ask_matchmakers, matchmakers};
 use cx_base::{Cluster, Grid, Round, Why};
 use cx_collect::Collector;
 use cx_field::{Entry, grid_fits};
-use cx_keeper::{KeepFault, Keeper};
+use cx_keeper::Keeper;
 use cx_model::Mode;
 use cx_msg::Record;
-use cx_role::{Outbox, StepFault, names_grid, names_round};
+use cx_role::{Outbox, StepFault, keep, names_grid, names_round};
 
 /// Whether two rounds are the same.
 pub fn is_same(a: Round, b: Round) -> bool
@@ -36,7 +35,7 @@ pub fn round_of(own: &Option<Entry>) -> Round
     }
 }
 
-fn is_changed(own: Round, round: Round) -> bool
+fn is_next(own: Round, round: Round) -> bool
     ensures { result ≡ same_round round (record own { s = own.s + 1 }) }
 {
     match Round::change_after(own) {
@@ -48,7 +47,7 @@ fn is_changed(own: Round, round: Round) -> bool
 fn follows(own: Round, round: Round) -> bool
     ensures { result ≡ follows own round }
 {
-    own.is_before(&round) && round.s == 0 || is_changed(own, round)
+    own.is_before(&round) && round.s == 0 || is_next(own, round)
 }
 
 /// Whether a leader with this last round may begin that one with this grid.
@@ -80,18 +79,16 @@ impl Leader {
         ensures spared { IsErrOf result StepFault.NoMemory → takes_no_memory (begin_in self.old.cluster self.old.me self.old.volatile grid.now (Some round)).why ≡ false }
         ensures told { K.tells keeper.new ≡ K.tells keeper.old }
         ensures failed { IsErrOf result StepFault.Failed → FailsAt K.append_gives (begin_in self.old.cluster self.old.me self.old.volatile grid.now (Some round)) keeper.old keeper.new self.new out.new.list }
+        ensures keeps { IsErrOf result StepFault.Failed → KeepsDurable self.old self.new }
     {
         let count = matchmakers(&self.cluster);
         out.room(usize::from(count))?;
         grid_fits(grid);
-        match keeper.append(&Record::Round { round, grid: *grid }) {
-            Ok(()) => {}
-            Err(KeepFault::NoMemory) => return Err(StepFault::NoMemory),
-            Err(KeepFault::Failed) => {
-                self.live = false;
-                return Err(StepFault::Failed);
-            }
-        }
+        keep(
+            keeper,
+            &mut self.live,
+            &Record::Round { round, grid: *grid },
+        )?;
         self.own = Some(Entry { round, grid: *grid });
         self.mode = Mode::Matching;
         self.told.clear();
@@ -116,6 +113,7 @@ impl Leader {
         ensures spared { IsErrOf result StepFault.NoMemory → takes_no_memory (lead_row self.old.cluster self.old.me self.old.durable self.old.volatile grid.now).why ≡ false }
         ensures told { K.tells keeper.new ≡ K.tells keeper.old }
         ensures failed { IsErrOf result StepFault.Failed → FailsAt K.append_gives (lead_row self.old.cluster self.old.me self.old.durable self.old.volatile grid.now) keeper.old keeper.new self.new out.new.list }
+        ensures keeps { IsErrOf result StepFault.Failed → KeepsDurable self.old self.new }
         ensures fits { IsFit leader_rules self.old.cluster self.old.me self.old.durable (lead_row self.old.cluster self.old.me self.old.durable self.old.volatile grid.now).kept }
     {
         if !names_grid(&self.cluster, grid) {
@@ -142,6 +140,7 @@ impl Leader {
         ensures spared { IsErrOf result StepFault.NoMemory → takes_no_memory (change_row self.old.cluster self.old.me self.old.durable self.old.volatile grid.now).why ≡ false }
         ensures told { K.tells keeper.new ≡ K.tells keeper.old }
         ensures failed { IsErrOf result StepFault.Failed → FailsAt K.append_gives (change_row self.old.cluster self.old.me self.old.durable self.old.volatile grid.now) keeper.old keeper.new self.new out.new.list }
+        ensures keeps { IsErrOf result StepFault.Failed → KeepsDurable self.old self.new }
         ensures fits { IsFit leader_rules self.old.cluster self.old.me self.old.durable (change_row self.old.cluster self.old.me self.old.durable self.old.volatile grid.now).kept }
     {
         if !names_grid(&self.cluster, grid) {

@@ -23,7 +23,7 @@ pub fn matchmakers(cluster: &Cluster) -> u16
     2 * u16::from(cluster.f) + 1
 }
 
-/// Asks so many matchmakers to record the round and its grid.
+/// Asks `count` matchmakers to record the round and its grid.
 pub fn ask_matchmakers(leader: u16, round: Round, grid: &Grid, count: u16, out: &mut Outbox)
     requires spare { count ≤ out.old.spare }
     requires round { IsTrue (field.round.fits round) }
@@ -34,7 +34,7 @@ pub fn ask_matchmakers(leader: u16, round: Round, grid: &Grid, count: u16, out: 
     }
 }
 
-/// Asks so many matchmakers to forget the rounds below the leader's own.
+/// Asks `count` matchmakers to forget the rounds below the leader's own.
 pub fn ask_to_forget(leader: u16, own: &Entry, count: u16, out: &mut Outbox)
     requires spare { count ≤ out.old.spare }
     requires round { IsTrue (field.round.fits own.now.round) }
@@ -64,7 +64,7 @@ pub fn ask_acceptors(
     }
 }
 
-/// Tells the members of the leader's grid that enough replicas hold so many slots.
+/// Informs the members of the leader's grid that enough replicas hold `mark` slots.
 #[tactic(auto, unfolding(cx_field::specs::Fields::mark, cx_wire::specs::Format::u64))]
 pub fn inform_members(leader: u16, own: &Entry, mark: u64, cluster: &Cluster, out: &mut Outbox)
     requires spare { cluster.now.acceptors ≤ out.old.spare }
@@ -79,7 +79,7 @@ pub fn inform_members(leader: u16, own: &Entry, mark: u64, cluster: &Cluster, ou
     }
 }
 
-/// Tells so many batchers that it leads the round.
+/// Announces to `count` batchers that it leads the round.
 pub fn tell_batchers(leader: u16, round: Round, count: u16, out: &mut Outbox)
     requires spare { count ≤ out.old.spare }
     requires round { IsTrue (field.round.fits round) }

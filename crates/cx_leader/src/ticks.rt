@@ -10,7 +10,7 @@ use crate::Leader;
 use crate::sending::{
     ask_acceptors, ask_matchmakers, ask_to_forget, inform_members, matchmakers, tell_batchers,
 };
-use cx_base::{NoMemory, Why};
+use cx_base::{NoMemory, WINDOW_LENGTH, Why};
 use cx_field::Entry;
 use cx_model::Stage;
 use cx_role::Outbox;
@@ -65,7 +65,7 @@ impl Leader {
         }
     }
 
-    /// It proposes what is not known to be chosen, tells again that it leads, and asks again what retiring asks.
+    /// It proposes what is not known to be chosen, announces again that it leads, and asks again what retiring asks.
     pub(crate) fn lead_again(&self, own: &Entry, out: &mut Outbox) -> Result<Why, NoMemory>
         requires round { IsTrue (field.round.fits own.now.round) }
         requires empty { out.old.list ≡ [] }
@@ -75,7 +75,7 @@ impl Leader {
     {
         let batchers = self.cluster.batchers;
         let asked = self.cluster.acceptors + matchmakers(&self.cluster);
-        out.room(32 + usize::from(batchers + asked))?;
+        out.room(WINDOW_LENGTH + usize::from(batchers + asked))?;
         match self
             .proposals
             .propose_open(self.alloc, &self.cluster, self.index, own, out)

@@ -17,11 +17,11 @@ neither : (a b : Bool) → (a || b) ≡ false → (a ≡ false) × (b ≡ false)
 neither true b h = cc
 neither false b h = (refl, h)
 
--- entries that a datagram may tell are at most 17
+-- entries that a datagram may have are at most 17
 pub at_most_17 : (es : List Entry) → entries.fits es ≡ true → length es ≤ 17
 at_most_17 es h = (entries_apart es h).0
 
--- a round that is neither before another nor the same is behind it
+-- a round that is neither before another nor the same is after it
 behind : (a b : Round) → is_before a b ≡ false → same_round a b ≡ false → is_before b a ≡ true
 behind a b before same = grind (arith, nat_tests)
 
@@ -36,7 +36,7 @@ above_from i (e ∷ es) none = step (above_from i es) (is_before e.round i) refl
         let parts = neither (same_round e.round i) (has_round i (entries_from i es)) none in
         rw (behind e.round i before parts.0) (rest parts.1)
 
--- a retiring round's own entry goes in front of the others, which leave room for it
+-- a retiring round's own entry goes before the others, which leave room for it
 pub with_own_fits : (i : Round) (g : Shape) (es : List Entry) → entries.fits es ≡ true → length (entries_from i es) ≤ 16 → entry_in_range (entry i g) ≡ true → entries.fits (with_own i g (entries_from i es)) ≡ true
 with_own_fits i g es h few own =
     step (has_round i (entries_from i es)) refl (entries_filter (λ (e : Entry). not (is_before e.round i)) es h)

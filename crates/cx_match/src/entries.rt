@@ -39,7 +39,7 @@ pub fn last_round(entries: &[Entry]) -> Round
     entries.last().map_or(Round::ZERO, |entry| entry.round)
 }
 
-/// The entries of earlier rounds, as a datagram tells them.
+/// The entries of earlier rounds, as a datagram has them.
 pub fn earlier(alloc: Global, entries: &[Entry], round: Round) -> Result<Entries, NoMemory>
     requires { IsTrue (field.entries.fits entries.now) }
     ensures earlier { IfOk result (λ list. list ≡ entries_before round entries.now) }
@@ -53,7 +53,7 @@ pub fn earlier(alloc: Global, entries: &[Entry], round: Round) -> Result<Entries
     Ok(Few::from_vec(list))
 }
 
-/// All entries, as a datagram tells them.
+/// All entries, as a datagram has them.
 pub fn told(alloc: Global, entries: &[Entry]) -> Result<Entries, NoMemory>
     requires { IsTrue (field.entries.fits entries.now) }
     ensures { IfOk result (λ list. list ≡ entries.now) }
@@ -69,7 +69,7 @@ fn keep_from(entries: &mut Vec<Entry>, round: Round)
     entries.retain(|entry| !entry.round.is_before(&round));
 }
 
-/// Forgets the entries of earlier rounds, and puts this one in front of the others if its round has none. Room for it was
+/// Forgets the entries of earlier rounds, and puts this one before the others if its round has none. Room for it was
 /// taken beforehand.
 pub fn retire(entries: &mut Vec<Entry>, round: Round, grid: Grid)
     requires { vec_len entries.old < vec_capacity entries.old }

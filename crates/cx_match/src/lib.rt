@@ -1,15 +1,13 @@
-//! The matchmaker: it records which grid each round uses.
+//! The matchmaker: it records which grid each round uses, and reports it to later rounds (JSys 2021).
 //!
-//! Stands on what a role is; the world and the node stand on it, through the trait `Role` alone. Its theorem is `Role`'s
-//! contract at the matchmaker's rules: each step is the row, over any keeper, and a matchmaker is opened exactly from the
-//! records that it could have appended.
+//! The world and the node drive it through the trait `Role`. Its theorem is `Role`'s contract at
+//! `matchmaker_rules`: each step is the model's row, over any keeper, and `open` names exactly the
+//! first record that isn't its own.
 #![tactic(auto)]
 
 mod entries;
 mod matchmaker;
 mod records;
 mod rows;
-#[cfg(test)]
-mod tests;
 
 pub use matchmaker::Matchmaker;

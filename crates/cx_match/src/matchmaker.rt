@@ -49,7 +49,12 @@ impl Role for Matchmaker {
         me: RoleId,
         records: &[Record],
     ) -> Result<Self, WakeFault> {
-        let mut matchmaker = Matchmaker::new(alloc, cluster, me);
+        Matchmaker::new(alloc, cluster, me).reopen(records)
+    }
+
+    fn reopen(self, records: &[Record]) -> Result<Self, WakeFault> {
+        let mut matchmaker = self;
+        matchmaker.live = true;
         for (index, what) in records.iter().enumerate() {
             if !matchmaker.fits(what) {
                 return Err(WakeFault::Record { index });

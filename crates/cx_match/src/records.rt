@@ -8,7 +8,7 @@ ghost use Rattle.cx_msg.specs.Records.{fits as record_fits};
 
 use crate::Matchmaker;
 use crate::entries::{are_before, retire};
-use cx_base::{Cluster, NoMemory, RoleId, Round};
+use cx_base::{Cluster, NoMemory, ROUNDS, RoleId, Round};
 use cx_field::Entry;
 use cx_msg::Record;
 use cx_role::{names_grid, names_round};
@@ -40,7 +40,7 @@ impl Matchmaker {
                     && names_grid(&self.cluster, grid)
                     && !round.is_before(&self.watermark)
                     && are_before(&self.entries, *round)
-                    && self.entries.len() < 16
+                    && self.entries.len() < ROUNDS
             }
             Record::Garbage { round, grid } => {
                 names_round(&self.cluster, *round)

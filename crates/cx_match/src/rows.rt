@@ -5,12 +5,12 @@ ghost use Rattle.cx_base.specs.declared.role.Kind.{Kind};
 ghost use Rattle.cx_base.specs.Role.{role};
 ghost use Rattle.cx_model.specs.Matchmaker.{garbage_a_row, matchmaker_rules, match_a_row, match_read_row};
 ghost use Rattle.cx_field.specs.Fields as field;
-ghost use Rattle.cx_role.specs.Role.{Replies, Steps, StaysAt, FailsAt, takes_no_memory};
+ghost use Rattle.cx_role.specs.Role.{Replies, Steps, StaysAt, FailsAt, KeepsDurable, takes_no_memory};
 
 use crate::Matchmaker;
 use crate::entries::{earlier, has_entry, has_later, last_round, retire, told};
-use cx_base::{Grid, NoMemory, RoleId, Round, Why};
-use cx_field::{Entry, Token};
+use cx_base::{Grid, NoMemory, ROUNDS, RoleId, Round, Why};
+use cx_field::{Entry, NackReason, Token};
 use cx_keeper::Keeper;
 use cx_msg::{Record, garbage_b, match_b, match_nack, match_read_ack};
 use cx_role::{Outbox, StepFault, keep};
@@ -36,16 +36,23 @@ impl Matchmaker {
         ensures spared { IsErrOf result StepFault.NoMemory → takes_no_memory (match_a_row self.old.me self.old.durable from round grid).why ≡ false }
         ensures told { K.tells keeper.new ≡ K.tells keeper.old }
         ensures failed { IsErrOf result StepFault.Failed → FailsAt K.append_gives (match_a_row self.old.me self.old.durable from round grid) keeper.old keeper.new self.new out.new.list }
+        ensures keeps { IsErrOf result StepFault.Failed → KeepsDurable self.old self.new }
     {
         if round.is_before(&self.watermark) {
             out.room(1)?;
-            out.push(match_nack(self.me.index, from.index, round, 0, self.watermark));
+            out.push(match_nack(
+                self.me.index,
+                from.index,
+                round,
+                NackReason::Collected,
+                self.watermark,
+            ));
             return Ok(Why::Collected);
         }
         if has_later(&self.entries, round) {
             let last = last_round(&self.entries);
             out.room(1)?;
-            out.push(match_nack(self.me.index, from.index, round, 1, last));
+            out.push(match_nack(self.me.index, from.index, round, NackReason::Later, last));
             return Ok(Why::Later);
         }
         if has_entry(&self.entries, round) {
@@ -54,10 +61,10 @@ impl Matchmaker {
             out.push(match_b(self.me.index, from.index, round, self.watermark, entries));
             return Ok(Why::Same);
         }
-        if self.entries.len() >= 16 {
+        if self.entries.len() >= ROUNDS {
             let last = last_round(&self.entries);
             out.room(1)?;
-            out.push(match_nack(self.me.index, from.index, round, 2, last));
+            out.push(match_nack(self.me.index, from.index, round, NackReason::Full, last));
             return Ok(Why::Full);
         }
         let entries = earlier(self.alloc, &self.entries, round)?;
@@ -89,6 +96,7 @@ impl Matchmaker {
         ensures spared { IsErrOf result StepFault.NoMemory → takes_no_memory (garbage_a_row self.old.me self.old.durable from round grid).why ≡ false }
         ensures told { K.tells keeper.new ≡ K.tells keeper.old }
         ensures failed { IsErrOf result StepFault.Failed → FailsAt K.append_gives (garbage_a_row self.old.me self.old.durable from round grid) keeper.old keeper.new self.new out.new.list }
+        ensures keeps { IsErrOf result StepFault.Failed → KeepsDurable self.old self.new }
     {
         out.room(1)?;
         if !self.watermark.is_before(&round) {

@@ -39,7 +39,7 @@ vote_at s (v ∷ vs) = if v.slot == s then Some v else vote_at s vs
 abbrev pub votes_from : ℕ → List Vote → List Vote
 votes_from low vs = filter (λ (v : Vote). nat_le low v.slot) vs
 
--- the votes with one more, in the place of that of its slot or where its slot stands
+-- the votes with one more, in the place of that of its slot or where its slot belongs
 abbrev pub with_vote : Vote → List Vote → List Vote
 with_vote v [] = v ∷ []
 with_vote v (u ∷ us) =
@@ -78,7 +78,7 @@ acceptor_fits c me d (kept.Garbage i g) = false
 acceptor_fits c me d (kept.Round i g) = false
 acceptor_fits c me d (kept.Log vs) = false
 
--- a leader is told that a greater round was promised
+-- a leader learns that a greater round was promised
 abbrev pub nack_to : RoleId → Round → Round → Letter
 nack_to me i promise = letter me (role Leader i.id) (msg.Nack i promise)
 
@@ -106,7 +106,7 @@ phase2a_row me d from i s cw v =
 abbrev pub informed_to : RoleId → RoleId → Round → ℕ → Letter
 informed_to me leader i cw = letter me leader (msg.Informed i cw)
 
--- a leader that retires earlier rounds tells that enough replicas hold so many slots (this project's own)
+-- a leader that retires earlier rounds reports that enough replicas hold this many slots (this project's own)
 abbrev pub inform_row : RoleId → AcceptorDurable → RoleId → Round → ℕ → Outcome (Unit {0})
 inform_row me d from i cw =
     if is_before i d.promise then replied Nack tt (nack_to me i d.promise ∷ [])

@@ -1,5 +1,5 @@
 -- What f + 1 replicas hold is never lost: the leader, the proxy leader and the acceptor forget such a slot, and the next round begins
--- behind it. A replica that missed a value gets it from another one.
+-- after it. A replica that missed a value gets it from another one.
 use Rattle.std.specs.Prelude.{true, List, [], ◌∷◌, codes, Some}
 use Rattle.std.proofs.Common.{lit≤}
 use Rattle.cx_base.specs.declared.cluster.Cluster.{Cluster}

@@ -1,4 +1,4 @@
--- Two of three matchmakers are enough, and a leader goes on with another grid and retires its round before. A matchmaker that never heard
+-- Two of three matchmakers are enough, and a leader leads again with another grid and retires its round before. A matchmaker that never heard
 -- of the new round forgets all earlier ones and has an entry of the new one.
 use Rattle.std.specs.Prelude.{List, [], ◌∷◌, codes, None}
 use Rattle.std.proofs.Common.{lit≤}
@@ -8,10 +8,11 @@ use Rattle.cx_base.specs.declared.round.Round.{Round}
 use Rattle.cx_base.specs.declared.why.Why.TheVariants as why
 use Rattle.cx_base.specs.Grid.{Shape, make_grid}
 use Rattle.cx_base.specs.Round.{no_round}
+use Rattle.cx_field.specs.declared.parts.NackReason.TheVariants as nack
 use Rattle.cx_msg.specs.Letter.{letter}
 use Rattle.cx_msg.specs.declared.kept.Record.TheVariants as kept
 use Rattle.cx_msg.specs.declared.message.Msg.TheVariants as msg
-use Rattle.cx_model.specs.Examples.{Line, IsRun, one_of_each, client, batcher, leader, acceptor, matchmaker, replica, reader, round, first, single, lead, change, collect, deliver, left, hold, ◌⇒◌, ◌keeping◌by◌, ◌sending◌}
+use Rattle.cx_model.specs.Examples.{Line, IsRun, one_of_each, client, batcher, leader, acceptor, matchmaker, replica, reader, round, first, single, lead, collect, deliver, left, hold, ◌⇒◌, ◌keeping◌by◌, ◌sending◌}
 use Rattle.cx_model.specs.Matchmaker.{entry}
 use Rattle.cx_model.specs.Reader.{token}
 
@@ -29,7 +30,7 @@ cluster =
     }
 
 abbrev pub next : Round
-next = round 1 0 1
+next = round 2 0 0
 
 abbrev pub column : Shape
 column = make_grid 2 1 (1 ∷ 2 ∷ [])
@@ -50,7 +51,7 @@ story =
     ∷ deliver 3 ⇒ why.Counted
     ∷ deliver 4 ⇒ why.Leads
     sending letter (leader 0) (batcher 0) (msg.Leads first)  -- 5
-    ∷ change 0 column ⇒ why.Started
+    ∷ lead 0 column ⇒ why.Started
     keeping kept.Round next column by leader 0
     sending letter (leader 0) (matchmaker 0) (msg.MatchA next column)  -- 6
     sending letter (leader 0) (matchmaker 1) (msg.MatchA next column)  -- 7
@@ -96,8 +97,16 @@ story =
     ∷ deliver 8 ⇒ why.Same
     sending letter (matchmaker 2) (leader 0) (msg.MatchB next next [])  -- 23
     ∷ deliver 2 ⇒ why.Collected
+<<<<<<< ours
     sending letter (matchmaker 2) (leader 0) (msg.MatchNack first 0 next)  -- 24
     ∷ event.Read 0 1 0 0 0 (codes "a") ⇒ why.Sent
+||||||| base
+    sending letter (matchmaker 2) (leader 0) (msg.MatchNack first 0 next)  -- 24
+    ∷ event.Read 0 1 0 0 (codes "a") ⇒ why.Sent
+=======
+    sending letter (matchmaker 2) (leader 0) (msg.MatchNack first nack.Collected next)  -- 24
+    ∷ event.Read 0 1 0 0 (codes "a") ⇒ why.Sent
+>>>>>>> theirs
     sending letter (client 0) (reader 0) (msg.ReadReq 1 0 (codes "a"))  -- 25
     ∷ deliver 25 ⇒ why.Started
     sending letter (reader 0) (matchmaker 0) (msg.MatchRead (token 0 1))  -- 26

@@ -84,9 +84,15 @@ may_recorders c history i = length (filter (λ m. has_matched history m i || not
 abbrev pub IsOpen : Cluster → List KeptRecord → Round → Type 0
 IsOpen c history i = c.f + 1 ≤ may_recorders c history i
 
--- A value can still be chosen in a round: the round is open, and each member of some column of its grid voted for it in the round or has
--- promised no later one.
-pub record CanBeChosen (c : Cluster) (history : List KeptRecord) (j : Round) (s : ℕ) (v : Value) : Type 0 where
+-- words on datagrams, and on both
+
+-- this value was proposed for the slot in this round
+abbrev pub IsProposed : List Letter → Round → ℕ → Value → Type 0
+IsProposed sent i s v = (from : RoleId) × (to : RoleId) × (g : Shape) × (cw : ℕ) × Member (letter from to (msg.Propose i g s cw v)) sent
+
+-- A value can still be chosen in a round: the round is open; each member of some column of its grid voted for it in the round or has promised no
+-- later one; and it was proposed in the round, or the round's leader has begun no later one.
+pub record CanBeChosen (c : Cluster) (history : List KeptRecord) (sent : List Letter) (j : Round) (s : ℕ) (v : Value) : Type 0 where
   pub is_open : IsOpen c history j
   pub grid : Shape
   pub config : IsConfig history j grid
@@ -95,13 +101,9 @@ pub record CanBeChosen (c : Cluster) (history : List KeptRecord) (j : Round) (s 
   pub in_grid : column < grid.cols
   pub members : (a : ℕ) → Member a (column_of grid column)
       → HasVoted history (role kind.Acceptor a) j s v ⊎ (is_before j (acceptor_of history a).promise ≡ false)
+  pub may : IsProposed sent j s v ⊎ ((i : Round) (g : Shape) → HasKept history (role kind.Leader j.id) (kept.Round i g) → is_before j i ≡ false)
 
--- words on datagrams
-
-abbrev pub IsProposed : List Letter → Round → ℕ → Value → Type 0
-IsProposed sent i s v = (from : RoleId) × (to : RoleId) × (g : Shape) × (cw : ℕ) × Member (letter from to (msg.Propose i g s cw v)) sent
-
--- a round's value for a slot stands in a proposal, in the asking for votes, or in a vote
+-- a round's value for a slot is in a proposal, in the asking for votes, or in a vote
 abbrev pub Carries : World → Round → ℕ → Value → Type 0
 Carries w i s v =
     IsProposed w.sent i s v
@@ -118,7 +120,7 @@ IsInformed sent who i cw = (to : RoleId) × (n : ℕ) × (cw ≤ n) × Member (l
 abbrev pub IsFinished : Cluster → List Event → Round → ℕ → ℕ → Type 0
 IsFinished c es i cw end = (n : ℕ) × Member {X = Finish} (record { event = n; round = i; cw = cw; end = end }) (finished c es)
 
--- What a running role counted, holds pending or was told came to it in datagrams.
+-- What a running role counted, holds pending or knows came to it in datagrams.
 
 pub record LeaderWasTold (sent : List Letter) (me : RoleId) (i : Round) (v : LeaderVolatile) : Type 0 where
   pub answers : (a : MatchAnswer) → Member a v.told → Member (letter (role kind.Matchmaker a.matchmaker) me (msg.MatchB i a.watermark a.entries)) sent
@@ -151,7 +153,7 @@ pub record ReaderWasTold (sent : List Letter) (me : RoleId) (v : ReaderVolatile)
 pub record RoundFacts (w : World) : Type 0 where
   pub owner : (who : RoleId) (i : Round) (g : Shape) → HasKept w.kept who (kept.Round i g) → who ≡ role kind.Leader i.id
   pub one_grid : (i : Round) (g h : Shape) → IsConfig w.kept i g → IsConfig w.kept i h → g ≡ h
-  -- of two places in the history at which one round stands, both are one
+  -- two places in the history with one round are one
   pub once : (m n : ℕ) (who other : RoleId) (i : Round) (g h : Shape)
       → slice_get w.kept m ≡ Some (record { role = who; what = kept.Round i g }) → slice_get w.kept n ≡ Some (record { role = other; what = kept.Round i h })
       → m ≡ n
@@ -164,7 +166,7 @@ pub record RoundFacts (w : World) : Type 0 where
   pub replicas : (p : ℕ) (v : ReplicaVolatile) → slice_get w.roles.replicas p ≡ Some (Some v) → ReplicaWasTold w.sent (role kind.Replica p) v
   pub readers : (r : ℕ) (v : ReaderVolatile) → slice_get w.roles.readers r ≡ Some (Some v) → ReaderWasTold w.sent (role kind.Reader r) v
 
--- Matching: what a leader leads is recorded by enough matchmakers, and their answers tell of every earlier round.
+-- Matching: what a leader leads is recorded by enough matchmakers, and their answers have every earlier round.
 pub record MatchingFacts (c : Cluster) (es : List Event) : Type 0 where
   pub led : (from to : RoleId) (i : Round) → Member (letter from to (msg.Leads i)) (run c es).sent → c.f + 1 ≤ recorders c (run c es).kept i
   pub proposed : (i : Round) (s : ℕ) (v : Value) → IsProposed (run c es).sent i s v → c.f + 1 ≤ recorders c (run c es).kept i
@@ -182,19 +184,19 @@ pub record MatchingFacts (c : Cluster) (es : List Event) : Type 0 where
   -- a real watermark has its entry, unless it is the answer's own round
   pub has_watermark : (from to : RoleId) (i w : Round) (entries : List Entry) → Member (letter from to (msg.MatchB i w entries)) (run c es).sent
       → (w ≡ no_round) ⊎ ((w ≡ i) ⊎ ((g : Shape) × Member {X = Entry} (record { round = w; grid = g }) entries))
-  -- what an answer to a reader tells, when it is sent
+  -- what an answer to a reader says, when it is sent
   pub tells_readers : (e : Event) (from to : RoleId) (t : Token) (w : Round) (entries : List Entry)
       → Member (letter from to (msg.MatchReadAck t w entries)) (change (run c es) e).sends
       → (j : Round) (g : Shape) → HasKept (run c es).kept from (kept.Match j g)
       → Member {X = Entry} (record { round = j; grid = g }) entries ⊎ (is_before j w ≡ true)
   pub readers_watermark : (from to : RoleId) (t : Token) (w : Round) (entries : List Entry) → Member (letter from to (msg.MatchReadAck t w entries)) (run c es).sent
       → (w ≡ no_round) ⊎ ((g : Shape) × Member {X = Entry} (record { round = w; grid = g }) entries)
-  -- Promising: an acceptor that promised stays at or above the round and the watermark, and tells only votes of its own;
+  -- Promising: an acceptor that promised stays at or above the round and the watermark, and reports only votes of its own;
   pub promised : (a : ℕ) (to : RoleId) (i : Round) (cw : ℕ) (votes : List Vote) → Member (letter (role kind.Acceptor a) to (msg.Phase1B i cw votes)) (run c es).sent
       → (is_before (acceptor_of (run c es).kept a).promise i ≡ false) × (cw ≤ (acceptor_of (run c es).kept a).cw)
   pub tells_own : (a : ℕ) (to : RoleId) (i : Round) (cw : ℕ) (votes : List Vote) → Member (letter (role kind.Acceptor a) to (msg.Phase1B i cw votes)) (run c es).sent
       → (u : Vote) → Member u votes → HasVoted (run c es).kept (role kind.Acceptor a) u.round u.slot u.value × (cw ≤ u.slot)
-  -- and for each of its votes of an earlier round from the watermark on, it tells a vote of that round or a later one
+  -- and for each of its votes of an earlier round from the watermark on, it reports a vote of that round or a later one
   pub tells_last : (a : ℕ) (to : RoleId) (i : Round) (cw : ℕ) (votes : List Vote) → Member (letter (role kind.Acceptor a) to (msg.Phase1B i cw votes)) (run c es).sent
       → (j : Round) (s : ℕ) (v : Value) → is_before j i ≡ true → cw ≤ s → HasVoted (run c es).kept (role kind.Acceptor a) j s v
       → (u : Vote) × Member u votes × (u.slot ≡ s) × (is_before u.round j ≡ false)
@@ -213,7 +215,7 @@ pub record IsCollected (c : Cluster) (es : List Event) (w : Round) (g : Shape) :
   pub informed : (a : ℕ) → Member a (column_of g column) → IsInformed (run c es).sent (role kind.Acceptor a) w mark
   pub chosen : (s : ℕ) → mark ≤ s → s < end → (v : Value) × (is_chosen_in (run c es).kept w g s v ≡ true)
 
--- Collection: a matchmaker forgets rounds only for one that was collected, and whoever was informed tells so to every later round.
+-- Collection: a matchmaker forgets rounds only for one that was collected, and whoever was informed says so to every later round.
 pub record CollectionFacts (c : Cluster) (es : List Event) : Type 0 where
   pub collected : (who : RoleId) (w : Round) (g : Shape) → HasKept (run c es).kept who (kept.Garbage w g) → IsCollected c es w g
   pub asked : (who : RoleId) (w : Round) (g : Shape) → HasKept (run c es).kept who (kept.Garbage w g) → IsRetiring (run c es).sent w
@@ -223,7 +225,7 @@ pub record CollectionFacts (c : Cluster) (es : List Event) : Type 0 where
       → Member (letter (role kind.Acceptor a) to (msg.Informed i cw)) (run c es).sent
       → Member (letter (role kind.Acceptor a) other (msg.Phase1B k told votes)) (run c es).sent → is_before i k ≡ true → cw ≤ told
 
--- at least f + 1 replicas kept so many values
+-- at least f + 1 replicas kept this many values
 abbrev pub IsHeld : Cluster → List KeptRecord → ℕ → Type 0
 IsHeld c history n = c.f + 1 ≤ holders c history n
 
@@ -236,7 +238,7 @@ watermark_of (msg.Inform i cw) = Some cw
 watermark_of (msg.Informed i cw) = Some cw
 watermark_of other = None
 
--- Watermarks: each, wherever it stands, is held by f + 1 replicas; and what a replica holds is chosen.
+-- Watermarks: each, wherever it is, is held by f + 1 replicas; and what a replica holds is chosen.
 pub record WatermarkFacts (c : Cluster) (w : World) : Type 0 where
   pub records : (who : RoleId) (what : Record) (cw : ℕ) → HasKept w.kept who what → watermark_in what ≡ Some cw → IsHeld c w.kept cw
   pub datagrams : (d : Letter) (cw : ℕ) → Member d w.sent → watermark_of d.msg ≡ Some cw → IsHeld c w.kept cw
@@ -244,7 +246,7 @@ pub record WatermarkFacts (c : Cluster) (w : World) : Type 0 where
   pub leaders : (l : ℕ) (v : LeaderVolatile) → slice_get w.roles.leaders l ≡ Some (Some v) → IsHeld c w.kept v.cw × IsHeld c w.kept v.collection.mark
   pub proxies : (p : ℕ) (v : ProxyVolatile) → slice_get w.roles.proxies p ≡ Some (Some v)
       → IsHeld c w.kept v.known × ((q : Pending) → Member q v.pending → IsHeld c w.kept q.cw)
-  -- a replica tells no more than it holds, and a leader notes no more
+  -- a replica reports no more than it holds, and a leader notes no more
   pub told : (p : ℕ) (to : RoleId) (n : ℕ) → Member (letter (role kind.Replica p) to (msg.Held n)) w.sent → n ≤ length (log_of p w.kept)
   pub noted : (l : ℕ) (v : LeaderVolatile) (p n : ℕ) → slice_get w.roles.leaders l ≡ Some (Some v) → slice_get v.held p ≡ Some n → n ≤ length (log_of p w.kept)
   pub kept_is_chosen : (p s : ℕ) (v : Value) → slice_get (log_of p w.kept) s ≡ Some v → is_chosen w.kept s v ≡ true
@@ -252,7 +254,7 @@ pub record WatermarkFacts (c : Cluster) (w : World) : Type 0 where
 -- Open rounds: what can still be chosen in an earlier round is what a finished round proposes, from its watermark on.
 pub record OpenRoundFacts (c : Cluster) (es : List Event) : Type 0 where
   pub proposed : (i : Round) (cw end : ℕ) → IsFinished c es i cw end
-      → (j : Round) (s : ℕ) (v : Value) → is_before j i ≡ true → cw ≤ s → CanBeChosen c (run c es).kept j s v
+      → (j : Round) (s : ℕ) (v : Value) → is_before j i ≡ true → cw ≤ s → CanBeChosen c (run c es).kept (run c es).sent j s v
       → (s < end) × IsProposed (run c es).sent i s v
   pub from_watermark_on : (i : Round) (cw end : ℕ) → IsFinished c es i cw end → (s : ℕ) (v : Value) → IsProposed (run c es).sent i s v → cw ≤ s
 

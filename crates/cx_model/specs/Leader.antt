@@ -19,6 +19,8 @@ use Rattle.cx_msg.specs.Letter.{Letter, letter}
 use Rattle.cx_msg.specs.declared.input.Input.{Input}
 use Rattle.cx_msg.specs.declared.input.Input.TheVariants.{Take, Tick, Order}
 use Rattle.cx_field.specs.declared.parts.Entry.{Entry}
+use Rattle.cx_field.specs.declared.parts.NackReason.{NackReason}
+use Rattle.cx_field.specs.declared.parts.NackReason.TheVariants as nack
 use Rattle.cx_field.specs.declared.parts.Vote.{Vote}
 use Rattle.cx_msg.specs.declared.message.Msg.{Msg}
 use Rattle.cx_msg.specs.declared.message.Msg.TheVariants as msg
@@ -40,10 +42,11 @@ use Rattle.cx_model.specs.Rules.{Rules}
 pub record LeaderDurable : Type 0 where
   pub own : Option Entry
 
--- What it is doing; the greatest round that it was told of; the greatest number of slots that each replica told it to hold; the
+-- What it is doing; the greatest round that it heard of; the greatest number of slots that each replica reported; the
 -- matchmakers' and the acceptors' answers that it counted; the chosen watermark and the next free slot; the slot before which it
--- proposed when its first phase was done; the values that it proposed from the watermark on, by slot, and which of these slots it
--- knows to be chosen in its round; and how far it is in retiring the earlier rounds.
+-- proposed when it began to lead; the values that it proposed from the watermark on, by slot, in its round or, while it goes on
+-- to another grid, in the round before; which of these slots it knows to be chosen in its round; and how far it is in retiring
+-- the earlier rounds.
 pub record LeaderVolatile : Type 0 where
   pub mode : Mode
   pub seen : Round
@@ -146,10 +149,24 @@ matched_by c me own v [] = finish c me own v
 matched_by c me own v (e ∷ es) =
     replied why.Phase1 (record v { mode = Phase1 }) (map (phase1a_to me own.round) (members_of c (e ∷ es)))
 
+-- Whether a round came by a change: a round of a lead has s = 0, and only a leader that leads goes on to the next s.
+abbrev pub is_changed : Round → Bool
+is_changed i = nat_lt 0 i.s
+
+-- A round that came by a change asks no acceptor. Between it and its leader's round before there is no other, so it begins with what that
+-- one proposed from the watermark on (phase 1 bypassing, JSys 2021).
+abbrev pub bypass : Cluster → RoleId → Entry → LeaderVolatile → Outcome LeaderVolatile
+bypass c me own v =
+    replied why.Bypassed
+    (record v { mode = Leading; end = v.next; chosen = [] })
+    (map (propose_to c me own v.cw) v.proposed ++ map (leads_to me own.round) (below c.batchers))
+
 abbrev pub match_counted : Cluster → RoleId → Option Entry → LeaderVolatile → Outcome LeaderVolatile
 match_counted c me None v = answered why.Old v
 match_counted c me (Some own) v =
-    if nat_lt (length v.told) (enough c) then answered why.Counted v else matched_by c me own v (live_entries v.told)
+    if nat_lt (length v.told) (enough c) then answered why.Counted v
+    else if is_changed own.round then bypass c me own v
+    else matched_by c me own v (live_entries v.told)
 
 -- a matchmaker answers
 abbrev pub match_b_row : Cluster → RoleId → LeaderDurable → LeaderVolatile → RoleId → Round → Round → List Entry → Outcome LeaderVolatile
@@ -164,7 +181,7 @@ promise_counted c me None v = answered why.Old v
 promise_counted c me (Some own) v =
     if rows_whole (live_entries v.told) (promised_by v.promises) then finish c me own v else answered why.Counted v
 
--- an acceptor promises, and tells its votes
+-- an acceptor promises, and reports its votes
 abbrev pub phase1b_row : Cluster → RoleId → LeaderDurable → LeaderVolatile → RoleId → Round → ℕ → List Vote → Outcome LeaderVolatile
 phase1b_row c me d v from i cw votes =
     if not (is_promising v.mode && is_own d i) then answered why.Old v
@@ -181,11 +198,17 @@ nack_row d v i promise =
     if is_idle v.mode || not (is_own d i) then answered why.Old (with_seen promise v)
     else answered why.Nacked (record (with_seen promise v) { mode = Idle })
 
--- a matchmaker doesn't record the round, and tells a greater one; where it has no room the leader goes on
-abbrev pub match_nack_row : LeaderDurable → LeaderVolatile → Round → ℕ → Round → Outcome LeaderVolatile
+-- whether a matchmaker refuses since it has no room
+abbrev pub has_no_room : NackReason → Bool
+has_no_room nack.Full = true
+has_no_room nack.Collected = false
+has_no_room nack.Later = false
+
+-- a matchmaker doesn't record the round, and reports a greater one; where it has no room the leader goes on
+abbrev pub match_nack_row : LeaderDurable → LeaderVolatile → Round → NackReason → Round → Outcome LeaderVolatile
 match_nack_row d v i reason other =
     if is_idle v.mode || not (is_own d i) then answered why.Old (with_seen other v)
-    else if reason == 2 then answered why.Full (with_seen other v)
+    else if has_no_room reason then answered why.Full (with_seen other v)
     else answered why.Nacked (record (with_seen other v) { mode = Idle })
 
 -- The slots from cw on that the leader may propose at are a window of 32, and slots end at 2^40.
@@ -203,7 +226,7 @@ propose_in c me v commands (Some own) =
 abbrev pub batch_row : Cluster → RoleId → LeaderDurable → LeaderVolatile → List Command → Outcome LeaderVolatile
 batch_row c me d v commands = if is_leading v.mode then propose_in c me v commands d.own else answered why.Idle v
 
--- a proxy leader tells that a slot is chosen in this round
+-- a proxy leader reports that a slot is chosen in this round
 abbrev pub chosen_in_row : LeaderDurable → LeaderVolatile → Round → ℕ → Outcome LeaderVolatile
 chosen_in_row d v i s =
     if not (is_leading v.mode && is_own d i) then answered why.Old v
@@ -230,22 +253,26 @@ abbrev pub greatest_of : List ℕ → ℕ
 greatest_of [] = 0
 greatest_of (n ∷ ns) = max n (greatest_of ns)
 
--- the greatest of the numbers that so many of them reach
+-- the greatest of the numbers that `count` of them reach
 abbrev pub held_by : ℕ → List ℕ → ℕ
 held_by count held = greatest_of (filter (λ n. nat_le count (reaching n held)) held)
 
 abbrev pub held_noted : Cluster → LeaderVolatile → List ℕ → Outcome LeaderVolatile
 held_noted c v held = answered why.Held (raised_to (held_by (enough c) held) (record v { held = held }))
 
--- A replica tells how many slots it holds. What f + 1 replicas hold is never lost, and is the watermark (this project's own).
+-- A replica reports how many slots it holds. What f + 1 replicas hold is never lost, and is the watermark (this project's own).
 abbrev pub held_row : Cluster → LeaderVolatile → RoleId → ℕ → Outcome LeaderVolatile
 held_row c v from n =
     if nat_le n (slice_index_or v.held from.index 0) then answered why.Same v
     else held_noted c v (slice_set v.held from.index n)
 
--- whether all that it proposed when its first phase was done is known to be chosen, or held
+-- whether all slots from one up to another are known to be chosen
+abbrev pub are_known : List ℕ → ℕ → ℕ → Bool
+are_known chosen first end = list_all (λ s. is_in s chosen) (numbers first (end - first))
+
+-- whether all that it proposed when it began to lead is known to be chosen, or held
 abbrev pub is_settled : LeaderVolatile → Bool
-is_settled v = list_all (λ s. is_in s v.chosen) (numbers v.cw (v.end - v.cw))
+is_settled v = are_known v.chosen v.cw v.end
 
 abbrev pub collect_in : Cluster → RoleId → LeaderVolatile → Option Entry → Outcome LeaderVolatile
 collect_in c me v None = answered why.Idle v
@@ -299,9 +326,12 @@ leader_takes c me d v from (msg.Informed i cw) = informed_row c me d v from i cw
 leader_takes c me d v from (msg.GarbageB i) = garbage_b_row c d v from i
 leader_takes c me d v from other = answered why.Stranger v
 
--- the values that aren't known to be chosen
+-- the values whose slots aren't known to be chosen
+abbrev pub without_known : List ℕ → List Placed → List Placed
+without_known chosen proposed = filter (λ (p : Placed). not (is_in p.slot chosen)) proposed
+
 abbrev pub open_values : LeaderVolatile → List Placed
-open_values v = filter (λ (p : Placed). not (is_in p.slot v.chosen)) v.proposed
+open_values v = without_known v.chosen v.proposed
 
 -- what the present stage of retiring asks again
 abbrev pub stage_sends : Cluster → RoleId → Entry → Collection → List Letter

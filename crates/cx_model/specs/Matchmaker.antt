@@ -14,6 +14,8 @@ use Rattle.cx_msg.specs.Letter.{Letter, letter}
 use Rattle.cx_msg.specs.declared.input.Input.{Input}
 use Rattle.cx_msg.specs.declared.input.Input.TheVariants.{Take, Tick, Order}
 use Rattle.cx_field.specs.declared.parts.Entry.{Entry}
+use Rattle.cx_field.specs.declared.parts.NackReason.{NackReason}
+use Rattle.cx_field.specs.declared.parts.NackReason.TheVariants as nack
 use Rattle.cx_field.specs.declared.parts.Token.{Token}
 use Rattle.cx_msg.specs.declared.message.Msg.{Msg}
 use Rattle.cx_msg.specs.declared.message.Msg.TheVariants as msg
@@ -46,7 +48,7 @@ has_round i es = list_any (λ (e : Entry). same_round e.round i) es
 abbrev pub greatest : List Entry → Round
 greatest es = option_map_or (λ (e : Entry). e.round) (slice_get es (length es - 1)) no_round
 
--- a retiring round gets its own entry, in front of the later ones, where it has none
+-- a retiring round gets its own entry, before the later ones, where it has none
 abbrev pub with_own : Round → Shape → List Entry → List Entry
 with_own i g es = if has_round i es then es else entry i g ∷ es
 
@@ -73,17 +75,16 @@ matchmaker_fits c me d (kept.Log vs) = false
 abbrev pub match_b_to : RoleId → RoleId → Round → MatchmakerDurable → Letter
 match_b_to me leader i d = letter me leader (msg.MatchB i d.watermark (entries_before i d.entries))
 
--- why a round is refused: 0 it is below the watermark, 1 a later one is recorded, 2 there is no room
-abbrev pub match_nack_to : RoleId → RoleId → Round → ℕ → Round → Letter
+abbrev pub match_nack_to : RoleId → RoleId → Round → NackReason → Round → Letter
 match_nack_to me leader i reason other = letter me leader (msg.MatchNack i reason other)
 
 -- a leader asks for the earlier rounds and their grids
 abbrev pub match_a_row : RoleId → MatchmakerDurable → RoleId → Round → Shape → Outcome (Unit {0})
 match_a_row me d from i g =
-    if is_before i d.watermark then replied Collected tt (match_nack_to me from i 0 d.watermark ∷ [])
-    else if list_any (λ (e : Entry). is_before i e.round) d.entries then replied Later tt (match_nack_to me from i 1 (greatest d.entries) ∷ [])
+    if is_before i d.watermark then replied Collected tt (match_nack_to me from i nack.Collected d.watermark ∷ [])
+    else if list_any (λ (e : Entry). is_before i e.round) d.entries then replied Later tt (match_nack_to me from i nack.Later (greatest d.entries) ∷ [])
     else if has_round i d.entries then replied Same tt (match_b_to me from i d ∷ [])
-    else if nat_le 16 (length d.entries) then replied Full tt (match_nack_to me from i 2 (greatest d.entries) ∷ [])
+    else if nat_le 16 (length d.entries) then replied Full tt (match_nack_to me from i nack.Full (greatest d.entries) ∷ [])
     else record { why = Matched; kept = Some (kept.Match i g); volatile = tt; sends = match_b_to me from i d ∷ [] }
 
 abbrev pub garbage_b_to : RoleId → RoleId → Round → Letter

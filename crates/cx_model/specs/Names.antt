@@ -1,14 +1,13 @@
 -- Which names of a datagram or a record lie in the cluster.
-use Rattle.std.specs.Prelude.{ℕ, ◌+◌, ◌*◌, Bool, true, ◌&&◌, nat_lt}
+use Rattle.std.specs.Prelude.{Bool, true, ◌&&◌, nat_lt}
 use Rattle.std.specs.List.{list_all}
 use Rattle.cx_base.specs.declared.cluster.Cluster.{Cluster}
 use Rattle.cx_base.specs.declared.command.Answered.{Answered}
 use Rattle.cx_base.specs.declared.command.Command.{Command}
 use Rattle.cx_base.specs.declared.command.Value.{Value}
-use Rattle.cx_base.specs.declared.role.Kind.{Kind}
-use Rattle.cx_base.specs.declared.role.Kind.TheVariants.{Client, Batcher, Leader, Proxy, Acceptor, Matchmaker, Replica, Unbatcher, Reader}
 use Rattle.cx_base.specs.declared.role.RoleId.{RoleId}
 use Rattle.cx_base.specs.declared.round.Round.{Round}
+use Rattle.cx_base.specs.Cluster.{count_of}
 use Rattle.cx_base.specs.Fold.{commands_of}
 use Rattle.cx_base.specs.Grid.{Shape}
 use Rattle.cx_msg.specs.Letter.{Letter}
@@ -17,18 +16,6 @@ use Rattle.cx_field.specs.declared.parts.Token.{Token}
 use Rattle.cx_field.specs.declared.parts.Vote.{Vote}
 use Rattle.cx_msg.specs.declared.message.Msg.{Msg}
 use Rattle.cx_msg.specs.declared.message.Msg.TheVariants as msg
-
--- how many roles of a kind there are
-abbrev pub count_of : Cluster → Kind → ℕ
-count_of c Client = c.clients
-count_of c Batcher = c.batchers
-count_of c Leader = c.leaders
-count_of c Proxy = c.proxies
-count_of c Acceptor = c.acceptors
-count_of c Matchmaker = 2 * c.f + 1
-count_of c Replica = c.replicas
-count_of c Unbatcher = c.unbatchers
-count_of c Reader = c.readers
 
 abbrev pub names_role : Cluster → RoleId → Bool
 names_role c r = nat_lt r.index (count_of c r.kind)

@@ -1,5 +1,5 @@
 -- The reader's rows: it asks enough matchmakers for the live grids, a row of each for its greatest voted slot, and then one replica, which
--- answers once it holds so many slots (VLDB 2021: quorum reads; over several grids this project's own).
+-- answers once it holds this many slots (VLDB 2021: quorum reads; over several grids this project's own).
 use Rattle.std.specs.Prelude.{ℕ, ◌==◌, Bool, false, not, ◌&&◌, nat_le, max, map, filter, if◌then◌else◌, List, [], ◌∷◌, ◌++◌, length, Option, None, Some}
 use Rattle.std.specs.List.{list_any}
 use Rattle.cx_base.specs.declared.cluster.Cluster.{Cluster}
@@ -64,7 +64,7 @@ acked_by acks = map (λ (a : Acked). a.acceptor) acks
 abbrev pub has_acked : ℕ → List Acked → Bool
 has_acked id acks = list_any (λ (a : Acked). a.acceptor == id) acks
 
--- the greatest number of slots that an acceptor told
+-- the greatest number of slots that an acceptor reported
 abbrev pub greatest_mark : List Acked → ℕ
 greatest_mark [] = 0
 greatest_mark (a ∷ acks) = max a.mark (greatest_mark acks)

@@ -110,7 +110,7 @@ abbrev pub with_early : ℕ → Value → List Placed → Option Value → List 
 with_early s v early None = early ++ record { slot = s; value = v } ∷ []
 with_early s v early (Some first) = early
 
--- a read is answered with the key's text in the map that so many values leave
+-- a read is answered with the key's text in the map that the first n values leave
 abbrev pub read_answer_to : RoleId → List Value → Deferred → Letter
 read_answer_to me log r =
     letter me (role Client r.token.client) (msg.ReadAnswer r.token.seq (length log) (text_at r.key (machine_of log).map))
@@ -134,7 +134,7 @@ apply c me d v values =
       sends = results_from c me (length d.log) (machine_of d.log) values ++ read_answers me (d.log ++ values) v.deferred;
     }
 
--- a proxy leader, or another replica, tells a chosen value
+-- a proxy leader, or another replica, sends a chosen value
 abbrev pub chosen_row : Cluster → RoleId → ReplicaDurable → ReplicaVolatile → ℕ → Value → Outcome ReplicaVolatile
 chosen_row c me d v s value =
     let held = length d.log in
@@ -143,7 +143,7 @@ chosen_row c me d v s value =
     else if nat_lt held s then answered Early (record v { early = with_early s value v.early (value_for s v.early) })
     else apply c me d v (ready_values held v.early value)
 
--- a reader asks for a key's text, once so many slots are held; at most 64 reads wait
+-- a reader asks for a key's text, once this many slots are held; at most 64 reads wait
 abbrev pub read_row : RoleId → ReplicaDurable → ReplicaVolatile → Deferred → Outcome ReplicaVolatile
 read_row me d v r =
     if nat_le r.mark (length d.log) then replied AnsweredWord v (read_answer_to me d.log r ∷ [])

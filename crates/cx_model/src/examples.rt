@@ -6,6 +6,11 @@
 #![tactic(auto, unfolding(crate::specs::World::step))]
 
 ghost use Rattle.cx_model.specs.ExamplesAnswersOfOtherRounds.{AnswersOfOtherRounds};
+ghost use Rattle.cx_model.specs.ExamplesChangeAsksNobody.{ChangeAsksNobody};
+ghost use Rattle.cx_model.specs.ExamplesChangeIsForgotten.{ChangeIsForgotten};
+ghost use Rattle.cx_model.specs.ExamplesChangeJumpsOverHeldSlots.{ChangeJumpsOverHeldSlots};
+ghost use Rattle.cx_model.specs.ExamplesChangeLeavesHeldSlots.{ChangeLeavesHeldSlots};
+ghost use Rattle.cx_model.specs.ExamplesChangeSettlesAnew.{ChangeSettlesAnew};
 ghost use Rattle.cx_model.specs.ExamplesCommandActsOnce.{CommandActsOnce};
 ghost use Rattle.cx_model.specs.ExamplesDeferredRead.{DeferredRead};
 ghost use Rattle.cx_model.specs.ExamplesEachAnswerCountsOnce.{EachAnswerCountsOnce};
@@ -23,6 +28,7 @@ ghost use Rattle.cx_model.specs.ExamplesOnePut.{OnePut};
 ghost use Rattle.cx_model.specs.ExamplesOvertakenCommand.{OvertakenCommand};
 ghost use Rattle.cx_model.specs.ExamplesOwnEntryStays.{OwnEntryStays};
 ghost use Rattle.cx_model.specs.ExamplesReaderForgets.{ReaderForgets};
+ghost use Rattle.cx_model.specs.ExamplesRefusedChange.{RefusedChange};
 ghost use Rattle.cx_model.specs.ExamplesRepeatsChangeNothing.{RepeatsChangeNothing};
 ghost use Rattle.cx_model.specs.ExamplesRetireEarlierRounds.{RetireEarlierRounds};
 ghost use Rattle.cx_model.specs.ExamplesRetiredGridIsNotAsked.{RetiredGridIsNotAsked};
@@ -37,7 +43,7 @@ pub fn one_put()
     ensures { OnePut }
 {}
 
-/// The acceptor is asked twice for one vote: it keeps one, and tells it again. The proxy leader, told twice, announces the
+/// The acceptor is asked twice for one vote: it keeps one, and reports it again. The proxy leader, which hears of it twice, announces the
 /// value once.
 pub fn repeats_change_nothing()
     ensures { RepeatsChangeNothing }
@@ -50,7 +56,7 @@ pub fn torn_append()
 {}
 
 /// The acceptor crashes inside its append and the vote is kept: nothing is sent, and the value is chosen though nobody
-/// knows it. Asked again when it is open, it tells its vote.
+/// knows it. Asked again when it is open, it reports its vote.
 pub fn kept_append()
     ensures { KeptAppend }
 {}
@@ -61,8 +67,8 @@ pub fn row_is_no_column()
     ensures { RowIsNoColumn }
 {}
 
-/// A leader begins a later round with a grid of its own: the matchmaker tells it the earlier round, that round's acceptor
-/// tells its vote, and the same value is chosen again. A vote of the earlier round that comes late counts no more.
+/// A leader begins a later round with a grid of its own: the matchmaker reports the earlier round, that round's acceptor
+/// reports its vote, and the same value is chosen again. A vote of the earlier round that comes late counts no more.
 pub fn later_round()
     ensures { LaterRound }
 {}
@@ -80,7 +86,7 @@ pub fn older_round_is_refused()
 {}
 
 /// The order to retire waits until all that the later round proposed at first is known to be chosen. Then a column of its
-/// grid is told how many slots are held, and enough matchmakers forget the earlier round.
+/// grid is informed how many slots are held, and enough matchmakers forget the earlier round.
 pub fn retire_earlier_rounds()
     ensures { RetireEarlierRounds }
 {}
@@ -119,7 +125,7 @@ pub fn stale_requests()
 {}
 
 /// Two earlier rounds have votes for two values in one slot, in grids without a common member. The next round asks both
-/// grids, waits for a row of each, and proposes the value of the greater round, whichever is told first.
+/// grids, waits for a row of each, and proposes the value of the greater round, whichever is reported first.
 pub fn greatest_round_is_proposed()
     ensures { GreatestRoundIsProposed }
 {}
@@ -130,7 +136,7 @@ pub fn lower_round_is_refused()
     ensures { LowerRoundIsRefused }
 {}
 
-/// Two of three matchmakers are enough, and a leader goes on with another grid and retires its round before. A matchmaker
+/// Two of three matchmakers are enough, and a leader leads again with another grid and retires its round before. A matchmaker
 /// that never heard of the new round forgets all earlier ones and has an entry of the new one.
 pub fn own_entry_stays()
     ensures { OwnEntryStays }
@@ -143,7 +149,7 @@ pub fn old_answer_is_not_counted()
 {}
 
 /// What f + 1 replicas hold is never lost: the leader, the proxy leader and the acceptor forget such a slot, and the next
-/// round begins behind it. A replica that missed a value gets it from another one.
+/// round begins after it. A replica that missed a value gets it from another one.
 pub fn held_slots_are_forgotten()
     ensures { HeldSlotsAreForgotten }
 {}
@@ -170,6 +176,41 @@ pub fn late_requests_are_refused()
 /// ones.
 pub fn answers_of_other_rounds()
     ensures { AnswersOfOtherRounds }
+{}
+
+/// A leader goes on with another grid while a value has no answer yet. The next round asks no acceptor and proposes the same
+/// value to the new grid. The vote of the earlier round comes late and counts no more.
+pub fn change_asks_nobody()
+    ensures { ChangeAsksNobody }
+{}
+
+/// A leader that crashed while it went on with another grid has given up that round.
+pub fn change_is_forgotten()
+    ensures { ChangeIsForgotten }
+{}
+
+/// While a leader goes on with another grid it hears that its first slot is held: the next round proposes from the second one
+/// on. It goes on once more, and proposes what both of its rounds before proposed there.
+pub fn change_leaves_held_slots()
+    ensures { ChangeLeavesHeldSlots }
+{}
+
+/// While a leader goes on with another grid a later leader has a value chosen and held, in a slot that the first one never
+/// proposed at. The next round proposes nothing there, and gives a batch the slot after it.
+pub fn change_jumps_over_held_slots()
+    ensures { ChangeJumpsOverHeldSlots }
+{}
+
+/// A leader knew its value to be chosen, and goes on with another grid. It proposes the value again, and retires its round
+/// before only when it knows the value to be chosen in the new grid too.
+pub fn change_settles_anew()
+    ensures { ChangeSettlesAnew }
+{}
+
+/// A leader goes on with another grid, and the matchmaker refuses: a later round is recorded. The leader gives up, and can
+/// only lead anew, in a round that asks the acceptors.
+pub fn refused_change()
+    ensures { RefusedChange }
 {}
 
 /// A leader and a replica have a window of 32 slots, a matchmaker records 16 rounds, and the numbers of rounds end.

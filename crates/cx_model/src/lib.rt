@@ -1,9 +1,9 @@
-//! The definitions that the theorems speak of, and nothing else: the rows of each role, the run of a list of events,
-//! what is chosen, and the command list.
+//! The protocol in definitions: each role's rows, the run of events, what is chosen and promised.
 //!
-//! The role crates prove that their code is these rows, cx_world that its steps are this run. The definitions are in
-//! `specs/`, one subject a file; `src/` declares the plain data of which the states of roles are made, and `examples` has
-//! worked runs, which tell the definitions against the outside.
+//! Each file of `specs/` has one subject; `src/` has the data that they speak of. Role crates prove
+//! that their code is these rows, cx_world that its steps are this run. Its theorems are worked runs
+//! (`specs/Examples*`, half of its files): each comes to the words, records, datagrams and values
+//! that are written there.
 #![tactic(auto)]
 
 pub mod examples;

@@ -244,7 +244,7 @@ same_datagram d =
     let with_to : Kind → Letter = λ k. record { from = d.from; to = record { kind = k; index = d.to.index }; msg = d.msg } in
     ap with_from (kind_back d.from.kind) ∙ ap with_to (kind_back d.to.kind)
 
-small_tag : (m : Msg) → (body_shape m).tag < 256
+pub small_tag : (m : Msg) → (body_shape m).tag < 256
 small_tag m =
     let e = both (nat_le 1 (body_shape m).tag) (nat_le (body_shape m).tag 29) (has_kind m) in
     let le : (body_shape m).tag ≤ 29 = leb-true _ _ e.1 in

@@ -83,7 +83,7 @@ parts from to (MatchNack r why other) h =
     let f = fitting (letter from to (MatchNack r why other)) h in
     let p = both (round.fits r) (reason.fits why && round.fits other) f.msg in
     let q = both (reason.fits why) (round.fits other) p.1 in
-    (record { sent = listed_role from 6 f.from; received = listed_role to 3 f.to }, p.0, q.0, q.1)
+    (record { sent = listed_role from 6 f.from; received = listed_role to 3 f.to }, p.0, q.1)
 parts from to (Phase1A r) h =
     let f = fitting (letter from to (Phase1A r)) h in
     (record { sent = listed_role from 3 f.from; received = listed_role to 5 f.to }, f.msg)

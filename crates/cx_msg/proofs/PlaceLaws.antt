@@ -89,7 +89,7 @@ header_lies bytes (Ok (h, body)) e is_bytes same given =
 decoded_lies : (bytes : List ℕ) (e : WireFault) → IsBytes bytes → decoded bytes ≡ Err e → LiesIn 4 bytes e
 decoded_lies bytes e is_bytes given = header_lies bytes (header.read bytes) e is_bytes refl given
 
--- a fault of a datagram lies behind its version and kind, in the bytes
+-- a fault of a datagram lies after its version and kind, in the bytes
 pub faults_lie : (bytes : List ℕ) (e : WireFault) → IsBytes bytes → Faults e (decoded bytes) → LiesIn 4 bytes e
 faults_lie bytes faults.NoMemory is_bytes given = tt
 faults_lie bytes (faults.Short need have) is_bytes given = tt
@@ -131,7 +131,7 @@ tag_lies bytes (Ok (tag, body)) e is_bytes same given =
 recorded_lies : (bytes : List ℕ) (e : WireFault) → IsBytes bytes → recorded bytes ≡ Err e → LiesIn 1 bytes e
 recorded_lies bytes e is_bytes given = tag_lies bytes (u8.read bytes) e is_bytes refl given
 
--- a fault of a record lies behind its tag, in the bytes
+-- a fault of a record lies after its tag, in the bytes
 pub record_faults_lie : (bytes : List ℕ) (r : Result Record WireFault) → IsBytes bytes → Decodes r (recorded bytes) → IfErr r (LiesIn 1 bytes)
 record_faults_lie bytes (Ok kept) is_bytes given = tt
 record_faults_lie bytes (Err faults.NoMemory) is_bytes given = tt

@@ -59,7 +59,7 @@ spelling r = kept_record.spell r
 abbrev pub is_tag : ℕ → Bool
 is_tag tag = nat_le 1 tag && nat_le tag 7
 
--- the record, once its fields are read, of so many bytes in all
+-- the record, once its fields are read, of this many bytes in all
 unfoldable pub ended : ℕ → ℕ → Result (Record × List ℕ) Miss → Result Record WireFault
 ended all tag (Err miss) = Err (faults.Field tag (all - miss.left))
 ended all tag (Ok (r, [])) = Ok r
@@ -81,7 +81,7 @@ Decodes (Ok r) is = is ≡ Ok r
 Decodes (Err faults.NoMemory) is = Unit {0}
 Decodes (Err e) is = is ≡ Err e
 
--- Where the first bytes of a record break at a bad field, of which bytes so many are said and so many there: a field that is only cut, and
+-- Where the first bytes of a record break at a bad field, of `said` bytes of which `have` are there: a field that is only cut, and
 -- would end within what is said, breaks where the bytes end; any other at its first byte.
 unfoldable pub break_place : ℕ → ℕ → Miss → ℕ
 break_place said have miss = if nat_lt miss.left miss.need && nat_le miss.need (said - (have - miss.left)) then have else have - miss.left

@@ -1,4 +1,4 @@
-//! The bodies of messages, read from the front of bytes.
+//! The bodies of messages, read from the start of bytes.
 
 ghost use Rattle.std.specs.Prelude.{◌≡◌, length};
 ghost use Rattle.cx_wire.specs.Format as wire;
@@ -8,6 +8,7 @@ ghost use Rattle.cx_msg.specs.Messages as message;
 ghost use Rattle.cx_field.specs.Reading.{Gives, Reads};
 
 use crate::message::Msg;
+use cx_base::WINDOW;
 use cx_field::{
     ReadFault, Reader, answers_from, at_from, command_from, commands_from, entries_from,
     found_from, grid_from, mark_from, name_from, reason_from, reply_from, round_from, round0_from,
@@ -146,7 +147,7 @@ fn window_from(slot: u64, reader: &mut Reader<'_>) -> Result<u64, ReadFault>
 {
     let left = reader.left();
     let cw = mark_from(reader)?;
-    if slot < cw || slot - cw >= 32 {
+    if slot < cw || slot - cw >= WINDOW {
         return Err(ReadFault::Bad { left });
     }
     Ok(cw)

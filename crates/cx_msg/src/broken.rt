@@ -24,7 +24,7 @@ fn cut_place(said: usize, have: usize, left: usize, need: usize) -> usize
 }
 
 /// Where a record of `said` bytes breaks if no more of them are there than these first ones, in bytes from its first: a tag that
-/// is none at 0; a field that is out of its range, or that would reach past the `said` bytes, at its first byte; bytes behind
+/// is none at 0; a field that is out of its range, or that would reach past the `said` bytes, at its first byte; bytes after
 /// the last field at the first of them; and else where these bytes end. The format is this project's own.
 #[tactic(auto, unfolding(crate::specs::Records::break_place, crate::specs::Records::part_ended, crate::specs::Records::part_with_tag))]
 pub fn break_of_part(alloc: Global, bytes: &[u8], said: usize) -> Result<usize, NoMemory>

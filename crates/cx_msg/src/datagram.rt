@@ -10,7 +10,7 @@ use std::alloc::Global;
 use std::marker::Model;
 
 /// One message, from one role to another: the roles are those of its kind, and each field is in its range.
-#[derive(Debug, Drop)]
+#[derive(Drop)]
 pub struct Datagram {
     from: RoleId,
     to: RoleId,

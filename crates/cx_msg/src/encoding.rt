@@ -9,7 +9,7 @@ use crate::put_bodies::{kind_of, put_body};
 use cx_base::NoMemory;
 use std::alloc::Global;
 
-/// Appends the bytes of a datagram's body, without its header. Want of memory appends nothing.
+/// Appends the bytes of a datagram's body, without its header. Out of memory, it appends nothing.
 pub fn body_into(alloc: Global, datagram: &Datagram, out: &mut Vec<u8>) -> Result<(), NoMemory>
     ensures bytes { OnOk result (out.new.items ≡ out.old.items ++ body datagram.now) }
     ensures err { OnErr result (out.new.items ≡ out.old.items) }
@@ -20,7 +20,7 @@ pub fn body_into(alloc: Global, datagram: &Datagram, out: &mut Vec<u8>) -> Resul
     Ok(())
 }
 
-/// Appends the bytes of a datagram, at most 28,575: a header of 12 and the body. Want of memory appends nothing.
+/// Appends the bytes of a datagram, at most 28,575: a header of 12 and the body. Out of memory, it appends nothing.
 pub fn encode_into(alloc: Global, datagram: &Datagram, out: &mut Vec<u8>) -> Result<(), NoMemory>
     ensures bytes { OnOk result (out.new.items ≡ out.old.items ++ spelling datagram.now) }
     ensures room { OnOk result (length (spelling datagram.now) ≤ 28575) }

@@ -6,7 +6,7 @@ use cx_base::{Cut, Duplicate, NoMemory, Order, RoleId};
 use std::alloc::Global;
 
 /// What a running role is given.
-#[derive(Debug, Drop)]
+#[derive(Drop)]
 pub enum Input {
     /// A datagram.
     Take { datagram: Datagram },
@@ -17,7 +17,7 @@ pub enum Input {
 }
 
 /// What is done to a role.
-#[derive(Debug, Drop)]
+#[derive(Drop)]
 pub enum Act {
     /// It is given this, and may crash inside its append.
     Give { input: Input, cut: Cut },
@@ -28,7 +28,7 @@ pub enum Act {
 }
 
 /// A record of the history of kept records, with its role.
-#[derive(Debug, Drop)]
+#[derive(Drop)]
 pub struct KeptRecord {
     pub role: RoleId,
     pub what: Record,

@@ -6,7 +6,7 @@ use std::alloc::Global;
 
 /// What a role keeps. A stored record's fields are in their ranges, which whoever stores it owes: rounds are real ones,
 /// slots are below 2^40, `cw` and `mark` are numbers of slots, at most 2^40.
-#[derive(Debug, Drop)]
+#[derive(Drop)]
 pub enum Record {
     /// An acceptor promises a round.
     Promise {
@@ -19,7 +19,7 @@ pub enum Record {
         cw: u64,
         value: Value,
     },
-    /// An acceptor is told that enough replicas hold so many slots.
+    /// An acceptor learns that enough replicas hold `mark` slots.
     Water {
         round: Round,
         mark: u64,

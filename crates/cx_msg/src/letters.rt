@@ -1,7 +1,7 @@
 //! The datagrams that roles send, but for those of reads, each with the ranges of its parts, which its sender owes. None
 //! takes memory.
 
-ghost use Rattle.std.specs.Prelude.{◌≡◌, ◌≤◌, IsTrue};
+ghost use Rattle.std.specs.Prelude.{◌≡◌, IsTrue};
 ghost use Rattle.cx_base.specs.Role.{role};
 ghost use Rattle.cx_base.specs.declared.role.Kind.{Kind};
 ghost use Rattle.cx_field.specs.Fields as field;
@@ -11,7 +11,7 @@ ghost use Rattle.cx_msg.specs.Letter.{letter};
 use crate::datagram::Datagram;
 use crate::message::Msg;
 use cx_base::{Command, Commands, Grid, Kind, Reply, RoleId, Round, Value};
-use cx_field::{Answers, Entries, Votes, grid_fits, op_fits};
+use cx_field::{Answers, Entries, NackReason, Votes, grid_fits, op_fits, reason_fits};
 
 /// A client's command, handed to a batcher.
 #[tactic(auto, unfolding(cx_field::specs::Fields::command, cx_wire::specs::Format::u16))]
@@ -86,15 +86,20 @@ pub fn match_b(
     )
 }
 
-/// A matchmaker's word that it does not record the round: it is collected (0), a later one is recorded (1), or there is
-/// no room (2).
-#[tactic(auto, unfolding(crate::specs::Messages::match_nack, cx_field::specs::Fields::reason, cx_wire::specs::Format::u8, cx_wire::specs::Format::u16))]
-pub fn match_nack(matchmaker: u16, leader: u16, round: Round, reason: u8, other: Round) -> Datagram
+/// A matchmaker's word that it does not record the round, why, and another round.
+#[tactic(auto, unfolding(crate::specs::Messages::match_nack, cx_wire::specs::Format::u16))]
+pub fn match_nack(
+    matchmaker: u16,
+    leader: u16,
+    round: Round,
+    reason: NackReason,
+    other: Round,
+) -> Datagram
     requires round { IsTrue (field.round.fits round) }
-    requires reason { reason ≤ 2 }
     requires other { IsTrue (field.round.fits other) }
     ensures { result ≡ letter (role Kind.Matchmaker matchmaker) (role Kind.Leader leader) (Msg.MatchNack round reason other) }
 {
+    reason_fits(reason);
     let from = RoleId::new(Kind::Matchmaker, matchmaker);
     let to = RoleId::new(Kind::Leader, leader);
     Datagram::new(
@@ -282,7 +287,7 @@ pub fn answer(unbatcher: u16, client: u16, seq: u64, at: u64, reply: Reply) -> D
     Datagram::new(from, to, Msg::Answer { seq, at, reply })
 }
 
-/// A replica's word to a leader that it holds so many slots.
+/// A replica's word to a leader that it holds `mark` slots.
 #[tactic(auto, unfolding(cx_wire::specs::Format::u16))]
 pub fn held(replica: u16, leader: u16, mark: u64) -> Datagram
     requires mark { IsTrue (field.mark.fits mark) }
@@ -304,7 +309,7 @@ pub fn fetch(replica: u16, other: u16, mark: u64) -> Datagram
     Datagram::new(from, to, Msg::Fetch { mark })
 }
 
-/// A leader's word to an acceptor that enough replicas hold so many slots.
+/// A leader's word to an acceptor that enough replicas hold `mark` slots.
 #[tactic(auto, unfolding(crate::specs::Messages::round_mark, cx_wire::specs::Format::u16))]
 pub fn inform(leader: u16, acceptor: u16, round: Round, mark: u64) -> Datagram
     requires round { IsTrue (field.round.fits round) }

@@ -1,8 +1,8 @@
 //! Datagrams and records, and their bytes.
 //!
-//! Stands on the base types and on the fields of cx_field; roles, keepers, the world and the node stand on it. Its theorem:
-//! what `decode` answers is the one datagram that the bytes spell, or the first test that they fail, and what `encode_into`
-//! appends is that spelling, which no other datagram has; likewise for records.
+//! Its theorems are: `decode` answers the one datagram that the bytes spell, or exactly the first
+//! test that they fail; `encode_into` appends that spelling, which begins no other datagram's
+//! (`one_spelling`); `record_from` and `record_into` do the same for records.
 #![tactic(auto)]
 
 mod bodies;
@@ -17,10 +17,12 @@ mod input;
 mod kept;
 mod letters;
 mod message;
+mod names;
 mod put_bodies;
 mod read_letters;
 mod records;
 mod roles;
+mod spelled;
 
 pub use broken::break_of_part;
 pub use datagram::Datagram;
@@ -39,8 +41,4 @@ pub use read_letters::{
     match_read, match_read_ack, pre_read, pre_read_ack, read, read_answer, read_req,
 };
 pub use records::{record_from, record_into};
-
-#[cfg(test)]
-mod tests;
-#[cfg(test)]
-mod vectors;
+pub use spelled::{Spelled, short_into};

@@ -3,12 +3,14 @@
 ghost use Rattle.std.specs.Prelude.{◌≡◌};
 ghost use Rattle.cx_msg.specs.Names.{name_of_message};
 
+use crate::names::name_of_kind;
+use crate::put_bodies::kind_of;
 use cx_base::{Command, Commands, Grid, Key, Reply, Round, Text, Value};
-use cx_field::{Answers, Entries, Token, Votes};
+use cx_field::{Answers, Entries, NackReason, Token, Votes};
 
 /// What a datagram says. Rounds are real ones, but for a watermark, which may be none; slots are below 2^40; `cw` and
 /// `mark` are numbers of slots, at most 2^40; a client's numbers are 1 or more.
-#[derive(Debug, Drop)]
+#[derive(Drop)]
 pub enum Msg {
     /// A client's command.
     Submit {
@@ -33,10 +35,10 @@ pub enum Msg {
         watermark: Round,
         entries: Entries,
     },
-    /// The round is not recorded: it is collected (0), a later one is recorded (1), or there is no room (2).
+    /// The round is not recorded. The other round is the watermark where it is collected, else the greatest that is recorded.
     MatchNack {
         round: Round,
-        reason: u8,
+        reason: NackReason,
         other: Round,
     },
     /// Asks an acceptor to promise a round.
@@ -95,7 +97,7 @@ pub enum Msg {
         at: u64,
         reply: Reply,
     },
-    /// The replica holds so many slots.
+    /// The replica holds `mark` slots.
     Held {
         mark: u64,
     },
@@ -103,12 +105,12 @@ pub enum Msg {
     Fetch {
         mark: u64,
     },
-    /// Tells an acceptor that enough replicas hold so many slots.
+    /// Informs an acceptor that enough replicas hold `mark` slots.
     Inform {
         round: Round,
         mark: u64,
     },
-    /// The acceptor knows that enough replicas hold so many slots.
+    /// The acceptor knows that enough replicas hold `mark` slots.
     Informed {
         round: Round,
         mark: u64,
@@ -149,13 +151,13 @@ pub enum Msg {
         watermark: Round,
         mark: u64,
     },
-    /// Asks a replica for a key's text, once it holds so many slots.
+    /// Asks a replica for a key's text, once it holds `mark` slots.
     Read {
         token: Token,
         mark: u64,
         key: Key,
     },
-    /// A key's text where the replica holds so many slots, or that it has none.
+    /// A key's text where the replica holds `mark` slots, or that it has none.
     ReadAnswer {
         seq: u64,
         mark: u64,
@@ -168,36 +170,6 @@ impl Msg {
     pub fn name(&self) -> &'static str
         ensures { result.now ≡ name_of_message self.now }
     {
-        match self {
-            Msg::Submit { .. } => "Submit",
-            Msg::Batch { .. } => "Batch",
-            Msg::Leads { .. } => "Leads",
-            Msg::MatchA { .. } => "MatchA",
-            Msg::MatchB { .. } => "MatchB",
-            Msg::MatchNack { .. } => "MatchNack",
-            Msg::Phase1A { .. } => "Phase1A",
-            Msg::Phase1B { .. } => "Phase1B",
-            Msg::Nack { .. } => "Nack",
-            Msg::Propose { .. } => "Propose",
-            Msg::Phase2A { .. } => "Phase2A",
-            Msg::Phase2B { .. } => "Phase2B",
-            Msg::Chosen { .. } => "Chosen",
-            Msg::ChosenIn { .. } => "ChosenIn",
-            Msg::Results { .. } => "Results",
-            Msg::Answer { .. } => "Answer",
-            Msg::Held { .. } => "Held",
-            Msg::Fetch { .. } => "Fetch",
-            Msg::Inform { .. } => "Inform",
-            Msg::Informed { .. } => "Informed",
-            Msg::GarbageA { .. } => "GarbageA",
-            Msg::GarbageB { .. } => "GarbageB",
-            Msg::ReadReq { .. } => "ReadReq",
-            Msg::MatchRead { .. } => "MatchRead",
-            Msg::MatchReadAck { .. } => "MatchReadAck",
-            Msg::PreRead { .. } => "PreRead",
-            Msg::PreReadAck { .. } => "PreReadAck",
-            Msg::Read { .. } => "Read",
-            Msg::ReadAnswer { .. } => "ReadAnswer",
-        }
+        name_of_kind(kind_of(self))
     }
 }

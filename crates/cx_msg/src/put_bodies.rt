@@ -7,9 +7,9 @@ ghost use Rattle.cx_wire.specs.Format.{Appends};
 use crate::message::Msg;
 use cx_base::{Grid, Key, NoMemory, Reply, Round, Text, Value};
 use cx_field::{
-    Answers, Entries, Token, Votes, put_answers, put_at, put_command, put_commands, put_entries,
-    put_found, put_grid, put_mark, put_name, put_reason, put_reply, put_round, put_seq, put_slot,
-    put_token, put_value, put_votes,
+    Answers, Entries, NackReason, Token, Votes, put_answers, put_at, put_command, put_commands,
+    put_entries, put_found, put_grid, put_mark, put_name, put_reason, put_reply, put_round,
+    put_seq, put_slot, put_token, put_value, put_votes,
 };
 use cx_wire::put_u16;
 
@@ -92,7 +92,7 @@ fn put_match_b(
 fn put_match_nack(
     out: &mut Vec<u8>,
     round: &Round,
-    reason: u8,
+    reason: NackReason,
     other: &Round,
 ) -> Result<(), NoMemory>
     ensures { OnOk result (Appends message.match_nack (round.now, (reason, other.now)) 21 out.old.items out.new.items) }

@@ -100,7 +100,7 @@ pub fn pre_read_ack(
     )
 }
 
-/// A reader's question for a key, for a replica that holds so many slots.
+/// A reader's question for a key, for a replica that holds `mark` slots.
 #[tactic(auto, unfolding(crate::specs::Messages::read_key, cx_wire::specs::Format::u16))]
 pub fn read(reader: u16, replica: u16, token: Token, mark: u64, key: Key) -> Datagram
     requires token { IsTrue (field.token.fits token) }
@@ -113,7 +113,7 @@ pub fn read(reader: u16, replica: u16, token: Token, mark: u64, key: Key) -> Dat
     Datagram::new(from, to, Msg::Read { token, mark, key })
 }
 
-/// A replica's answer to a client's read, where it holds so many slots.
+/// A replica's answer to a client's read, where it holds `mark` slots.
 #[tactic(auto, unfolding(crate::specs::Messages::read_answer, cx_wire::specs::Format::u16))]
 pub fn read_answer(replica: u16, client: u16, seq: u64, mark: u64, found: Option<Text>) -> Datagram
     requires seq { IsTrue (field.seq.fits seq) }

@@ -182,7 +182,7 @@ fn put_record(out: &mut Vec<u8>, kept: &Record) -> Result<(), NoMemory>
     }
 }
 
-/// Appends the bytes of a record, at most 27,970. Want of memory appends nothing.
+/// Appends the bytes of a record, at most 27,970. Out of memory, it appends nothing.
 #[tactic(auto, unfolding(crate::specs::Records::kept_record))]
 pub fn record_into(alloc: Global, kept: &Record, out: &mut Vec<u8>) -> Result<(), NoMemory>
     ensures bytes { OnOk result (out.new.items ≡ out.old.items ++ records.spelling kept.now) }

@@ -58,7 +58,7 @@ image_at_also k (suc n) at (gate ∷ rest) rs e =
     if_also (gate == 1) (framed (Some k) (at + 1) rest (image_at (Some k) n)) (framed None (at + 1) rest (image_at None n)) (Ok []) (Ok [])
     (framed_also k (at + 1) rest (image_at (Some k) n) (image_at None n) (λ a b. image_at_also k n a b)) (λ rs e. e) rs e
 
--- what is read of a role's store is what the store tells
+-- what is read of a role's store is what it holds
 pub told_any : (k : Kind) (file : List ℕ) (rs : List Record) → image (Some k) file ≡ Ok rs → told_records (Some file) ≡ rs
 told_any k file rs read =
     ap records_or_none (if_also (nat_lt 1 (length file)) (image_at (Some k) (length file) 0 file) (image_at None (length file) 0 file) (Ok []) (Ok [])

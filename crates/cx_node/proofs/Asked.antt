@@ -1,59 +1,126 @@
--- What a link was asked and an output was given, one after the other, and fronts of both.
-use Rattle.std.proofs.Common.{◌≡◌, ℕ, List, [], ◌++◌, length, take, take_all, le_refl, map, filter, Option, sym, ap, ap₂, ◌∙◌, subst, append_assoc, append-nil}
-use Rattle.std.proofs.KnownBytes.{Appends-nil, Appends-trans}
+-- The history of a link after actions, one list of them after another.
+use Rattle.std.proofs.Common.{◌≡◌, ℕ, List, [], ◌∷◌, ◌++◌, map, filter, Option, None, Some, option_map, refl, sym, ap, ◌∙◌, append_assoc, append-nil}
+use Rattle.std.proofs.lemmas.Grind.{flat_map-append}
 use Rattle.std.proofs.lemmas.List.{map-append}
 use Rattle.std.proofs.lemmas.List.Elements.{filter-append}
-use Rattle.std.specs.Io.KnownBytes.{Appends}
+use Rattle.std.proofs.lemmas.Option.{none-some, same_Some}
 use Rattle.cx_base.specs.declared.cluster.Cluster.{Cluster}
-use Rattle.cx_edge.specs.Link.{LinkHistory, Sending}
-use Rattle.cx_edge.specs.Sink.{AppendsPart}
+use Rattle.cx_base.specs.declared.role.RoleId.{RoleId}
+use Rattle.cx_edge.specs.Link.{LinkHistory, with_taken}
 use Rattle.cx_model.specs.Names.{names_role}
 use Rattle.cx_msg.specs.Letter.{Letter}
-use Rattle.cx_node.specs.Doing.{Asks, AsksPart}
-use Rattle.cx_node.specs.Node.{Takes}
-use Rattle.cx_node.specs.Ports.{sending_of, sendings}
-use Rattle.cx_node.proofs.Grown.{before, behind}
+use Rattle.cx_msg.specs.declared.input.KeptRecord.{KeptRecord}
+use Rattle.cx_node.specs.Action.{Action, Bound, Took, bound_by, bound_in, kept_in, printed_in, sent_by, sent_in, step_actions, taken_by, taken_in, with_actions}
+use Rattle.cx_node.specs.Doing.{Asks, Linked}
+use Rattle.cx_node.specs.Hosting.{with_binds}
+use Rattle.cx_node.specs.Ports.{bind_of, sending_of, sendings}
+
+-- ---- what is among the actions of a step, and among binds
+
+pub step_bound : (ks : List KeptRecord) (ls : List Letter) (bs : List ℕ) → bound_in (step_actions ks ls bs) ≡ []
+step_bound [] [] [] = refl
+step_bound [] [] (b ∷ bs) = step_bound [] [] bs
+step_bound [] (l ∷ ls) bs = step_bound [] ls bs
+step_bound (k ∷ ks) ls bs = step_bound ks ls bs
+
+pub step_taken : (ks : List KeptRecord) (ls : List Letter) (bs : List ℕ) → taken_in (step_actions ks ls bs) ≡ []
+step_taken [] [] [] = refl
+step_taken [] [] (b ∷ bs) = step_taken [] [] bs
+step_taken [] (l ∷ ls) bs = step_taken [] ls bs
+step_taken (k ∷ ks) ls bs = step_taken ks ls bs
+
+pub step_kept : (ks : List KeptRecord) (ls : List Letter) (bs : List ℕ) → kept_in (step_actions ks ls bs) ≡ ks
+step_kept [] [] [] = refl
+step_kept [] [] (b ∷ bs) = step_kept [] [] bs
+step_kept [] (l ∷ ls) bs = step_kept [] ls bs
+step_kept (k ∷ ks) ls bs = ap (λ l. k ∷ l) (step_kept ks ls bs)
+
+step_sent : (ks : List KeptRecord) (ls : List Letter) (bs : List ℕ) → sent_in (step_actions ks ls bs) ≡ ls
+step_sent [] [] [] = refl
+step_sent [] [] (b ∷ bs) = step_sent [] [] bs
+step_sent [] (l ∷ ls) bs = ap (λ ds. l ∷ ds) (step_sent [] ls bs)
+step_sent (k ∷ ks) ls bs = step_sent ks ls bs
+
+pub step_printed : (ks : List KeptRecord) (ls : List Letter) (bs : List ℕ) → printed_in (step_actions ks ls bs) ≡ bs
+step_printed [] [] [] = refl
+step_printed [] [] (b ∷ bs) = ap (λ l. b ∷ l) (step_printed [] [] bs)
+step_printed [] (l ∷ ls) bs = step_printed [] ls bs
+step_printed (k ∷ ks) ls bs = step_printed ks ls bs
+
+binds_bound : (rs : List RoleId) → bound_in (map Bound rs) ≡ rs
+binds_bound [] = refl
+binds_bound (r ∷ rs) = ap (λ l. r ∷ l) (binds_bound rs)
+
+binds_taken : (rs : List RoleId) → taken_in (map Bound rs) ≡ []
+binds_taken [] = refl
+binds_taken (r ∷ rs) = binds_taken rs
+
+binds_sent : (rs : List RoleId) → sent_in (map Bound rs) ≡ []
+binds_sent [] = refl
+binds_sent (r ∷ rs) = binds_sent rs
+
+pub binds_kept : (rs : List RoleId) (more : List Action) → kept_in (map Bound rs ++ more) ≡ kept_in more
+binds_kept [] more = refl
+binds_kept (r ∷ rs) more = binds_kept rs more
+
+pub binds_printed : (rs : List RoleId) (more : List Action) → printed_in (map Bound rs ++ more) ≡ printed_in more
+binds_printed [] more = refl
+binds_printed (r ∷ rs) more = binds_printed rs more
 
 sendings_append : (c : Cluster) (ks ls : List Letter) → sendings c (ks ++ ls) ≡ sendings c ks ++ sendings c ls
 sendings_append c ks ls =
     ap (map (sending_of c)) (filter-append (λ (d : Letter). names_role c d.to) ks ls)
     ∙ map-append (sending_of c) (filter (λ (d : Letter). names_role c d.to) ks) (filter (λ (d : Letter). names_role c d.to) ls)
 
-abbrev told : LinkHistory → Takes → List Sending → LinkHistory
-told h takes sent = record h { taken = takes; sent = sent }
-
 module _ (c : Cluster) where
-  pub asks_nothing : (a : Option LinkHistory) → Asks c [] [] a a
-  asks_nothing a = λ h e. (h, e, sym (ap₂ (told h) (append-nil h.taken) (append-nil h.sent)))
+  none_more : (h : LinkHistory) → with_actions c [] h ≡ h
+  none_more h = λ i. record { binds = append-nil h.binds i; taken = append-nil h.taken i; sent = append-nil h.sent i }
 
-  pub asks_then : (ts us : Takes) (ks ls : List Letter) (a b d : Option LinkHistory) → Asks c ts ks a b → Asks c us ls b d → Asks c (ts ++ us) (ks ++ ls) a d
-  asks_then ts us ks ls a b d p q = λ after e.
+  actions_more : (xs ys : List Action) (h : LinkHistory) → with_actions c ys (with_actions c xs h) ≡ with_actions c (xs ++ ys) h
+  actions_more xs ys h =
+      let binds : (h.binds ++ map (bind_of c) (bound_in xs)) ++ map (bind_of c) (bound_in ys) ≡ h.binds ++ map (bind_of c) (bound_in (xs ++ ys)) =
+      append_assoc h.binds (map (bind_of c) (bound_in xs)) (map (bind_of c) (bound_in ys))
+      ∙ ap (λ l. h.binds ++ l) (sym (map-append (bind_of c) (bound_in xs) (bound_in ys)) ∙ ap (map (bind_of c)) (sym (flat_map-append bound_by xs ys))) in
+      let taken : (h.taken ++ taken_in xs) ++ taken_in ys ≡ h.taken ++ taken_in (xs ++ ys) =
+      append_assoc h.taken (taken_in xs) (taken_in ys) ∙ ap (λ l. h.taken ++ l) (sym (flat_map-append taken_by xs ys)) in
+      let sent : (h.sent ++ sendings c (sent_in xs)) ++ sendings c (sent_in ys) ≡ h.sent ++ sendings c (sent_in (xs ++ ys)) =
+      append_assoc h.sent (sendings c (sent_in xs)) (sendings c (sent_in ys))
+      ∙ ap (λ l. h.sent ++ l) (sym (sendings_append c (sent_in xs) (sent_in ys)) ∙ ap (sendings c) (sym (flat_map-append sent_by xs ys))) in
+      λ i. record { binds = binds i; taken = taken i; sent = sent i }
+
+  pub linked_nothing : (a : Option LinkHistory) → Linked c [] a a
+  linked_nothing a = λ h e. (h, e, sym (none_more h))
+
+  pub linked_then : (xs ys : List Action) (a b d : Option LinkHistory) → Linked c xs a b → Linked c ys b d → Linked c (xs ++ ys) a d
+  linked_then xs ys a b d p q = λ after e.
       let two = q after e in
       let one = p two.0 two.1 in
-      let h = one.0 in (
-        h,
-        one.1,
-        two.2 ∙ ap (λ (m : LinkHistory). told m (m.taken ++ us) (m.sent ++ sendings c ls)) one.2
-            ∙ ap₂ (told h) (append_assoc h.taken ts us) (append_assoc h.sent (sendings c ks) (sendings c ls) ∙ ap (λ l. h.sent ++ l) (sym (sendings_append c ks ls))),
-      )
+      (one.0, one.1, two.2 ∙ ap (with_actions c ys) one.2 ∙ actions_more xs ys one.0)
 
-  pub part_none : (ts : Takes) (ks : List Letter) (a b : Option LinkHistory) → Asks c ts [] a b → AsksPart c ts ks a b
-  part_none ts ks a b p = (0, p)
+  took_more : (what : Option (List ℕ)) (h : LinkHistory) → with_taken what h ≡ with_actions c (Took what ∷ []) h
+  took_more what h = λ i. record { binds = sym (append-nil h.binds) i; taken = h.taken ++ what ∷ []; sent = sym (append-nil h.sent) i }
 
-  pub part_all : (ts : Takes) (ks : List Letter) (a b : Option LinkHistory) → Asks c ts ks a b → AsksPart c ts ks a b
-  part_all ts ks a b p = (length ks, subst (λ l. Asks c ts l a b) (sym (take_all (length ks) ks (le_refl (length ks)))) p)
+  pub linked_took : (what : Option (List ℕ)) (a : Option LinkHistory) → Linked c (Took what ∷ []) a (option_map (with_taken what) a)
+  linked_took what None = λ after e. absurd (none-some after e)
+  linked_took what (Some h) = λ after e. (h, refl, sym (same_Some (with_taken what h) after e) ∙ took_more what h)
 
-  pub asks_before : (ts : Takes) (ks ls : List Letter) (a b : Option LinkHistory) → AsksPart c ts ks a b → AsksPart c ts (ks ++ ls) a b
-  asks_before ts ks ls a b p = let k = before ks ls p.0 in (k.0, subst (λ l. Asks c ts l a b) (sym k.1) p.1)
+  -- what a step sends
+  pub linked_step : (ks : List KeptRecord) (ls : List Letter) (bs : List ℕ) (a b : Option LinkHistory) → Asks c ls a b → Linked c (step_actions ks ls bs) a b
+  linked_step ks ls bs a b asks = λ after e.
+      let one = asks after e in
+      let h = one.0 in
+      let binds : h.binds ≡ h.binds ++ map (bind_of c) (bound_in (step_actions ks ls bs)) = sym (append-nil h.binds) ∙ ap (λ l. h.binds ++ map (bind_of c) l) (sym (step_bound ks ls bs)) in
+      let taken : h.taken ≡ h.taken ++ taken_in (step_actions ks ls bs) = sym (append-nil h.taken) ∙ ap (λ l. h.taken ++ l) (sym (step_taken ks ls bs)) in
+      let sent : h.sent ++ sendings c ls ≡ h.sent ++ sendings c (sent_in (step_actions ks ls bs)) = ap (λ l. h.sent ++ sendings c l) (sym (step_sent ks ls bs)) in
+      (h, one.1, one.2 ∙ (λ i. record { binds = binds i; taken = taken i; sent = sent i }))
 
-  pub asks_behind : (ts us : Takes) (ks ls : List Letter) (a b d : Option LinkHistory) → Asks c ts ks a b → AsksPart c us ls b d → AsksPart c (ts ++ us) (ks ++ ls) a d
-  asks_behind ts us ks ls a b d p q = let k = behind ks ls q.0 in (k.0, subst (λ l. Asks c (ts ++ us) l a d) (sym k.1) (asks_then ts us ks (take q.0 ls) a b d p q.1))
+  binds_more : (rs : List RoleId) (h : LinkHistory) → with_binds (map (bind_of c) rs) h ≡ with_actions c (map Bound rs) h
+  binds_more rs h =
+      let binds : h.binds ++ map (bind_of c) rs ≡ h.binds ++ map (bind_of c) (bound_in (map Bound rs)) = ap (λ l. h.binds ++ map (bind_of c) l) (sym (binds_bound rs)) in
+      let taken : h.taken ≡ h.taken ++ taken_in (map Bound rs) = sym (append-nil h.taken) ∙ ap (λ l. h.taken ++ l) (sym (binds_taken rs)) in
+      let sent : h.sent ≡ h.sent ++ sendings c (sent_in (map Bound rs)) = sym (append-nil h.sent) ∙ ap (λ l. h.sent ++ sendings c l) (sym (binds_sent rs)) in
+      λ i. record { binds = binds i; taken = taken i; sent = sent i }
 
-pub text_none : (bs : List ℕ) (a : Option (List ℕ)) → AppendsPart a a bs
-text_none bs a = (0, Appends-nil a)
-
-pub text_before : (bs cs : List ℕ) (a b : Option (List ℕ)) → AppendsPart a b bs → AppendsPart a b (bs ++ cs)
-text_before bs cs a b p = let k = before bs cs p.0 in (k.0, subst (Appends a b) (sym k.1) p.1)
-
-pub text_behind : (bs cs : List ℕ) (a b d : Option (List ℕ)) → Appends a b bs → AppendsPart b d cs → AppendsPart a d (bs ++ cs)
-text_behind bs cs a b d p q = let k = behind bs cs q.0 in (k.0, subst (Appends a d) (sym k.1) (Appends-trans a b d bs (take q.0 cs) p q.1))
+  pub linked_binds : (rs : List RoleId) (a b : Option LinkHistory) → b ≡ option_map (with_binds (map (bind_of c) rs)) a → Linked c (map Bound rs) a b
+  linked_binds rs None b is = λ after e. absurd (none-some after (sym is ∙ e))
+  linked_binds rs (Some h) b is = λ after e. (h, refl, sym (same_Some (with_binds (map (bind_of c) rs) h) after (sym is ∙ e)) ∙ binds_more rs h)

@@ -166,7 +166,7 @@ module _ {D S : Type 0} (shown : Shown D S) where
     pub first_taken : (out : List RoleId) (j : JournalState S) → out ≡ lent_to items → keeper_of g ≡ Some j → without (who g) out ≡ lent_to rest
     first_taken out j lent some = rw (first_lent out j lent some, same_role-itself (who g)) refl
 
-    -- one step, in front of those that are to come
+    -- one step, before those that are to come
     pub goes_on : (old mid : D) (all : List (Guest (JournalState S))) (begin : D) → GivesBack shown (who g) (keeper_of g) old mid
         → ((end : D) → GiveBack shown items old end → GiveBack shown all begin end)
         → (end : D) → GiveBack shown rest mid end → GiveBack shown all begin end

@@ -1,18 +1,20 @@
 -- What hosting came to, from what binding, opening, running and giving back came to.
-use Rattle.std.proofs.Common.{◌≡◌, ℕ, true, List, [], ◌++◌, length, map, take, take_all, le_refl, Option, None, Some, option_map, Result, Ok, Err, refl, sym, ap, ◌∙◌, subst, append-nil}
-use Rattle.std.specs.Prelude.{IfOk, OnErr, slice_get}
+use Rattle.std.proofs.Common.{◌≡◌, ◌⊎◌, ℕ, suc, true, List, [], ◌∷◌, ◌++◌, length, map, take, Option, Some, option_map, Result, Ok, Err, refl, sym, ap, ◌∙◌, subst, append-nil, inl, inr}
+use Rattle.std.specs.Prelude.{IfErr, IfOk, slice_get}
 use Rattle.std.specs.Io.KnownBytes.{Appends}
 use Rattle.std.proofs.KnownBytes.{Appends-nil}
-use Rattle.std.proofs.lemmas.Option.{none-some, same_Some}
+use Rattle.std.proofs.lemmas.Grind.{flat_map-append}
+use Rattle.std.proofs.lemmas.List.{take-map}
+use Rattle.std.proofs.lemmas.Option.{same_Some}
 use Rattle.cx_base.specs.declared.cluster.Cluster.{Cluster}
 use Rattle.cx_base.specs.declared.event.Event.{Event}
 use Rattle.cx_base.specs.declared.role.RoleId.{RoleId}
 use Rattle.cx_base.specs.declared.status.Status.TheVariants as status
 use Rattle.cx_base.specs.Faults.{Rises}
-use Rattle.cx_edge.specs.Link.{Bind, LinkHistory, Sending}
-use Rattle.cx_edge.specs.Sink.{AppendsPart}
+use Rattle.cx_edge.specs.Link.{LinkHistory}
 use Rattle.cx_journal.specs.State.{JournalState, told_records}
 use Rattle.cx_model.specs.World.{records_of}
+use Rattle.cx_msg.specs.declared.input.KeptRecord.{KeptRecord}
 use Rattle.cx_node.specs.declared.guest.Guest.{Guest}
 use Rattle.cx_node.specs.declared.node.RunEnd.{RunEnd}
 use Rattle.cx_node.specs.declared.node.RunEnd.TheVariants as end
@@ -20,55 +22,71 @@ use Rattle.cx_node.specs.declared.node.Stop.{Stop}
 use Rattle.cx_node.specs.declared.node.Stop.TheVariants as stop
 use Rattle.cx_node.specs.declared.opening.OpenStop.{OpenStop}
 use Rattle.cx_node.specs.declared.opening.OpenStop.TheVariants as open_stop
-use Rattle.cx_node.specs.Acts.{fails_by}
-use Rattle.cx_node.specs.Doing.{scene}
-use Rattle.cx_node.specs.Guest.{hosted_in}
+use Rattle.cx_node.specs.Action.{Action, Bound, HasTaken, Kept, kept_as, kept_in, printed_by, printed_in}
+use Rattle.cx_node.specs.Doing.{Linked, scene}
+use Rattle.cx_node.specs.Guest.{hosted_in, who}
 use Rattle.cx_node.specs.Hosting.{GivesBack, HasRun, HostAnswered, HostDid, HostEnds, HostEndsEarly, Ran, ended_status, unopened_status, with_binds}
-use Rattle.cx_node.specs.Node.{IsEnd, Runs, RunsPart, Takes}
+use Rattle.cx_node.specs.Node.{IsEnd, IsUnderway, Runs, RunsPart}
 use Rattle.cx_node.specs.Opening.{AreOpened, IsBadAs, IsFirstBad, is_durable}
-use Rattle.cx_node.specs.Ports.{bind_of, sendings}
-use Rattle.cx_node.specs.Run.{node_run}
-use Rattle.cx_node.specs.Serving.{Outside, hosts, told_to}
-use Rattle.cx_node.proofs.ClosedStores.{front_still, part_stores, ran_still, ran_stores, store_rises}
-use Rattle.cx_node.proofs.OpenedRoles.{AreApart, AreTold, get_beside, good_opened, hosts_opened, told_opened}
+use Rattle.cx_node.specs.Ports.{bind_of}
+use Rattle.cx_node.specs.Tending.{node_run}
+use Rattle.cx_node.specs.Serving.{Did, Outside, hosts, told_to}
+use Rattle.cx_node.proofs.Asked.{binds_kept, binds_printed, linked_binds, linked_nothing, linked_then}
+use Rattle.cx_node.proofs.ClosedStores.{ran_still, ran_stores, stops_rises, stops_still, stops_stores, told_whole, unhosted}
+use Rattle.cx_node.proofs.Grown.{before, behind}
+use Rattle.cx_node.proofs.OpenedRoles.{AreApart, AreTold, get_beside, good_opened, hosts_opened, name_is, told_opened}
 use Rattle.cx_node.proofs.SteadySeats.{IsSteady, steady_run}
-use Rattle.cx_node.proofs.StoredRecords.{gives}
+use Rattle.cx_node.proofs.StoredRecords.{gives, take_next}
+use Rattle.cx_node.proofs.Turned.{no_end}
 
-bound_before : (binds : List Bind) (o : Option LinkHistory) (h : LinkHistory) → option_map (with_binds binds) o ≡ Some h → (before : LinkHistory) × (o ≡ Some before) × (h ≡ with_binds binds before)
-bound_before binds None h e = absurd (none-some h e)
-bound_before binds (Some b) h e = (b, refl, sym (same_Some (with_binds binds b) h e))
+-- nothing is kept or printed among binds
+only_kept : (rs : List RoleId) → kept_in (map Bound rs) ≡ []
+only_kept [] = refl
+only_kept (r ∷ rs) = only_kept rs
 
-abbrev asked : Takes → List Sending → LinkHistory → LinkHistory
-asked takes sent h = record h { taken = h.taken ++ takes; sent = h.sent ++ sent }
+only_printed : (rs : List RoleId) → printed_in (map Bound rs) ≡ []
+only_printed [] = refl
+only_printed (r ∷ rs) = only_printed rs
 
-asked_none : (h : LinkHistory) → h ≡ asked [] [] h
-asked_none h = rw (append-nil h.taken, append-nil h.sent) refl
+-- a role that isn't hosted
+abbrev IsUnhosted : List RoleId → RoleId → Type 0
+IsUnhosted roles me = (i : ℕ) → slice_get roles i ≡ Some me → ⊥
 
-module _ (c : Cluster) (events : List Event) (roles : List RoleId) (old new : Outside) where
-  -- only binds were made, and the stores tell what they told
+module _ (tend : Option ℕ) (c : Cluster) (events : List Event) (turns : ℕ) (roles : List RoleId) (old new : Outside) where
+  -- only binds were made, and the stores hold what they held
   pub host_early : (n : ℕ) → new.link ≡ option_map (with_binds (map (bind_of c) (take n roles))) old.link → new.out ≡ old.out
       → (old.tells ≡ true → (i : ℕ) (me : RoleId) → slice_get roles i ≡ Some me → is_durable me.kind ≡ true → told_records (Some (new.held me)) ≡ told_records (Some (old.held me)))
-      → HostEndsEarly roles c events old new
-  host_early n link out stays = (
-    told_to old.held,
-    [],
-    record {
-      told_by = λ t me d. refl;
-      bound = n;
-      taken = 0;
-      sent = 0;
-      link = λ after e. let b = bound_before (map (bind_of c) (take n roles)) old.link after (sym link ∙ e) in (b.0, b.1, b.2 ∙ asked_none (with_binds (map (bind_of c) (take n roles)) b.0));
-      printed = (0, subst (λ o. Appends old.out o []) (sym out) (Appends-nil old.out));
-      stores = λ t i me here durable. (0, stays t i me here durable ∙ sym (append-nil (told_records (Some (old.held me)))));
-    },
-  )
+      → ((me : RoleId) → IsUnhosted roles me → (new.held me ≡ old.held me) × (new.stores me ≡ old.stores me)) → new.tells ≡ old.tells
+      → HostEndsEarly roles tend c events turns old new
+  host_early n link out stays others tells =
+      let told = told_to old.held in
+      let run = (node_run tend c [] (hosts c events told roles)).actions in
+      let k = before (map Bound roles) run n in
+      let only : take k.0 (map Bound roles ++ run) ≡ map Bound (take n roles) = k.1 ∙ take-map Bound n roles in (
+        told,
+        [],
+        record {
+          told_by = λ t me d. refl;
+          count = k.0;
+          did = subst (λ actions. Did roles c actions old new) (sym only) (record {
+            link = linked_binds c (take n roles) old.link new.link link;
+            printed = subst (λ bytes. Appends old.out new.out bytes) (sym (only_printed (take n roles))) (subst (λ o. Appends old.out o []) (sym out) (Appends-nil old.out));
+            stores = λ t i me here durable.
+                stays t i me here durable ∙ sym (append-nil (told_records (Some (old.held me))))
+                ∙ ap (λ ks. told_records (Some (old.held me)) ++ records_of me ks) (sym (only_kept (take n roles)));
+            others = others;
+            tells = tells;
+          });
+        },
+        no_end tend c turns (hosts c events told roles),
+      )
 
   -- not all roles could be opened
-  pub host_unopened : (turns : ℕ) (s : OpenStop) → HostEndsEarly roles c events old new → ((role : RoleId) → s ≡ open_stop.StoreFault role → Rises (old.stores role) (new.stores role))
+  pub host_unopened : (s : OpenStop) → HostEndsEarly roles tend c events turns old new → ((role : RoleId) → s ≡ open_stop.StoreFault role → Rises (old.stores role) (new.stores role))
       → ((role : RoleId) (at : ℕ) → s ≡ open_stop.BadStore role at → old.tells ≡ true → IsFirstBad roles c old.held role at)
       → ((role : RoleId) → (s ≡ open_stop.StoreFault role → ⊥) → new.stores role ≡ old.stores role)
-      → new.writes ≡ old.writes → new.links ≡ old.links → HostAnswered roles c events turns old new (unopened_status s)
-  host_unopened turns s early failed bad stored writes links = record {
+      → new.writes ≡ old.writes → new.links ≡ old.links → HostAnswered roles tend c events turns old new (unopened_status s)
+  host_unopened s early failed bad stored writes links = record {
     did = did s failed bad;
     written = λ no. writes;
     linked = λ no. links;
@@ -82,107 +100,150 @@ module _ (c : Cluster) (events : List Event) (roles : List RoleId) (old new : Ou
       none_ran (open_stop.BadStore role at) run = run
 
       did : (s : OpenStop) → ((role : RoleId) → s ≡ open_stop.StoreFault role → Rises (old.stores role) (new.stores role))
-          → ((role : RoleId) (at : ℕ) → s ≡ open_stop.BadStore role at → old.tells ≡ true → IsFirstBad roles c old.held role at) → HostDid roles c events turns old new (unopened_status s)
+          → ((role : RoleId) (at : ℕ) → s ≡ open_stop.BadStore role at → old.tells ≡ true → IsFirstBad roles c old.held role at) → HostDid roles tend c events turns old new (unopened_status s)
       did open_stop.NoMemory failed bad = early
       did (open_stop.StoreFault role) failed bad = (early, failed role refl)
       did (open_stop.BadStore role at) failed bad = (early, bad role at refl)
 
+-- one record more is kept, and nothing else is done
+kept_more : (actions : List Action) (n : ℕ) (k : KeptRecord) → slice_get actions n ≡ Some (Kept k) → kept_in (take (suc n) actions) ≡ kept_in (take n actions) ++ k ∷ []
+kept_more actions n k next = ap kept_in (take_next actions n (Kept k) next) ∙ flat_map-append kept_as (take n actions) (Kept k ∷ [])
+
+printed_same : (actions : List Action) (n : ℕ) (k : KeptRecord) → slice_get actions n ≡ Some (Kept k) → printed_in (take (suc n) actions) ≡ printed_in (take n actions)
+printed_same actions n k next =
+    ap printed_in (take_next actions n (Kept k) next) ∙ flat_map-append printed_by (take n actions) (Kept k ∷ []) ∙ append-nil (printed_in (take n actions))
+
+linked_same : (c : Cluster) (actions : List Action) (n : ℕ) (k : KeptRecord) (a b : Option LinkHistory) → slice_get actions n ≡ Some (Kept k) → Linked c (take n actions) a b → Linked c (take (suc n) actions) a b
+linked_same c actions n k a b next linked =
+    subst (λ l. Linked c l a b) (sym (take_next actions n (Kept k) next)) (linked_then c (take n actions) (Kept k ∷ []) a b b linked (linked_nothing c b))
+
 module _ {D : Type 0} (seen : D → Option (List ℕ)) (may_leave : D → List ℕ → Type 0) (moment : D → ℕ) (left_since : D → ℕ → List ℕ → Type 0) (disk_faults : D → ℕ)
-    (c : Cluster) (events : List Event) (turns : ℕ) (roles : List RoleId) (old new : Outside) (mid : Option LinkHistory) (mid_links : ℕ) (held_mid : RoleId → List ℕ) (faults : RoleId → ℕ)
+    (tend : Option ℕ) (c : Cluster) (events : List Event) (turns : ℕ) (roles : List RoleId) (old new : Outside) (mid : Option LinkHistory) (mid_links : ℕ) (held_mid : RoleId → List ℕ) (faults : RoleId → ℕ)
     (guests after : List (Guest (JournalState D))) (answer : Result RunEnd Stop)
     (apart : AreApart roles) (all : AreOpened seen disk_faults c events old.tells old.held roles guests) (count : length guests ≡ length roles)
     (link : mid ≡ option_map (with_binds (map (bind_of c) roles)) old.link) (links : mid_links ≡ old.links) (still : (role : RoleId) → faults role ≡ old.stores role)
-    (ran : Ran (gives seen may_leave moment left_since disk_faults) c turns answer
+    (unopened : (me : RoleId) → IsUnhosted roles me → held_mid me ≡ old.held me) (tells : new.tells ≡ old.tells)
+    (ran : Ran (gives seen may_leave moment left_since disk_faults) tend c turns answer
     (scene guests mid old.out) (scene after new.link new.out) mid_links new.links old.writes new.writes)
     (back : GivesBack seen disk_faults after old.tells held_mid new.held faults new.stores) where
   told : AreTold seen disk_faults c events old.tells old.held roles guests
   told = told_opened seen disk_faults c events old.tells old.held roles guests apart all
 
   steady : IsSteady guests after
-  steady = steady_run (gives seen may_leave moment left_since disk_faults) c turns answer
-      (scene guests mid old.out) (scene after new.link new.out) ran.done ran.names ran.part
+  steady = steady_run (gives seen may_leave moment left_since disk_faults) tend c turns answer
+      (scene guests mid old.out) (scene after new.link new.out) ran.done ran.part
 
   same : hosted_in guests ≡ hosts c events told.0 roles
   same = hosts_opened seen disk_faults c events old.tells old.held told.0 roles guests count told.2
 
-  whole : (e : RunEnd) → Runs (gives seen may_leave moment left_since disk_faults) c turns e (scene guests mid old.out) (scene after new.link new.out) → HostEnds roles c events turns e old new
+  others : (me : RoleId) → IsUnhosted roles me → (new.held me ≡ old.held me) × (new.stores me ≡ old.stores me)
+  others me none =
+      let stays = unhosted seen may_leave moment left_since disk_faults c events old.tells old.held held_mid new.held faults new.stores roles guests after named back me none in
+      (stays.0 ∙ unopened me none, stays.1 ∙ still me)
+    where
+      named : (i : ℕ) (h : Guest (JournalState D)) → slice_get after i ≡ Some h → (me : RoleId) × (slice_get roles i ≡ Some me) × (who h ≡ me)
+      named i h at =
+          let g = get_beside after guests i h (sym steady.count) at in
+          let o = all i g.0 g.1 in
+          (o.0, o.1, (steady.each i g.0 h g.1 at).0 ∙ name_is seen disk_faults c events old.tells old.held o.0 g.0 o.2)
+
+  -- each store has these records besides
+  abbrev StoresTell : List KeptRecord → Type 0
+  StoresTell more = old.tells ≡ true → (i : ℕ) (me : RoleId) → slice_get roles i ≡ Some me → is_durable me.kind ≡ true
+      → told_records (Some (new.held me)) ≡ told_records (Some (old.held me)) ++ records_of me more
+
+  -- the binds, and then these actions
+  did_behind : (actions : List Action) → Linked c actions mid new.link → Appends old.out new.out (printed_in actions) → StoresTell (kept_in actions) → Did roles c (map Bound roles ++ actions) old new
+  did_behind actions linked printed stores =
+      record {
+        link = linked_then c (map Bound roles) actions old.link mid new.link (linked_binds c roles old.link mid link) linked;
+        printed = subst (Appends old.out new.out) (sym (binds_printed roles actions)) printed;
+        stores = λ t i me here durable. stores t i me here durable ∙ ap (λ ks. told_records (Some (old.held me)) ++ records_of me ks) (sym (binds_kept roles actions));
+        others = others;
+        tells = tells;
+      }
+
+  whole : (e : RunEnd) → Runs (gives seen may_leave moment left_since disk_faults) tend c turns e (scene guests mid old.out) (scene after new.link new.out) → HostEnds roles tend c events turns e old new
   whole e runs =
       let takes = runs.0 in
-      let does = runs.1 in (
+      let actions = (node_run tend c takes (hosted_in guests)).actions in
+      let did = runs.1.did in (
         told.0,
         takes,
         record {
           told_by = told.1;
-          link = λ last is.
-              let one = does.sent last is in
-              let b = bound_before (map (bind_of c) roles) old.link one.0 (sym link ∙ one.1) in
-              (b.0, b.1, subst (λ hs. last ≡ asked takes (sendings c (node_run c takes hs).sends) (with_binds (map (bind_of c) roles) b.0)) same (one.2 ∙ ap (asked takes (sendings c (node_run c takes (hosted_in guests)).sends)) b.2));
-          printed = subst (λ hs. Appends old.out new.out (node_run c takes hs).text) same does.printed;
-          stores = λ t i me here durable.
-              subst (λ hs. told_records (Some (new.held me)) ≡ told.0 me ++ records_of me (node_run c takes hs).kept) same
-              (ran_stores seen may_leave moment left_since disk_faults c events old.tells old.held held_mid new.held faults new.stores roles guests told.0 told.2 count after steady back
-              (node_run c takes (hosted_in guests)).kept does.kept t i me here durable);
+          told_whole = told_whole seen may_leave moment left_since disk_faults c events old.tells old.held held_mid new.held faults new.stores roles guests told.0 told.2 all count apart (kept_in actions) after did.names did.kept;
+          taken = subst (λ hs. HasTaken takes ((node_run tend c takes hs).actions)) same runs.3;
+          did = subst (λ hs. Did roles c (map Bound roles ++ (node_run tend c takes hs).actions) old new) same
+              (did_behind actions did.link did.printed
+              (ran_stores seen may_leave moment left_since disk_faults c events old.tells old.held held_mid new.held faults new.stores roles guests told.0 told.2 all count apart (kept_in actions) after did.names did.kept back));
         },
-        subst (λ hs. IsEnd c turns hs takes e) same runs.2,
+        subst (λ hs. IsEnd tend c turns hs takes e) same runs.2,
       )
 
-  front : RunsPart (gives seen may_leave moment left_since disk_faults) (fails_by answer) c turns (scene guests mid old.out) (scene after new.link new.out)
-      → HostEndsEarly roles c events old new
-  front runs =
+  -- the actions before it stopped; one more, where an append failed that left its record
+  cut : (actions : List Action) (n : ℕ) → StoresTell (kept_in (take n actions)) ⊎ ((k : KeptRecord) × (slice_get actions n ≡ Some (Kept k)) × StoresTell (kept_in (take n actions) ++ k ∷ []))
+      → Linked c (take n actions) mid new.link → Appends old.out new.out (printed_in (take n actions)) → (m : ℕ) × Did roles c (map Bound roles ++ take m actions) old new
+  cut actions n (inl stores) linked printed = (n, did_behind (take n actions) linked printed stores)
+  cut actions n (inr more) linked printed = (
+    suc n,
+    did_behind (take (suc n) actions) (linked_same c actions n more.0 mid new.link more.1 linked) (subst (Appends old.out new.out) (sym (printed_same actions n more.0 more.1)) printed)
+        (subst StoresTell (sym (kept_more actions n more.0 more.1)) more.2),
+  )
+
+  front : (e : Stop) → RunsPart (gives seen may_leave moment left_since disk_faults) e tend c turns (scene guests mid old.out) (scene after new.link new.out)
+      → HostEndsEarly roles tend c events turns old new
+  front e runs =
       let takes = runs.0 in
-      let does = runs.3 in (
+      let p = runs.2 in
+      let actions = (node_run tend c takes (hosted_in guests)).actions in
+      let part = cut actions p.count (stops_stores seen may_leave moment left_since disk_faults c events old.tells old.held held_mid new.held faults new.stores roles guests told.0 told.2 all count apart
+      (kept_in (take p.count actions)) p.mid p.did.names p.did.kept after back e (slice_get actions p.count) p.stops) p.did.link p.did.printed in
+      let k = behind (map Bound roles) actions part.0 in (
         told.0,
         takes,
         record {
           told_by = told.1;
-          bound = length roles;
-          taken = runs.1;
-          sent = does.sent.0;
-          link = λ last is.
-              let one = does.sent.1 last is in
-              let b = bound_before (map (bind_of c) roles) old.link one.0 (sym link ∙ one.1) in (
-                b.0,
-                b.1,
-                subst (λ hs. last ≡ asked (take runs.1 takes) (sendings c (take does.sent.0 (node_run c takes hs).sends)) (with_binds (map (bind_of c) (take (length roles) roles)) b.0)) same
-                    (one.2 ∙ ap (asked (take runs.1 takes) (sendings c (take does.sent.0 (node_run c takes (hosted_in guests)).sends))) (b.2 ∙ ap (λ rs. with_binds (map (bind_of c) rs) b.0) (sym (take_all (length roles) roles (le_refl (length roles)))))),
-              );
-          printed = subst (λ hs. AppendsPart old.out new.out (node_run c takes hs).text) same does.printed;
-          stores = λ t i me here durable.
-              subst (λ hs. (n : ℕ) × (told_records (Some (new.held me)) ≡ told_records (Some (old.held me)) ++ take n (records_of me (node_run c takes hs).kept))) same
-              (part_stores seen may_leave moment left_since disk_faults c events old.tells old.held held_mid new.held faults new.stores roles guests told.0 told.2 count after steady back
-              (node_run c takes (hosted_in guests)).kept (fails_by answer) does.kept t i me here durable);
+          count = k.0;
+          did = subst (λ hs. Did roles c (take k.0 (map Bound roles ++ (node_run tend c takes hs).actions)) old new) same (subst (λ l. Did roles c l old new) (sym k.1) part.1);
         },
+        subst (λ hs. IsUnderway tend c turns hs takes) same runs.1,
       )
 
-  did_so : (a : Result RunEnd Stop) → answer ≡ a → HostDid roles c events turns old new (ended_status a)
-  did_so (Ok end.Done) e = whole end.Done (subst (λ a. IfOk a (λ x. Runs (gives seen may_leave moment left_since disk_faults) c turns x (scene guests mid old.out) (scene after new.link new.out))) e ran.done)
-  did_so (Ok end.Turns) e = whole end.Turns (subst (λ a. IfOk a (λ x. Runs (gives seen may_leave moment left_since disk_faults) c turns x (scene guests mid old.out) (scene after new.link new.out))) e ran.done)
-  did_so (Err s) e = stopped s e (front (subst (λ a. OnErr a (RunsPart (gives seen may_leave moment left_since disk_faults) (fails_by answer) c turns
-      (scene guests mid old.out) (scene after new.link new.out))) e ran.part))
+  did_so : (a : Result RunEnd Stop) → answer ≡ a → HostDid roles tend c events turns old new (ended_status a)
+  did_so (Ok end.Done) e = whole end.Done (subst (λ a. IfOk a (λ x. Runs (gives seen may_leave moment left_since disk_faults) tend c turns x (scene guests mid old.out) (scene after new.link new.out))) e ran.done)
+  did_so (Ok end.Turns) e = whole end.Turns (subst (λ a. IfOk a (λ x. Runs (gives seen may_leave moment left_since disk_faults) tend c turns x (scene guests mid old.out) (scene after new.link new.out))) e ran.done)
+  did_so (Err s) e =
+      let runs = subst (λ a. IfErr a (λ x. RunsPart (gives seen may_leave moment left_since disk_faults) x tend c turns (scene guests mid old.out) (scene after new.link new.out))) e ran.part in
+      stopped s e runs (front s runs)
     where
-      stopped : (s : Stop) → answer ≡ Err s → HostEndsEarly roles c events old new → HostDid roles c events turns old new (ended_status (Err s))
-      stopped stop.NoMemory e early = early
-      stopped stop.WriteFault e early = (early, ran.written e)
-      stopped stop.LinkFault e early = (early, subst (λ n. Rises n new.links) links (ran.linked e))
-      stopped (stop.StoreFault role) e early =
-          let fails = ran.store role e in (
+      stopped : (s : Stop) → answer ≡ Err s → RunsPart (gives seen may_leave moment left_since disk_faults) s tend c turns (scene guests mid old.out) (scene after new.link new.out)
+          → HostEndsEarly roles tend c events turns old new → HostDid roles tend c events turns old new (ended_status (Err s))
+      stopped stop.NoMemory e runs early = early
+      stopped stop.WriteFault e runs early = (early, ran.written e)
+      stopped stop.LinkFault e runs early = (early, subst (λ n. Rises n new.links) links (ran.linked e))
+      stopped (stop.StoreFault role) e runs early =
+          let p = runs.2 in
+          let actions = (node_run tend c runs.0 (hosted_in guests)).actions in (
             early,
             subst (λ n. Rises n (new.stores role)) (still role)
-                (store_rises seen may_leave moment left_since disk_faults c events old.tells old.held held_mid new.held faults new.stores roles guests told.0 told.2 count after steady back
-                (node_run c fails.0 (hosted_in guests)).kept all role fails.1),
+                (stops_rises seen may_leave moment left_since disk_faults c events old.tells old.held held_mid new.held faults new.stores roles guests told.0 told.2 all count apart
+                (kept_in (take p.count actions)) p.mid p.did.names p.did.kept after back role (slice_get actions p.count) p.stops),
           )
 
   -- the count of each role stands, but of one whose store failed
   stored_so : (a : Result RunEnd Stop) → answer ≡ a → (role : RoleId) → (ended_status answer ≡ status.StoreFault role → ⊥) → new.stores role ≡ old.stores role
   stored_so (Ok e) is role unsaid =
-      let runs = subst (λ a. IfOk a (λ x. Runs (gives seen may_leave moment left_since disk_faults) c turns x (scene guests mid old.out) (scene after new.link new.out))) is ran.done in
-      ran_still seen may_leave moment left_since disk_faults c events old.tells old.held held_mid new.held faults new.stores roles guests told.0 told.2 count after steady back
-      (node_run c runs.0 (hosted_in guests)).kept all runs.1.kept role
+      let runs = subst (λ a. IfOk a (λ x. Runs (gives seen may_leave moment left_since disk_faults) tend c turns x (scene guests mid old.out) (scene after new.link new.out))) is ran.done in
+      let actions = (node_run tend c runs.0 (hosted_in guests)).actions in
+      ran_still seen may_leave moment left_since disk_faults c events old.tells old.held held_mid new.held faults new.stores roles guests told.0 told.2 all count apart (kept_in actions) after runs.1.did.names runs.1.did.kept back role
       ∙ still role
   stored_so (Err s) is role unsaid =
-      let runs = subst (λ a. OnErr a (RunsPart (gives seen may_leave moment left_since disk_faults) (fails_by answer) c turns (scene guests mid old.out) (scene after new.link new.out))) is ran.part in
-      front_still seen may_leave moment left_since disk_faults c events old.tells old.held held_mid new.held faults new.stores roles guests told.0 told.2 count after steady back
-      (node_run c runs.0 (hosted_in guests)).kept (fails_by answer) all runs.3.kept role (λ e. unsaid (ap ended_status e))
+      let runs = subst (λ a. IfErr a (λ x. RunsPart (gives seen may_leave moment left_since disk_faults) x tend c turns (scene guests mid old.out) (scene after new.link new.out))) is ran.part in
+      let p = runs.2 in
+      let actions = (node_run tend c runs.0 (hosted_in guests)).actions in
+      stops_still seen may_leave moment left_since disk_faults c events old.tells old.held held_mid new.held faults new.stores roles guests told.0 told.2 all count apart
+      (kept_in (take p.count actions)) p.mid p.did.names p.did.kept after back s (slice_get actions p.count) p.stops role (λ e. unsaid (ap ended_status (is ∙ ap Err e)))
       ∙ still role
 
   -- each store was its role's own
@@ -193,7 +254,7 @@ module _ {D : Type 0} (seen : D → Option (List ℕ)) (may_leave : D → List �
       good_opened seen disk_faults c events old.tells old.held o.0 g.0 at o.2 t (subst (λ r. IsBadAs c r (old.held r) at r.kind) (same_Some role o.0 (sym here ∙ o.1)) bad)
 
   -- the roles ran to this answer
-  pub host_ran : HostAnswered roles c events turns old new (ended_status answer)
+  pub host_ran : HostAnswered roles tend c events turns old new (ended_status answer)
   host_ran = record {
     did = did_so answer refl;
     written = λ no. ran.unwritten (λ e. no (ap ended_status e));

@@ -39,7 +39,7 @@ without_last me (r ∷ rest) none = elim (cases_Bool (same_role me r)) [
     true_is_false : true ≡ false → ⊥
     true_is_false e = cc
 
--- the records that stores tell stay, where the one that was given back has the same image
+-- the records of stores stay, where the one that was given back has the same image
 pub told_stay : {S : Type 0} (seen : S → Option (List ℕ)) (lent back : S) (me : RoleId) (before after : RoleId → List ℕ)
     → seen lent ≡ Some (before me) → is_some (seen back) ≡ is_some (seen lent)
     → ((file now : List ℕ) → seen lent ≡ Some file → seen back ≡ Some now → SameImage now file)

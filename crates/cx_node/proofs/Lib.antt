@@ -6,7 +6,6 @@ pub mod Grown
 pub mod Asked
 pub mod Done
 pub mod Acted
-pub mod Stepped
 pub mod Seated
 pub mod Turned
 pub mod Grids
@@ -27,3 +26,5 @@ pub mod ClosedStores
 pub mod HostedRuns
 pub mod Answering
 pub mod Actions
+pub mod Tended
+pub mod Vain

@@ -1,4 +1,4 @@
--- Roles that were opened: they are who they were named to be, they may run, and what was told to each.
+-- Roles that were opened: they are who they were named to be, they may run, and what each was opened from.
 use Rattle.std.proofs.Common.{◌≡◌, ℕ, zero, suc, arith, Bool, true, false, List, [], ◌∷◌, length, map, Option, None, Some, option_map, Ok, Err, refl, sym, ap, ◌∙◌, subst, inl, inr, if◌then◌else◌}
 use Rattle.std.specs.Prelude.{slice_get, IsTrue}
 use Rattle.std.specs.List.{list_all}
@@ -9,6 +9,7 @@ use Rattle.cx_base.specs.declared.role.Kind.{Kind}
 use Rattle.cx_base.specs.declared.role.Kind.TheVariants.{Client, Batcher, Leader, Proxy, Acceptor, Matchmaker, Replica, Unbatcher, Reader}
 use Rattle.cx_base.specs.declared.role.RoleId.{RoleId}
 use Rattle.cx_base.specs.Role.{same_role}
+use Rattle.cx_inv_open.specs.Reopened.{refused_as}
 use Rattle.cx_journal.specs.Image.{Image, image}
 use Rattle.cx_journal.specs.State.{JournalState, records_or_none}
 use Rattle.cx_journal.proofs.Payloads.{both_so}
@@ -23,7 +24,7 @@ use Rattle.cx_msg.specs.declared.kept.Record.{Record}
 use Rattle.cx_node.specs.declared.guest.Guest.{Guest}
 use Rattle.cx_node.specs.Guest.{AreDistinct, AreReady, hosted_in, hosted_of, keeper_of, who}
 use Rattle.cx_node.specs.Hosted.{Hosted, is_live, name_of}
-use Rattle.cx_node.specs.Opening.{AreOpened, HasJournal, HasRecords, IsBadAs, IsOpened, is_durable, opened_as, refused_as}
+use Rattle.cx_node.specs.Opening.{AreOpened, HasJournal, HasRecords, IsBadAs, IsOpened, is_durable, opened_as}
 use Rattle.cx_node.specs.Serving.{hosts, told_to}
 use Rattle.cx_node.specs.Wake.{IsBadStore}
 
@@ -150,18 +151,18 @@ module _ {D : Type 0} (seen : D → Option (List ℕ)) (disk_faults : D → ℕ)
     distinct = distinct_opened roles guests apart all;
   }
 
-  -- these records were told to a role as it was opened
+  -- a role was opened from these records
   abbrev pub IsOpenedFrom : List Record → RoleId → Guest (JournalState D) → Type 0
   IsOpenedFrom records me guest = (o : IsOpened seen disk_faults c events tells (held me) me guest) × (o.records ≡ records)
 
-  -- each role of a list was opened from what was told to it
+  -- each role of a list was opened from its records
   abbrev pub AreOpenedFrom : (RoleId → List Record) → List RoleId → List (Guest (JournalState D)) → Type 0
   AreOpenedFrom told roles guests = (i : ℕ) (me : RoleId) (guest : Guest (JournalState D)) → slice_get roles i ≡ Some me → slice_get guests i ≡ Some guest → IsOpenedFrom (told me) me guest
 
   abbrev first_told : RoleId → List Record → (RoleId → List Record) → RoleId → List Record
   first_told r records told me = if same_role me r then records else told me
 
-  -- what was told to each role; where the depot tells, it is what that holds
+  -- what each role was opened from; where it is known, it is what the depot holds
   abbrev pub AreTold : List RoleId → List (Guest (JournalState D)) → Type 0
   AreTold roles guests = (told : RoleId → List Record) × (tells ≡ true → (me : RoleId) → is_durable me.kind ≡ true → told me ≡ told_to held me) × AreOpenedFrom told roles guests
 

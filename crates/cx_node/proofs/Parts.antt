@@ -11,34 +11,37 @@ use Rattle.cx_msg.specs.declared.fault.WireFault.{WireFault}
 use Rattle.cx_msg.specs.declared.fault.WireFault.TheVariants as faults
 use Rattle.cx_msg.specs.declared.input.Input.TheVariants as input
 use Rattle.cx_role.specs.Role.{Appending}
+use Rattle.cx_node.specs.declared.come.Come.{Come}
+use Rattle.cx_node.specs.declared.come.Come.TheVariants as come
 use Rattle.cx_node.specs.declared.doing.Doing.{Doing}
 use Rattle.cx_node.specs.declared.doing.Doing.TheVariants.{Give}
 use Rattle.cx_node.specs.declared.guest.Guest.{Guest}
 use Rattle.cx_node.specs.declared.node.Stop.{Stop}
 use Rattle.cx_node.specs.declared.node.Stop.TheVariants.{LinkFault, NoMemory, StoreFault, WriteFault}
-use Rattle.cx_node.specs.Acts.{Acts, ActsOnce, Receives, letter_in, read_as}
+use Rattle.cx_node.specs.Acts.{Acts, ActsOnce, Receives, come_of, read_as}
 use Rattle.cx_node.specs.Doing.{Scene, scene}
 use Rattle.cx_node.specs.Guest.{AreReady, hosted_in}
-use Rattle.cx_node.specs.Hosted.{Hosted, Moved, stays}
-use Rattle.cx_node.specs.Run.{all_do, at_place, comes, decoded_come, does_at, first_do, grid_of, idle_at, lead_at, ordered, place_of, then_do, ticked, turn}
-use Rattle.cx_node.proofs.Actions.{Done, acts_before, acts_none, acts_nothing, acts_then, acts_took, no_link_of_store, no_memory_of_store}
+use Rattle.cx_node.specs.Hosted.{Hosted}
+use Rattle.cx_node.specs.Run.{Moved, stays, took, all_do, at_place, comes, decoded_come, does_at, first_do, grid_of, idle_at, lead_at, ordered, place_of, then_do, ticked, turn}
+use Rattle.cx_node.proofs.Actions.{Done, acts_before, acts_cut, acts_none, acts_nothing, acts_then, acts_took}
 
--- what comes of a datagram, if there is one
-abbrev letter_comes : Option Letter → List Hosted → Moved (List Hosted)
-letter_comes None hs = stays hs
-letter_comes (Some d) hs = at_place (place_of d.to hs) (Give (input.Take d)) hs
+-- what comes of what a take gave
+abbrev pub letter_comes : Come → List Hosted → Moved (List Hosted)
+letter_comes come.Nothing hs = stays hs
+letter_comes come.Foreign hs = stays hs
+letter_comes (come.Letter d) hs = at_place (place_of d.to hs) (Give (input.Take d)) hs
 
 read_comes : (r : Result Letter WireFault) (hs : List Hosted) → decoded_come r hs ≡ letter_comes (read_as r) hs
 read_comes (Ok d) hs = refl
 read_comes (Err fault) hs = refl
 
-comes_is : (what : Option (List ℕ)) (hs : List Hosted) → comes what hs ≡ letter_comes (letter_in what) hs
+comes_is : (what : Option (List ℕ)) (hs : List Hosted) → comes what hs ≡ took what (letter_comes (come_of what) hs)
 unfolding comes
 comes_is None hs = refl
-comes_is (Some bytes) hs = read_comes (decoded bytes) hs
+comes_is (Some bytes) hs = ap (took (Some bytes)) (read_comes (decoded bytes) hs)
 
 -- bytes that are no datagram
-pub none_read : (bytes : List ℕ) (e : WireFault) → (e ≡ faults.NoMemory → ⊥) → Decodes (Err e) (decoded bytes) → letter_in (Some bytes) ≡ None
+pub none_read : (bytes : List ℕ) (e : WireFault) → (e ≡ faults.NoMemory → ⊥) → Decodes (Err e) (decoded bytes) → come_of (Some bytes) ≡ come.Foreign
 none_read bytes faults.NoMemory other h = absurd (other refl)
 none_read bytes (faults.Short need have) other h = ap read_as h
 none_read bytes faults.Magic other h = ap read_as h
@@ -91,24 +94,24 @@ module _ {K : Type 0} (gives : Appending K) (c : Cluster) where
       subst (λ (t : Bool). Acts gives c [] (if t then all_do (Give input.Tick) hs else stays hs) (Ok tt) a a) (sym none) (acts_nothing gives c a ready)
 
   -- a datagram came, or none
-  pub take_some : (d : Letter) (gs : List (Guest K)) (link mid : Option LinkHistory) (out : Option (List ℕ)) (r : Done) (b : Scene K) → AreReady c gs → Receives link mid (Ok (Some d))
+  pub take_some : (d : Letter) (gs : List (Guest K)) (link mid : Option LinkHistory) (out : Option (List ℕ)) (r : Done) (b : Scene K) → AreReady c gs → Receives link mid (Ok (come.Letter d))
       → Acts gives c [] (at_place (place_of d.to (hosted_in gs)) (Give (input.Take d)) (hosted_in gs)) r (scene gs mid out) b
       → ActsOnce gives c (λ what. comes what (hosted_in gs)) r (scene gs link out) b
   take_some d gs link mid out r b ready got p =
       let hs = hosted_in gs in
       let what = got.0 in (
         what,
-        subst (λ (m : Moved (List Hosted)). Acts gives c (what ∷ []) m r (scene gs link out) b) (sym (comes_is what hs ∙ ap (λ o. letter_comes o hs) got.2))
-            (acts_then gives c (what ∷ []) [] (stays hs) (λ after. at_place (place_of d.to after) (Give (input.Take d)) after) r (scene gs link out) (scene gs mid out) b (acts_took gives c what gs link mid out got.1 ready) p),
+        subst (λ (m : Moved (List Hosted)). Acts gives c (what ∷ []) m r (scene gs link out) b) (sym (comes_is what hs ∙ ap (λ o. took what (letter_comes o hs)) got.2))
+            (acts_then gives c (what ∷ []) [] (took what (stays hs)) (λ after. at_place (place_of d.to after) (Give (input.Take d)) after) r (scene gs link out) (scene gs mid out) b (acts_took gives c what gs link mid out got.1 ready) p),
       )
 
-  pub take_none : (gs : List (Guest K)) (link mid : Option LinkHistory) (out : Option (List ℕ)) → AreReady c gs → Receives link mid (Ok None)
+  pub take_none : (o : Come) (gs : List (Guest K)) (link mid : Option LinkHistory) (out : Option (List ℕ)) → letter_comes o (hosted_in gs) ≡ stays (hosted_in gs) → AreReady c gs → Receives link mid (Ok o)
       → ActsOnce gives c (λ what. comes what (hosted_in gs)) (Ok tt) (scene gs link out) (scene gs mid out)
-  take_none gs link mid out ready got =
+  take_none o gs link mid out none ready got =
       let hs = hosted_in gs in
       let what = got.0 in (
         what,
-        subst (λ (m : Moved (List Hosted)). Acts gives c (what ∷ []) m (Ok tt) (scene gs link out) (scene gs mid out)) (sym (comes_is what hs ∙ ap (λ o. letter_comes o hs) got.2))
+        subst (λ (m : Moved (List Hosted)). Acts gives c (what ∷ []) m (Ok tt) (scene gs link out) (scene gs mid out)) (sym (comes_is what hs ∙ ap (λ x. took what (letter_comes x hs)) got.2 ∙ ap (took what) none))
             (acts_took gives c what gs link mid out got.1 ready),
       )
 
@@ -117,13 +120,15 @@ module _ {K : Type 0} (gives : Appending K) (c : Cluster) where
   take_stops gs link mid out LinkFault ready got = (
     None,
     subst (λ k. Acts gives c (None ∷ []) (comes None (hosted_in gs)) (Err LinkFault) (scene gs link out) (scene gs k out)) (sym got)
-        (acts_none gives c (None ∷ []) (comes None (hosted_in gs)) LinkFault (scene gs link out) no_link_of_store),
+        (subst (λ (m : Moved (List Hosted)). Acts gives c (None ∷ []) m (Err LinkFault) (scene gs link out) (scene gs link out)) (sym (comes_is None (hosted_in gs)))
+        (acts_cut gives c (None ∷ []) (stays (hosted_in gs)) (scene gs link out))),
   )
   take_stops gs link mid out NoMemory ready got =
       let what = got.0 in (
         what,
-        acts_then gives c (what ∷ []) [] (stays (hosted_in gs)) (λ after. comes what after) (Err NoMemory) (scene gs link out) (scene gs mid out) (scene gs mid out)
-            (acts_took gives c what gs link mid out got.1 ready) (acts_none gives c [] (comes what (hosted_in gs)) NoMemory (scene gs mid out) no_memory_of_store),
+        subst (λ (m : Moved (List Hosted)). Acts gives c (what ∷ []) m (Err NoMemory) (scene gs link out) (scene gs mid out)) (sym (comes_is what (hosted_in gs)))
+            (acts_then gives c (what ∷ []) [] (took what (stays (hosted_in gs))) (λ after. letter_comes (come_of what) after) (Err NoMemory) (scene gs link out) (scene gs mid out) (scene gs mid out)
+            (acts_took gives c what gs link mid out got.1 ready) (acts_none gives c [] (letter_comes (come_of what) (hosted_in gs)) (scene gs mid out))),
       )
   take_stops gs link mid out WriteFault ready got = absurd got
   take_stops gs link mid out (StoreFault role) ready got = absurd got

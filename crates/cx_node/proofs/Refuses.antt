@@ -1,4 +1,4 @@
--- What bytes are refused for stays the refusal of all that come behind them, and more bytes than an input has are refused.
+-- What bytes are refused for stays the refusal of all that come after them, and more bytes than an input has are refused.
 use Rattle.std.proofs.Common.{◌≡◌, ◌⊎◌, inl, inr, ◌≤◌, ◌<◌, ◌+◌, ◌++◌, ℕ, Bool, true, false, List, length, refl, sym, ap, ◌∙◌, subst, arith, if◌then◌else◌, Option, Some, None, Result, Ok, Err}
 use Rattle.std.specs.Prelude.{IfSome, IfErr}
 use Rattle.std.specs.List.{list_all}
@@ -45,7 +45,7 @@ behind_stays : (roles : List RoleId) (said : Result Cluster ClusterFault) (ls : 
 behind_stays roles (Err fault) ls last more free last_free = λ why is. is
 behind_stays roles (Ok c) ls last more free last_free = port_stays roles c c.base_port ls last more free last_free
 
--- what is heard of a header in the bytes that count, with those behind it
+-- what is heard of a header in the bytes that count, with those after it
 abbrev heard_in : Cut → Bool → Heard
 heard_in cut long = of_header cut (if long then BadHeader else Nothing)
 
@@ -91,7 +91,7 @@ taken_length roles bytes good =
       long = λ good. subst IsSome good tt;
     }) bytes good
 
--- what holds of the bytes that were read, whatever comes behind them, holds of all
+-- what holds of the bytes that were read, whatever comes after them, holds of all
 of_all : (left left_after : Option (List ℕ)) (bytes : List ℕ) (P : List ℕ → Type 0) → Consumes left left_after bytes → ((more : List ℕ) → P (bytes ++ more)) → IfSome left P
 of_all None left_after bytes P consumed each = tt
 of_all (Some all) None bytes P consumed each = absurd consumed

@@ -1,7 +1,8 @@
 -- What a role at its place does, seen of all roles: the others stay as they are, since no two have one name.
-use Rattle.std.proofs.Common.{◌≡◌, ◌⊎◌, ◌==◌, ℕ, zero, suc, true, false, List, [], ◌∷◌, length, length-set, map, IsTrue, Option, Some, option_map, Ok, Err, slice_get, slice_set, refl, sym, ap, ◌∙◌, subst, inl, inr}
-use Rattle.std.proofs.lemmas.List.{length-map, map-set}
-use Rattle.std.proofs.lemmas.Option.{same_Some, slice_get-map}
+use Rattle.std.proofs.Common.{◌≡◌, ◌⊎◌, ◌==◌, ℕ, zero, suc, true, false, List, [], ◌∷◌, ◌++◌, length, length-set, map, take, IsTrue, Option, None, Some, option_map, Ok, Err, slice_get, slice_set, if◌then◌else◌, append-nil, refl, sym, ap, ◌∙◌, subst, inl, inr}
+use Rattle.std.proofs.KnownBytes.{Appends-nil}
+use Rattle.std.proofs.lemmas.List.{length-map, map-set, take-map}
+use Rattle.std.proofs.lemmas.Option.{none-some, same_Some, slice_get-map}
 use Rattle.std.specs.Io.KnownBytes.{Appends}
 use Rattle.cx_base.specs.Role.{same_role}
 use Rattle.cx_base.specs.declared.cluster.Cluster.{Cluster}
@@ -11,7 +12,7 @@ use Rattle.cx_edge.specs.Sink.{AppendsPart}
 use Rattle.cx_model.specs.Acceptor.{acceptor_rules}
 use Rattle.cx_model.specs.Batcher.{batcher_rules}
 use Rattle.cx_model.specs.Leader.{leader_rules}
-use Rattle.cx_model.specs.Lists.{bool_cases, differ_role, get_set_other, get_set_same, not_both, number_itself, records_other, same_number}
+use Rattle.cx_model.specs.Lists.{bool_cases, differ_role, get_set_other, get_set_same, not_both, number_itself, records_other, same_number, same_role-itself}
 use Rattle.cx_model.specs.Matchmaker.{matchmaker_rules}
 use Rattle.cx_model.specs.Names.{names_role}
 use Rattle.cx_model.specs.Proxy.{proxy_rules}
@@ -19,23 +20,26 @@ use Rattle.cx_model.specs.Reader.{reader_rules}
 use Rattle.cx_model.specs.Replica.{replica_rules}
 use Rattle.cx_model.specs.Rules.{outcome_of}
 use Rattle.cx_model.specs.Unbatcher.{unbatcher_rules}
-use Rattle.cx_model.specs.World.{records_of}
+use Rattle.cx_model.specs.World.{kept_by, records_of}
 use Rattle.cx_msg.specs.Letter.{Letter}
 use Rattle.cx_msg.specs.declared.input.Input.TheVariants as input
+use Rattle.cx_msg.specs.declared.input.KeptRecord.{KeptRecord}
+use Rattle.cx_msg.specs.declared.kept.Record.{Record}
 use Rattle.cx_role.specs.Role.{Appending}
 use Rattle.cx_node.specs.declared.doing.Doing.{Doing}
 use Rattle.cx_node.specs.declared.doing.Doing.TheVariants.{Begin, Give}
 use Rattle.cx_node.specs.declared.guest.Guest.{Guest}
 use Rattle.cx_node.specs.declared.node.Stop.{Stop}
-use Rattle.cx_node.specs.declared.node.Stop.TheVariants.{StoreFault}
-use Rattle.cx_node.specs.Acts.{Acts, fails_by}
-use Rattle.cx_node.specs.Doing.{Asks, AsksPart, scene}
-use Rattle.cx_node.specs.Guest.{AreDistinct, AreReady, Grows, GuestFails, GuestGrows, GuestGrowsPart, IsReady, hosted_in, hosted_of, keeper_of, who}
-use Rattle.cx_node.specs.Hosted.{Hosted, Moved, ClientAt, BatcherAt, LeaderAt, ProxyAt, AcceptorAt, MatchmakerAt, ReplicaAt, UnbatcherAt, ReaderAt, does, is_live, name_of}
-use Rattle.cx_node.specs.Run.{does_at, found_does, put_back}
-use Rattle.cx_node.proofs.Actions.{error_or, not_failed}
-use Rattle.cx_node.proofs.Done.{same_at, stands_at}
-use Rattle.cx_node.proofs.Grown.{grows_none, guest_nothing}
+use Rattle.cx_node.specs.declared.node.Stop.TheVariants as stop
+use Rattle.cx_node.specs.Action.{Action, Kept, Printed, Sent, step_actions}
+use Rattle.cx_node.specs.Acts.{Acts}
+use Rattle.cx_node.specs.Doing.{Asks, AsksPart, Did, DidPart, GuestsGrow, scene}
+use Rattle.cx_node.specs.Guest.{AreDistinct, AreReady, FailsIn, Grows, GuestGrows, IsReady, Rests, hosted_in, hosted_of, keeper_of, who}
+use Rattle.cx_node.specs.Hosted.{Hosted, Step, ClientAt, BatcherAt, LeaderAt, ProxyAt, AcceptorAt, MatchmakerAt, ReplicaAt, UnbatcherAt, ReaderAt, does, is_live, name_of}
+use Rattle.cx_node.specs.Run.{Moved, does_at, found_does, put_back}
+use Rattle.cx_node.proofs.Asked.{linked_step, step_bound, step_kept, step_printed, step_taken}
+use Rattle.cx_node.proofs.Done.{did_nothing, guests_rest, rests_itself, same_at, stands_at}
+use Rattle.cx_node.proofs.Grown.{before, behind, grows_none}
 
 -- what a role keeps is its own
 kept_own : (h : Hosted) (what : Doing) (me : RoleId) → same_role me (name_of h) ≡ false → records_of me (does h what).kept ≡ []
@@ -60,6 +64,58 @@ kept_own (MatchmakerAt s) (Give i) me e = records_other me s.me [] (outcome_of m
 kept_own (ReplicaAt s) (Give i) me e = records_other me s.me [] (outcome_of replica_rules s i).kept e
 kept_own (UnbatcherAt s) (Give i) me e = records_other me s.me [] (outcome_of unbatcher_rules s i).kept e
 kept_own (ReaderAt s) (Give i) me e = records_other me s.me [] (outcome_of reader_rules s i).kept e
+
+-- the record that a step keeps is its first action
+first_of : (me : RoleId) (o : Option Record) (r : Record) (more : List Action) → slice_get (records_of me (kept_by me o)) 0 ≡ Some r → slice_get (map Kept (kept_by me o) ++ more) 0 ≡ Some (Kept (record { role = me; what = r }))
+first_of me None r more e = absurd (none-some r e)
+first_of me (Some x) r more e = ap (λ y. Some (Kept (record { role = me; what = y }))) (same_Some x r (sym (own (same_role-itself me)) ∙ e))
+  where
+    own : same_role me me ≡ true → slice_get (if same_role me me then x ∷ [] else []) 0 ≡ Some x
+    own is = rw is refl
+
+kept_first : (h : Hosted) (what : Doing) (r : Record) (more : List Action) → slice_get (records_of (name_of h) (does h what).kept) 0 ≡ Some r
+    → slice_get (map Kept (does h what).kept ++ more) 0 ≡ Some (Kept (record { role = name_of h; what = r }))
+unfolding does
+kept_first (ClientAt s) Begin r more e = absurd (none-some r e)
+kept_first (BatcherAt s) Begin r more e = absurd (none-some r e)
+kept_first (LeaderAt s) Begin r more e = absurd (none-some r e)
+kept_first (ProxyAt s) Begin r more e = absurd (none-some r e)
+kept_first (AcceptorAt s) Begin r more e = absurd (none-some r e)
+kept_first (MatchmakerAt s) Begin r more e = absurd (none-some r e)
+kept_first (ReplicaAt s) Begin r more e = absurd (none-some r e)
+kept_first (UnbatcherAt s) Begin r more e = absurd (none-some r e)
+kept_first (ReaderAt s) Begin r more e = absurd (none-some r e)
+kept_first (ClientAt s) (Give (input.Take d)) r more e = absurd (none-some r e)
+kept_first (ClientAt s) (Give input.Tick) r more e = absurd (none-some r e)
+kept_first (ClientAt s) (Give (input.Order order)) r more e = absurd (none-some r e)
+kept_first (BatcherAt s) (Give i) r more e = first_of s.me (outcome_of batcher_rules s i).kept r more e
+kept_first (LeaderAt s) (Give i) r more e = first_of s.me (outcome_of leader_rules s i).kept r more e
+kept_first (ProxyAt s) (Give i) r more e = first_of s.me (outcome_of proxy_rules s i).kept r more e
+kept_first (AcceptorAt s) (Give i) r more e = first_of s.me (outcome_of acceptor_rules s i).kept r more e
+kept_first (MatchmakerAt s) (Give i) r more e = first_of s.me (outcome_of matchmaker_rules s i).kept r more e
+kept_first (ReplicaAt s) (Give i) r more e = first_of s.me (outcome_of replica_rules s i).kept r more e
+kept_first (UnbatcherAt s) (Give i) r more e = first_of s.me (outcome_of unbatcher_rules s i).kept r more e
+kept_first (ReaderAt s) (Give i) r more e = first_of s.me (outcome_of reader_rules s i).kept r more e
+
+-- an append that failed was of some record
+fails_some : {K : Type 0} (gives : Appending K) (o : Option Record) (a b : Option K) → FailsIn gives o a b → (r : Record) × (o ≡ Some r) × FailsIn gives (Some r) a b
+fails_some gives None None b f = absurd f
+fails_some gives None (Some a) None f = absurd f
+fails_some gives None (Some a) (Some b) f = absurd f
+fails_some gives (Some r) a b f = (r, refl, f)
+
+-- where the actions of a step end that are done before it stops between its datagrams, or within its text
+cut_sends : (ks : List KeptRecord) (ls : List Letter) (bs : List ℕ) (n : ℕ) → (k : ℕ) × (take k (step_actions ks ls bs) ≡ step_actions ks (take n ls) [])
+cut_sends ks ls bs n =
+    let j = before (map Sent ls) (map Printed bs) n in
+    let k = behind (map Kept ks) (map Sent ls ++ map Printed bs) j.0 in
+    (k.0, k.1 ∙ ap (λ xs. map Kept ks ++ xs) (j.1 ∙ take-map Sent n ls ∙ sym (append-nil (map Sent (take n ls)))))
+
+cut_text : (ks : List KeptRecord) (ls : List Letter) (bs : List ℕ) (n : ℕ) → (k : ℕ) × (take k (step_actions ks ls bs) ≡ step_actions ks ls (take n bs))
+cut_text ks ls bs n =
+    let j = behind (map Sent ls) (map Printed bs) n in
+    let k = behind (map Kept ks) (map Sent ls ++ map Printed bs) j.0 in
+    (k.0, k.1 ∙ ap (λ xs. map Kept ks ++ xs) (j.1 ∙ ap (λ xs. map Sent ls ++ xs) (take-map Printed n bs)))
 
 pub hosted_at : {K : Type 0} (gs : List (Guest K)) (i : ℕ) (a : Guest K) → slice_get gs i ≡ Some a → slice_get (hosted_in gs) i ≡ Some (hosted_of a)
 hosted_at gs i a e = slice_get-map hosted_of gs i ∙ ap (option_map hosted_of) e
@@ -115,50 +171,106 @@ module _ {K : Type 0} (gives : Appending K) (c : Cluster) (gs : List (Guest K)) 
         distinct = distinct_still gs (slice_set gs i after) (length-set gs i after) (names_set gs i h after here same) ready.distinct;
       }
 
+  abbrev step : Step
+  step = does (hosted_of h) what
+
+  -- the step was done as far as these datagrams and this text
+  did_seated : (l k : Option LinkHistory) (o p : Option (List ℕ)) (sends : List Letter) (text : List ℕ) → GuestGrows gives step.kept h after → Asks c sends l k → Appends o p text
+      → Did gives c (step_actions step.kept sends text) (scene gs l o) (scene (slice_set gs i after) k p)
+  did_seated l k o p sends text grows asked printed =
+      record {
+        names = names_set gs i h after here same;
+        kept = subst (λ ks. GuestsGrow gives ks gs (slice_set gs i after)) (sym (step_kept step.kept sends text)) (
+          length-set gs i after,
+          each_at (λ a b. GuestGrows gives step.kept a b) grows
+              (λ j a differs e. subst (λ rs. Grows gives rs (keeper_of a) (keeper_of a)) (sym (kept_own (hosted_of h) what (who a) (other_name j a differs e))) (grows_none gives (keeper_of a))),
+        );
+        link = linked_step c step.kept sends text l k asked;
+        printed = subst (Appends o p) (sym (step_printed step.kept sends text)) printed;
+      }
+
   pub acts_seated : (l k : Option LinkHistory) (o p : Option (List ℕ)) (sends : List Letter) (text : List ℕ)
-      → hosted_of after ≡ (does (hosted_of h) what).next → GuestGrows gives (does (hosted_of h) what).kept h after → IsTrue (is_live (hosted_of after))
-      → sends ≡ (does (hosted_of h) what).sends → text ≡ (does (hosted_of h) what).text → Asks c [] sends l k → Appends o p text
+      → hosted_of after ≡ step.next → GuestGrows gives step.kept h after → IsTrue (is_live (hosted_of after))
+      → sends ≡ step.sends → text ≡ step.text → Asks c sends l k → Appends o p text
       → Acts gives c [] (does_at i what (hosted_in gs)) (Ok tt) (scene gs l o) (scene (slice_set gs i after) k p)
   acts_seated l k o p sends text next grows live sends_are text_is asked printed =
-      let ks = (does (hosted_of h) what).kept in
       subst (λ (m : Moved (List Hosted)). Acts gives c [] m (Ok tt) (scene gs l o) (scene (slice_set gs i after) k p)) (sym seat_does_at)
       (record {
         done = record {
           hosted = map-set hosted_of gs i after ∙ ap (slice_set (hosted_in gs) i) next;
-          kept = (
-            length-set gs i after,
-            each_at (λ a b. GuestGrows gives ks a b) grows
-                (λ j a differs e. subst (λ rs. Grows gives rs (keeper_of a) (keeper_of a)) (sym (kept_own (hosted_of h) what (who a) (other_name j a differs e))) (grows_none gives (keeper_of a))),
-          );
-          sent = subst (λ ds. Asks c [] ds l k) sends_are asked;
-          printed = subst (Appends o p) text_is printed;
+          did = did_seated l k o p step.sends step.text grows (subst (λ ds. Asks c ds l k) sends_are asked) (subst (Appends o p) text_is printed);
         };
+        taken = (step_bound step.kept step.sends step.text, step_taken step.kept step.sends step.text);
         ready = ready_still live;
-        names = names_set gs i h after here same;
         part = tt;
-        store = λ role e. absurd (not_failed (StoreFault role) e);
       })
 
-  pub acts_seated_part : (l k : Option LinkHistory) (o p : Option (List ℕ)) (e : Stop)
-      → GuestGrowsPart gives (fails_by {T = Unit {0}} (Err e) (who h)) (does (hosted_of h) what).kept h after → AsksPart c [] (does (hosted_of h) what).sends l k → AppendsPart o p (does (hosted_of h) what).text
-      → ((role : RoleId) → e ≡ StoreFault role → (who h ≡ role) × GuestFails gives (does (hosted_of h) what).kept h after)
-      → Acts gives c [] (does_at i what (hosted_in gs)) (Err e) (scene gs l o) (scene (slice_set gs i after) k p)
-  acts_seated_part l k o p e grows asked printed failed =
-      let ks = (does (hosted_of h) what).kept in
-      subst (λ (m : Moved (List Hosted)). Acts gives c [] m (Err e) (scene gs l o) (scene (slice_set gs i after) k p)) (sym seat_does_at)
-      (record {
-        done = tt;
-        ready = tt;
-        names = tt;
-        part = (
-          0,
-          record {
-            kept = (length-set gs i after, each_at (λ a b. GuestGrowsPart gives (fails_by {T = Unit {0}} (Err e) (who a)) ks a b) grows (λ j a differs at. guest_nothing gives (fails_by {T = Unit {0}} (Err e) (who a)) ks a));
-            sent = asked;
-            printed = printed;
-          },
+  -- it stopped before anything was kept, sent or printed
+  seated_rests : (l : Option LinkHistory) (o : Option (List ℕ)) → Rests gives (keeper_of h) (keeper_of after) → DidPart gives c (step_actions step.kept step.sends step.text) stop.NoMemory (scene gs l o) (scene (slice_set gs i after) l o)
+  seated_rests l o rests =
+      record {
+        count = 0;
+        mid = gs;
+        did = did_nothing gives c (scene gs l o);
+        stops = (
+          length-set gs i after,
+          each_at (λ a b. (who b ≡ who a) × Rests gives (keeper_of a) (keeper_of b)) (same, rests) (λ j a differs e. (refl, rests_itself gives (keeper_of a))),
         );
-        store = λ role s.
-            let f = failed role (ap (error_or e) s) in
-            record { place = i; guest = h; after = after; here = here; then_here = get_set_same gs i h after here; name = f.0; fails = f.1 };
+      }
+
+  seated_fails : (l : Option LinkHistory) (o : Option (List ℕ)) (role : RoleId) → who h ≡ role → FailsIn gives (slice_get (records_of (who h) step.kept) 0) (keeper_of h) (keeper_of after)
+      → DidPart gives c (step_actions step.kept step.sends step.text) (stop.StoreFault role) (scene gs l o) (scene (slice_set gs i after) l o)
+  seated_fails l o role name fails =
+      let f = fails_some gives (slice_get (records_of (who h) step.kept) 0) (keeper_of h) (keeper_of after) fails in
+      record {
+        count = 0;
+        mid = gs;
+        did = did_nothing gives c (scene gs l o);
+        stops = (
+          f.0,
+          subst (λ me. slice_get (step_actions step.kept step.sends step.text) 0 ≡ Some (Kept (record { role = me; what = f.0 }))) name
+              (kept_first (hosted_of h) what f.0 (map Sent step.sends ++ map Printed step.text) f.1),
+          record { place = i; guest = h; after = after; here = here; others = refl; name = name; same = same; fails = f.2 },
+        );
+      }
+
+  seated_part : (l k : Option LinkHistory) (o p : Option (List ℕ)) (e : Stop) → DidPart gives c (step_actions step.kept step.sends step.text) e (scene gs l o) (scene (slice_set gs i after) k p)
+      → Acts gives c [] (does_at i what (hosted_in gs)) (Err e) (scene gs l o) (scene (slice_set gs i after) k p)
+  seated_part l k o p e part =
+      subst (λ (m : Moved (List Hosted)). Acts gives c [] m (Err e) (scene gs l o) (scene (slice_set gs i after) k p)) (sym seat_does_at)
+      (record { done = tt; taken = tt; ready = tt; part = part })
+
+  -- its role took no step
+  pub acts_unasked : (l : Option LinkHistory) (o : Option (List ℕ)) (e : Stop) → (e ≡ stop.NoMemory → Rests gives (keeper_of h) (keeper_of after))
+      → ((role : RoleId) → e ≡ stop.StoreFault role → (who h ≡ role) × FailsIn gives (slice_get (records_of (who h) step.kept) 0) (keeper_of h) (keeper_of after))
+      → (e ≡ stop.WriteFault → ⊥) → (e ≡ stop.LinkFault → ⊥) → Acts gives c [] (does_at i what (hosted_in gs)) (Err e) (scene gs l o) (scene (slice_set gs i after) l o)
+  acts_unasked l o stop.NoMemory rests fails no_write no_link = seated_part l l o o stop.NoMemory (seated_rests l o (rests refl))
+  acts_unasked l o stop.WriteFault rests fails no_write no_link = absurd (no_write refl)
+  acts_unasked l o stop.LinkFault rests fails no_write no_link = absurd (no_link refl)
+  acts_unasked l o (stop.StoreFault role) rests fails no_write no_link = let f = fails role refl in seated_part l l o o (stop.StoreFault role) (seated_fails l o role f.0 f.1)
+
+  -- memory ran out between its datagrams
+  pub acts_unsent : (l k : Option LinkHistory) (o : Option (List ℕ)) → GuestGrows gives step.kept h after → AsksPart c step.sends l k
+      → Acts gives c [] (does_at i what (hosted_in gs)) (Err stop.NoMemory) (scene gs l o) (scene (slice_set gs i after) k o)
+  acts_unsent l k o grows asked =
+      let cut = cut_sends step.kept step.sends step.text asked.0 in
+      seated_part l k o o stop.NoMemory
+      (record {
+        count = cut.0;
+        mid = slice_set gs i after;
+        did = subst (λ xs. Did gives c xs (scene gs l o) (scene (slice_set gs i after) k o)) (sym cut.1) (did_seated l k o o (take asked.0 step.sends) [] grows asked.1 (Appends-nil o));
+        stops = guests_rest gives (slice_set gs i after);
+      })
+
+  -- the output failed within its text
+  pub acts_unwritten : (l k : Option LinkHistory) (o p : Option (List ℕ)) → GuestGrows gives step.kept h after → Asks c step.sends l k → AppendsPart o p step.text
+      → Acts gives c [] (does_at i what (hosted_in gs)) (Err stop.WriteFault) (scene gs l o) (scene (slice_set gs i after) k p)
+  acts_unwritten l k o p grows asked printed =
+      let cut = cut_text step.kept step.sends step.text printed.0 in
+      seated_part l k o p stop.WriteFault
+      (record {
+        count = cut.0;
+        mid = slice_set gs i after;
+        did = subst (λ xs. Did gives c xs (scene gs l o) (scene (slice_set gs i after) k p)) (sym cut.1) (did_seated l k o p step.sends (take printed.0 step.text) grows asked printed.1);
+        stops = guests_rest gives (slice_set gs i after);
       })

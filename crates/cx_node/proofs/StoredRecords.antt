@@ -1,5 +1,5 @@
--- What a journal tells behind appends, and why one failed.
-use Rattle.std.proofs.Common.{◌≡◌, ◌≤◌, ◌⊎◌, ℕ, zero, suc, arith, Bool, true, List, [], ◌∷◌, ◌++◌, take, Option, None, Some, Result, Ok, Err, refl, sym, ap, ◌∙◌, subst, inl, inr, append_assoc, append-nil, is_some}
+-- What a journal has after appends, and why one failed.
+use Rattle.std.proofs.Common.{◌≡◌, ◌≤◌, ◌⊎◌, ℕ, zero, suc, arith, Bool, true, List, [], ◌∷◌, ◌++◌, take, Option, Some, Result, Ok, Err, refl, sym, ap, ◌∙◌, subst, inl, inr, append_assoc, append-nil, is_some}
 use Rattle.std.specs.Prelude.{slice_get}
 use Rattle.cx_base.specs.Faults.{Rises}
 use Rattle.cx_keeper.specs.declared.keeper.KeepFault.{KeepFault}
@@ -8,9 +8,9 @@ use Rattle.cx_msg.specs.declared.kept.Record.{Record}
 use Rattle.cx_journal.specs.Appends.{IsJournalAppend}
 use Rattle.cx_journal.specs.State.{JournalState, told_records}
 use Rattle.cx_role.specs.Role.{Appending, Refuses}
-use Rattle.cx_node.specs.Guest.{Appended, AppendedPart, Fails, Stops}
+use Rattle.cx_node.specs.Guest.{Appended, Fails}
 
-take_next : {X : Type 0} (xs : List X) (n : ℕ) (x : X) → slice_get xs n ≡ Some x → take (suc n) xs ≡ take n xs ++ x ∷ []
+pub take_next : {X : Type 0} (xs : List X) (n : ℕ) (x : X) → slice_get xs n ≡ Some x → take (suc n) xs ≡ take n xs ++ x ∷ []
 take_next [] n x e = cc
 take_next (y ∷ ys) zero x e = cc
 take_next (y ∷ ys) (suc n) x e = ap (λ l. y ∷ l) (take_next ys n x e)
@@ -52,54 +52,32 @@ module _ {D : Type 0} (seen : D → Option (List ℕ)) (may_leave : D → List �
   appended_told (r ∷ rs) a b told p =
       appended_told rs p.0 b (p.1.appends.told ∙ told) p.2 ∙ ap (λ l. l ++ rs) (p.1.appends.ok refl told) ∙ append_assoc (kept a) (r ∷ []) rs
 
-  refused_tells : (a b : JournalState D) → tells a ≡ true → Refuses gives a b → tells b ≡ true
-  refused_tells a b told (inl same) = ap tells same ∙ told
-  refused_tells a b told (inr p) = p.1.appends.told ∙ told
-
-  refused_told : (a b : JournalState D) → Refuses gives a b → kept b ≡ kept a
-  refused_told a b (inl same) = ap kept same
-  refused_told a b (inr p) = p.1.appends.no_memory refl
-
-  stop_tells : (may_fail : Type 0) (o : Option Record) (a b : JournalState D) → tells a ≡ true → Stops gives may_fail o a b → tells b ≡ true
-  stop_tells may_fail o a b told (inl stays) = refused_tells a b told stays
-  stop_tells may_fail None a b told (inr fails) = absurd fails.1
-  stop_tells may_fail (Some r) a b told (inr fails) = fails.1.appends.told ∙ told
-
-  pub part_tells : (may_fail : Type 0) (rs : List Record) (a b : JournalState D) → tells a ≡ true → AppendedPart gives may_fail rs a b → tells b ≡ true
-  part_tells may_fail rs a b told p = stop_tells may_fail (slice_get rs p.count) p.mid b (appended_tells (take p.count rs) a p.mid told p.front) p.stop
-
-  stop_told : (may_fail : Type 0) (rs : List Record) (n : ℕ) (o : Option Record) (a mid b : JournalState D) → slice_get rs n ≡ o → kept mid ≡ kept a ++ take n rs → Stops gives may_fail o mid b
-      → (k : ℕ) × (kept b ≡ kept a ++ take k rs)
-  stop_told may_fail rs n o a mid b here before (inl stays) = (n, refused_told mid b stays ∙ before)
-  stop_told may_fail rs n None a mid b here before (inr fails) = absurd fails.1
-  stop_told may_fail rs n (Some r) a mid b here before (inr fails) = go (fails.1.appends.failed refl)
-    where
-      go : (kept b ≡ kept mid) ⊎ (kept b ≡ kept mid ++ r ∷ []) → (k : ℕ) × (kept b ≡ kept a ++ take k rs)
-      go (inl lost) = (n, lost ∙ before)
-      go (inr more) = (suc n, more ∙ ap (λ l. l ++ r ∷ []) before ∙ append_assoc (kept a) (take n rs) (r ∷ []) ∙ ap (λ l. kept a ++ l) (sym (take_next rs n r here)))
-
-  -- a front of the records is told behind those that were there
-  pub part_told : (may_fail : Type 0) (rs : List Record) (a b : JournalState D) → tells a ≡ true → AppendedPart gives may_fail rs a b → (k : ℕ) × (kept b ≡ kept a ++ take k rs)
-  part_told may_fail rs a b told p = stop_told may_fail rs p.count (slice_get rs p.count) a p.mid b refl (appended_told (take p.count rs) a p.mid told p.front) p.stop
-
   -- the count of the disk stands where no append has failed
   pub appended_still : (rs : List Record) (a b : JournalState D) → Appended gives rs a b → disk_faults b.disk ≡ disk_faults a.disk
   appended_still [] a b p = ap (λ (j : JournalState D). disk_faults j.disk) p
   appended_still (r ∷ rs) a b p = appended_still rs p.0 b p.2 ∙ p.1.disk_still ok_is_no_fault
 
-  refused_still : (a b : JournalState D) → Refuses gives a b → disk_faults b.disk ≡ disk_faults a.disk
+  -- a journal that keeps nothing more
+  pub refused_tells : (a b : JournalState D) → tells a ≡ true → Refuses gives a b → tells b ≡ true
+  refused_tells a b told (inl same) = ap tells same ∙ told
+  refused_tells a b told (inr p) = p.1.appends.told ∙ told
+
+  pub refused_told : (a b : JournalState D) → Refuses gives a b → kept b ≡ kept a
+  refused_told a b (inl same) = ap kept same
+  refused_told a b (inr p) = p.1.appends.no_memory refl
+
+  pub refused_still : (a b : JournalState D) → Refuses gives a b → disk_faults b.disk ≡ disk_faults a.disk
   refused_still a b (inl same) = ap (λ (j : JournalState D). disk_faults j.disk) same
   refused_still a b (inr p) = p.1.disk_still no_memory_is_no_fault
 
-  stop_still : (may_fail : Type 0) (o : Option Record) (a b : JournalState D) → (may_fail → ⊥) → Stops gives may_fail o a b → disk_faults b.disk ≡ disk_faults a.disk
-  stop_still may_fail o a b never (inl stays) = refused_still a b stays
-  stop_still may_fail o a b never (inr fails) = absurd (never fails.0)
+  -- one whose append failed has the record, or not
+  pub failed_tells : (r : Record) (a b : JournalState D) → tells a ≡ true → Fails gives (Some r) a b → tells b ≡ true
+  failed_tells r a b told fails = fails.appends.told ∙ told
 
-  pub part_still : (may_fail : Type 0) (rs : List Record) (a b : JournalState D) → (may_fail → ⊥) → AppendedPart gives may_fail rs a b → disk_faults b.disk ≡ disk_faults a.disk
-  part_still may_fail rs a b never p = stop_still may_fail (slice_get rs p.count) p.mid b never p.stop ∙ appended_still (take p.count rs) a p.mid p.front
+  pub failed_told : (r : Record) (a b : JournalState D) → Fails gives (Some r) a b → (kept b ≡ kept a) ⊎ (kept b ≡ kept a ++ r ∷ [])
+  failed_told r a b fails = fails.appends.failed refl
 
-  -- an append fails behind whole ones only where the disk has failed
-  pub fails_rises : (rs : List Record) (o : Option Record) (a mid b : JournalState D) → a.whole ≡ true → Appended gives rs a mid → Fails gives o mid b → Rises 0 (disk_faults b.disk)
-  fails_rises rs None a mid b whole front fails = absurd fails
-  fails_rises rs (Some r) a mid b whole front fails =
+  -- an append fails after whole ones only where the disk has failed
+  pub fails_rises : (rs : List Record) (r : Record) (a mid b : JournalState D) → a.whole ≡ true → Appended gives rs a mid → Fails gives (Some r) mid b → Rises 0 (disk_faults b.disk)
+  fails_rises rs r a mid b whole front fails =
       rises_later 0 (disk_faults mid.disk) (disk_faults b.disk) (omega arith) (fails.whole_cause refl (appended_whole rs a mid whole front))

@@ -6,7 +6,7 @@ use Rattle.cx_journal.specs.State.{JournalState}
 use Rattle.cx_node.specs.declared.guest.Guest.{Guest}
 use Rattle.cx_node.specs.Guest.{keeper_of, who}
 
--- what a depot shows: whether it tells, what it holds, and its counts
+-- what a depot shows: what it holds, whether that is known, and its counts
 pub record Shown (D S : Type 0) : Type 0 where
   pub tells : D → Bool
   pub held : D → RoleId → List ℕ

@@ -40,7 +40,7 @@ input_whole : (bytes : List ℕ) → IsWhole (input_of bytes)
 unfolding input_of
 input_whole bytes = header_whole (header_of bytes)
 
--- nothing is said only of bytes behind which others may come
+-- nothing is said only of bytes after which others may come
 pub nothing_is_open : (ended : Bool) (bytes : List ℕ) (heard : Heard) → heard ≡ heard_of ended bytes → heard ≡ Nothing → ended ≡ false
 nothing_is_open true bytes heard is nothing = absurd (subst IsWhole nothing (subst IsWhole (sym is) (input_whole bytes)))
 nothing_is_open false bytes heard is nothing = refl

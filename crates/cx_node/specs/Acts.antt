@@ -1,20 +1,23 @@
--- What a part of a node's run came to: it was done whole, or a front of it was done and something failed.
-use Rattle.std.specs.Prelude.{◌≡◌, ◌⊎◌, ◌≤◌, ◌<◌, ℕ, true, false, List, [], ◌∷◌, length, map, take, Option, None, Some, option_map, Result, Ok, Err, OnOk, OnErr}
+-- The result of a part of a node's run: it was done whole, or the first of its actions were done and something failed.
+use Rattle.std.specs.Prelude.{◌≡◌, ◌⊎◌, ℕ, true, List, [], ◌∷◌, length, Option, None, Some, option_map, Result, Ok, Err, IfErr, OnOk}
 use Rattle.cx_base.specs.Faults.{Rises}
 use Rattle.cx_base.specs.declared.cluster.Cluster.{Cluster}
-use Rattle.cx_base.specs.declared.role.RoleId.{RoleId}
 use Rattle.cx_edge.specs.Link.{LinkHistory, with_taken}
 use Rattle.cx_msg.specs.Decoding.{decoded}
 use Rattle.cx_msg.specs.Letter.{Letter}
 use Rattle.cx_msg.specs.declared.fault.WireFault.{WireFault}
 use Rattle.cx_role.specs.Role.{Appending}
+use Rattle.cx_node.specs.declared.come.Come.{Come}
+use Rattle.cx_node.specs.declared.come.Come.TheVariants as come
 use Rattle.cx_node.specs.declared.node.Stop.{Stop}
 use Rattle.cx_node.specs.declared.node.Stop.TheVariants.{LinkFault, NoMemory, StoreFault, WriteFault}
-use Rattle.cx_node.specs.Doing.{Does, DoesPart, Scene, StoreFails}
-use Rattle.cx_node.specs.Guest.{AreReady, hosted_in, who}
-use Rattle.cx_node.specs.Hosted.{Hosted, Moved}
-use Rattle.cx_node.specs.Node.{Takes}
-use Rattle.cx_node.specs.Run.{all_finished, node_run}
+use Rattle.cx_node.specs.Action.{HasTaken}
+use Rattle.cx_node.specs.Doing.{DidPart, Does, Scene}
+use Rattle.cx_node.specs.Guest.{AreReady, hosted_in}
+use Rattle.cx_node.specs.Hosted.{Hosted}
+use Rattle.cx_node.specs.Node.{IsUnderway, Takes}
+use Rattle.cx_node.specs.Run.{Moved, all_finished}
+use Rattle.cx_node.specs.Tending.{node_run}
 
 -- how often the link and the output have failed
 pub record Failures : Type 0 where
@@ -31,45 +34,35 @@ pub record Blames (result : Result (Unit {0}) Stop) (old new : Failures) : Type 
   pub linked : result ≡ Err LinkFault → Rises old.link new.link
   pub unlinked : (result ≡ Err LinkFault → ⊥) → new.link ≡ old.link
 
--- the store of this role is what failed
-abbrev pub fails_by : {T : Type 0} → Result T Stop → RoleId → Type 0
-fails_by result role = result ≡ Err (StoreFault role)
-
--- What was to be done is done, and all roles may go on; or a front of it is done, with the first of these takes.
+-- What is to be done is done, with these takes, and all roles may go on; or the first of its actions are done, and then it stopped.
 pub record Acts {K : Type 0} (gives : Appending K) (c : Cluster) (takes : Takes) (m : Moved (List Hosted)) (result : Result (Unit {0}) Stop) (old new : Scene K) : Type 0 where
-  pub done : OnOk result (Does gives c takes m old new)
+  pub done : OnOk result (Does gives c m old new)
+  pub taken : OnOk result (HasTaken takes m.actions)
   pub ready : OnOk result (AreReady c new.guests)
-  pub names : OnOk result (map who new.guests ≡ map who old.guests)
-  pub part : OnErr result ((made : ℕ) × DoesPart gives (fails_by result) c (take made takes) m old new)
-  pub store : (role : RoleId) → result ≡ Err (StoreFault role) → StoreFails gives m.kept role old.guests new.guests
+  pub part : IfErr result (λ e. DidPart gives c m.actions e old new)
 
 -- the same with what one take gave
 abbrev pub ActsOnce : {K : Type 0} → Appending K → Cluster → (Option (List ℕ) → Moved (List Hosted)) → Result (Unit {0}) Stop → Scene K → Scene K → Type 0
 ActsOnce gives c f result old new = (what : Option (List ℕ)) × Acts gives c (what ∷ []) (f what) result old new
 
--- whether a run has come to its end behind these takes, and to none before
-pub record Ends (c : Cluster) (limit : ℕ) (hs : List Hosted) (takes : Takes) : Type 0 where
-  pub most : length takes ≤ limit
-  pub not_before : (k : ℕ) → k < length takes → all_finished ((node_run c (take k takes) hs).next) ≡ false
+-- the turns of a run were made to its end, or a part of them
+abbrev pub ActsLong : {K : Type 0} → Appending K → Option ℕ → Cluster → ℕ → Result (Unit {0}) Stop → Scene K → Scene K → Type 0
+ActsLong gives tend c limit result old new =
+    (takes : Takes) × Acts gives c takes (node_run tend c takes (hosted_in old.guests)) result old new × IsUnderway tend c limit (hosted_in old.guests) takes
+    × OnOk result ((all_finished ((node_run tend c takes (hosted_in old.guests)).next) ≡ true) ⊎ (length takes ≡ limit))
 
--- the turns of a run were made to its end, or a front of them
-abbrev pub ActsLong : {K : Type 0} → Appending K → Cluster → ℕ → Result (Unit {0}) Stop → Scene K → Scene K → Type 0
-ActsLong gives c limit result old new =
-    (takes : Takes) × Acts gives c takes (node_run c takes (hosted_in old.guests)) result old new × Ends c limit (hosted_in old.guests) takes
-    × OnOk result ((all_finished ((node_run c takes (hosted_in old.guests)).next) ≡ true) ⊎ (length takes ≡ limit))
+-- what a take gave: nothing, bytes that are no datagram, or one
+abbrev pub read_as : Result Letter WireFault → Come
+read_as (Ok d) = come.Letter d
+read_as (Err fault) = come.Foreign
 
--- the datagram that a take gave, if it gave one
-abbrev pub read_as : Result Letter WireFault → Option Letter
-read_as (Ok d) = Some d
-read_as (Err fault) = None
+abbrev pub come_of : Option (List ℕ) → Come
+come_of None = come.Nothing
+come_of (Some bytes) = read_as (decoded bytes)
 
-abbrev pub letter_in : Option (List ℕ) → Option Letter
-letter_in None = None
-letter_in (Some bytes) = read_as (decoded bytes)
-
--- One take was told, and what it gave; one that failed isn't told.
-abbrev pub Receives : Option LinkHistory → Option LinkHistory → Result (Option Letter) Stop → Type 0
-Receives old new (Ok o) = (what : Option (List ℕ)) × (new ≡ option_map (with_taken what) old) × (letter_in what ≡ o)
+-- The history has one take more, and what it gave; it has none that failed.
+abbrev pub Receives : Option LinkHistory → Option LinkHistory → Result Come Stop → Type 0
+Receives old new (Ok o) = (what : Option (List ℕ)) × (new ≡ option_map (with_taken what) old) × (come_of what ≡ o)
 Receives old new (Err LinkFault) = new ≡ old
 Receives old new (Err NoMemory) = (what : Option (List ℕ)) × (new ≡ option_map (with_taken what) old)
 Receives old new (Err WriteFault) = ⊥

@@ -1,19 +1,23 @@
 -- What a part of a node's run did to its roles, its link and its output.
-use Rattle.std.specs.Prelude.{◌≡◌, ℕ, List, ◌++◌, length, take, Option, Some, slice_get}
+use Rattle.std.specs.Prelude.{◌≡◌, ℕ, List, ◌++◌, length, map, take, Option, Some, slice_get, slice_set}
 use Rattle.std.specs.Io.KnownBytes.{Appends}
 use Rattle.cx_base.specs.declared.cluster.Cluster.{Cluster}
 use Rattle.cx_base.specs.declared.role.RoleId.{RoleId}
 use Rattle.cx_edge.specs.Link.{LinkHistory}
-use Rattle.cx_edge.specs.Sink.{AppendsPart}
 use Rattle.cx_msg.specs.Letter.{Letter}
 use Rattle.cx_msg.specs.declared.input.KeptRecord.{KeptRecord}
+use Rattle.cx_msg.specs.declared.kept.Record.{Record}
 use Rattle.cx_role.specs.Role.{Appending}
 use Rattle.cx_node.specs.declared.guest.Guest.{Guest}
-use Rattle.cx_node.specs.Guest.{GuestFails, GuestGrows, GuestGrowsPart, hosted_in, who}
-use Rattle.cx_node.specs.Hosted.{Hosted, Moved}
+use Rattle.cx_node.specs.declared.node.Stop.{Stop}
+use Rattle.cx_node.specs.declared.node.Stop.TheVariants as stop
+use Rattle.cx_node.specs.Action.{Action, Kept, Took, kept_in, printed_in, with_actions}
+use Rattle.cx_node.specs.Guest.{FailsIn, GuestGrows, Rests, hosted_in, keeper_of, who}
+use Rattle.cx_node.specs.Hosted.{Hosted}
 use Rattle.cx_node.specs.Ports.{sendings}
+use Rattle.cx_node.specs.Run.{Moved}
 
--- the hosted roles, what the link tells, and what was printed
+-- the hosted roles, the history of the link, and what was printed
 pub record Scene (K : Type 0) : Type 0 where
   pub guests : List (Guest K)
   pub link : Option LinkHistory
@@ -22,47 +26,68 @@ pub record Scene (K : Type 0) : Type 0 where
 abbrev pub scene : {K : Type 0} → List (Guest K) → Option LinkHistory → Option (List ℕ) → Scene K
 scene guests link out = record { guests = guests; link = link; out = out }
 
--- Where the link still tells, it gave this at its takes, and was asked to send these datagrams.
-abbrev pub Asks : Cluster → List (Option (List ℕ)) → List Letter → Option LinkHistory → Option LinkHistory → Type 0
-Asks c takes letters old new =
+-- Where the link's history is still known, it has these datagrams besides, as sent.
+abbrev pub Asks : Cluster → List Letter → Option LinkHistory → Option LinkHistory → Type 0
+Asks c letters old new =
     (after : LinkHistory) → new ≡ Some after
-    → (before : LinkHistory) × (old ≡ Some before) × (after ≡ record before { taken = before.taken ++ takes; sent = before.sent ++ sendings c letters })
+    → (before : LinkHistory) × (old ≡ Some before) × (after ≡ record before { sent = before.sent ++ sendings c letters })
 
 -- the same with the first of these datagrams
-abbrev pub AsksPart : Cluster → List (Option (List ℕ)) → List Letter → Option LinkHistory → Option LinkHistory → Type 0
-AsksPart c takes letters old new = (count : ℕ) × Asks c takes (take count letters) old new
+abbrev pub AsksPart : Cluster → List Letter → Option LinkHistory → Option LinkHistory → Type 0
+AsksPart c letters old new = (count : ℕ) × Asks c (take count letters) old new
+
+-- Where the link's history is still known, it has the binds, takes and sends among these actions besides.
+abbrev pub Linked : Cluster → List Action → Option LinkHistory → Option LinkHistory → Type 0
+Linked c actions old new =
+    (after : LinkHistory) → new ≡ Some after
+    → (before : LinkHistory) × (old ≡ Some before) × (after ≡ with_actions c actions before)
 
 abbrev pub GuestsGrow : {K : Type 0} → Appending K → List KeptRecord → List (Guest K) → List (Guest K) → Type 0
 GuestsGrow {K} gives kept old new =
     (length new ≡ length old)
     × ((i : ℕ) (h after : Guest K) → slice_get old i ≡ Some h → slice_get new i ≡ Some after → GuestGrows gives kept h after)
 
--- the same with a front of what each has to keep; the appends of these roles may have failed
-abbrev pub GuestsGrowPart : {K : Type 0} → Appending K → (RoleId → Type 0) → List KeptRecord → List (Guest K) → List (Guest K) → Type 0
-GuestsGrowPart {K} gives failing kept old new =
-    (length new ≡ length old)
-    × ((i : ℕ) (h after : Guest K) → slice_get old i ≡ Some h → slice_get new i ≡ Some after → GuestGrowsPart gives (failing (who h)) kept h after)
+-- These actions were done, and no others: the keepers have their roles' records, the link gave and was asked what they say, and
+-- their bytes were printed. Each role is who it was.
+pub record Did {K : Type 0} (gives : Appending K) (c : Cluster) (actions : List Action) (old new : Scene K) : Type 0 where
+  pub names : map who new.guests ≡ map who old.guests
+  pub kept : GuestsGrow gives (kept_in actions) old.guests new.guests
+  pub link : Linked c actions old.link new.link
+  pub printed : Appends old.out new.out (printed_in actions)
 
--- What is to be done was done: each role is as it follows, has kept what it had to, all was sent and printed.
-pub record Does {K : Type 0} (gives : Appending K) (c : Cluster) (takes : List (Option (List ℕ))) (m : Moved (List Hosted)) (old new : Scene K) : Type 0 where
+-- What is to be done was done whole, and each role is as it follows.
+pub record Does {K : Type 0} (gives : Appending K) (c : Cluster) (m : Moved (List Hosted)) (old new : Scene K) : Type 0 where
   pub hosted : hosted_in new.guests ≡ m.next
-  pub kept : GuestsGrow gives m.kept old.guests new.guests
-  pub sent : Asks c takes m.sends old.link new.link
-  pub printed : Appends old.out new.out m.text
+  pub did : Did gives c m.actions old new
 
--- A front of it was done: each role has kept a front of what it had to, and a front was sent and printed. Of no other role than
--- these has an append failed.
-pub record DoesPart {K : Type 0} (gives : Appending K) (failing : RoleId → Type 0) (c : Cluster) (takes : List (Option (List ℕ))) (m : Moved (List Hosted)) (old new : Scene K) : Type 0 where
-  pub kept : GuestsGrowPart gives failing m.kept old.guests new.guests
-  pub sent : AsksPart c takes m.sends old.link new.link
-  pub printed : AppendsPart old.out new.out m.text
+-- each role is who it was, and no keeper keeps anything more
+abbrev pub GuestsRest : {K : Type 0} → Appending K → List (Guest K) → List (Guest K) → Type 0
+GuestsRest {K} gives old new =
+    (length new ≡ length old)
+    × ((i : ℕ) (h after : Guest K) → slice_get old i ≡ Some h → slice_get new i ≡ Some after → (who after ≡ who h) × Rests gives (keeper_of h) (keeper_of after))
 
--- the keeper of the role of this name failed
-pub record StoreFails {K : Type 0} (gives : Appending K) (kept : List KeptRecord) (role : RoleId) (old new : List (Guest K)) : Type 0 where
+-- the append of this record failed, of the role of this name; the other roles are as they were
+pub record GuestFails {K : Type 0} (gives : Appending K) (role : RoleId) (r : Record) (old new : List (Guest K)) : Type 0 where
   pub place : ℕ
   pub guest : Guest K
   pub after : Guest K
   pub here : slice_get old place ≡ Some guest
-  pub then_here : slice_get new place ≡ Some after
+  pub others : new ≡ slice_set old place after
   pub name : who guest ≡ role
-  pub fails : GuestFails gives kept guest after
+  pub same : who after ≡ who guest
+  pub fails : FailsIn gives (Some r) (keeper_of guest) (keeper_of after)
+
+-- What stopped a run, by the action that was next: a take of the link failed, or the append of a role's record, which its store may have
+-- all the same; or memory ran out, or the output failed.
+abbrev pub StopsAt : {K : Type 0} → Appending K → Stop → Option Action → List (Guest K) → List (Guest K) → Type 0
+StopsAt gives stop.NoMemory next old new = GuestsRest gives old new
+StopsAt gives stop.WriteFault next old new = GuestsRest gives old new
+StopsAt gives stop.LinkFault next old new = ((what : Option (List ℕ)) × (next ≡ Some (Took what))) × GuestsRest gives old new
+StopsAt gives (stop.StoreFault role) next old new = (r : Record) × (next ≡ Some (Kept (record { role = role; what = r }))) × GuestFails gives role r old new
+
+-- The first of these actions were done, and no others, when this stopped the run.
+pub record DidPart {K : Type 0} (gives : Appending K) (c : Cluster) (actions : List Action) (e : Stop) (old new : Scene K) : Type 0 where
+  pub count : ℕ
+  pub mid : List (Guest K)
+  pub did : Did gives c (take count actions) old (scene mid new.link new.out)
+  pub stops : StopsAt gives e (slice_get actions count) mid new.guests

@@ -1,5 +1,5 @@
 -- What contracts see of a hosted role, and what its keeper was given.
-use Rattle.std.specs.Prelude.{◌≡◌, ◌⊎◌, ℕ, List, [], ◌∷◌, map, take, Option, None, Some, Ok, Err, slice_get, IsTrue}
+use Rattle.std.specs.Prelude.{◌≡◌, ℕ, List, [], ◌∷◌, map, Option, None, Some, Ok, Err, slice_get, IsTrue}
 use Rattle.cx_base.specs.declared.cluster.Cluster.{Cluster}
 use Rattle.cx_base.specs.declared.role.RoleId.{RoleId}
 use Rattle.cx_keeper.specs.declared.keeper.KeepFault.TheVariants.{Failed}
@@ -63,50 +63,30 @@ abbrev pub Appended : {K : Type 0} → Appending K → List Record → K → K �
 Appended gives [] old new = new ≡ old
 Appended {K} gives (r ∷ rs) old new = (mid : K) × gives old r (Ok tt) mid × Appended gives rs mid new
 
--- an append of this record was answered Failed
-abbrev pub Fails : {K : Type 0} → Appending K → Option Record → K → K → Type 0
-Fails gives None old new = ⊥
-Fails gives (Some r) old new = gives old r (Err Failed) new
-
--- nothing is kept any more; or, where that may be, the append of the next record failed
-abbrev pub Stops : {K : Type 0} → Appending K → Type 0 → Option Record → K → K → Type 0
-Stops gives may_fail next old new = Refuses gives old new ⊎ (may_fail × Fails gives next old new)
-
--- The first of these records were appended, and then the keeper stopped.
-pub record AppendedPart {K : Type 0} (gives : Appending K) (may_fail : Type 0) (records : List Record) (old new : K) : Type 0 where
-  pub count : ℕ
-  pub mid : K
-  pub front : Appended gives (take count records) old mid
-  pub stop : Stops gives may_fail (slice_get records count) mid new
-
 abbrev pub Grows : {K : Type 0} → Appending K → List Record → Option K → Option K → Type 0
 Grows gives records None None = Unit {0}
 Grows gives records None (Some new) = ⊥
 Grows gives records (Some old) None = ⊥
 Grows gives records (Some old) (Some new) = Appended gives records old new
 
-abbrev pub GrowsPart : {K : Type 0} → Appending K → Type 0 → List Record → Option K → Option K → Type 0
-GrowsPart gives may_fail records None None = Unit {0}
-GrowsPart gives may_fail records None (Some new) = ⊥
-GrowsPart gives may_fail records (Some old) None = ⊥
-GrowsPart gives may_fail records (Some old) (Some new) = AppendedPart gives may_fail records old new
-
 -- a role has kept what it has to keep of these
 abbrev pub GuestGrows : {K : Type 0} → Appending K → List KeptRecord → Guest K → Guest K → Type 0
 GuestGrows gives kept old new = Grows gives (records_of (who old) kept) (keeper_of old) (keeper_of new)
 
--- a role has kept a front of it, and is who it was
-pub record GuestGrowsPart {K : Type 0} (gives : Appending K) (may_fail : Type 0) (kept : List KeptRecord) (old new : Guest K) : Type 0 where
-  pub grows : GrowsPart gives may_fail (records_of (who old) kept) (keeper_of old) (keeper_of new)
-  pub name : who new ≡ who old
+-- a keeper, if there is one, keeps nothing more: it is as it was, or ran out of memory in an append
+abbrev pub Rests : {K : Type 0} → Appending K → Option K → Option K → Type 0
+Rests gives None None = Unit {0}
+Rests gives None (Some new) = ⊥
+Rests gives (Some old) None = ⊥
+Rests gives (Some old) (Some new) = Refuses gives old new
 
--- The keeper of a role failed: behind the first of its records the append of the next one was answered so.
-pub record GuestFails {K : Type 0} (gives : Appending K) (kept : List KeptRecord) (old new : Guest K) : Type 0 where
-  pub keeper : K
-  pub last : K
-  pub has : keeper_of old ≡ Some keeper
-  pub has_last : keeper_of new ≡ Some last
-  pub count : ℕ
-  pub mid : K
-  pub front : Appended gives (take count (records_of (who old) kept)) keeper mid
-  pub fails : Fails gives (slice_get (records_of (who old) kept) count) mid last
+-- an append of this record was answered Failed
+abbrev pub Fails : {K : Type 0} → Appending K → Option Record → K → K → Type 0
+Fails gives None old new = ⊥
+Fails gives (Some r) old new = gives old r (Err Failed) new
+
+-- there is a keeper, and its append of this record failed
+abbrev pub FailsIn : {K : Type 0} → Appending K → Option Record → Option K → Option K → Type 0
+FailsIn gives next None new = ⊥
+FailsIn gives next (Some old) None = ⊥
+FailsIn gives next (Some old) (Some new) = Fails gives next old new

@@ -43,19 +43,19 @@ name_of (ReplicaAt s) = s.me
 name_of (UnbatcherAt s) = s.me
 name_of (ReaderAt s) = s.me
 
--- What a step comes to: what follows, the records that are kept, the datagrams that are sent, and the text that is printed.
-pub record Moved (S : Type 0) : Type 0 where
-  pub next : S
+-- The result of a step of a role: what follows, the records that are kept, the datagrams that are sent, and the text that is printed.
+pub record Step : Type 0 where
+  pub next : Hosted
   pub kept : List KeptRecord
   pub sends : List Letter
   pub text : List ℕ
 
 -- nothing is done
-abbrev pub stays : {S : Type 0} → S → Moved S
-stays s = record { next = s; kept = []; sends = []; text = [] }
+abbrev pub rests : Hosted → Step
+rests h = record { next = h; kept = []; sends = []; text = [] }
 
 -- a role of the protocol does what its row gives
-abbrev pub by_row : {D V : Type 0} → Rules D V → (Running D V → Hosted) → Running D V → Input → Moved Hosted
+abbrev pub by_row : {D V : Type 0} → Rules D V → (Running D V → Hosted) → Running D V → Input → Step
 by_row rules make s i =
     record {
       next = make (running_after rules s (outcome_of rules s i));
@@ -64,21 +64,21 @@ by_row rules make s i =
       text = [];
     }
 
--- what a client's move comes to
-abbrev pub by_client : ClientMoved → List ℕ → Moved Hosted
+-- the result of a client's move
+abbrev pub by_client : ClientMoved → List ℕ → Step
 by_client m text = record { next = ClientAt m.state; kept = []; sends = m.sends; text = text }
 
 -- the line of a datagram that completes a client's request
 abbrev pub printed : ClientMoved → RoleId → Letter → List ℕ
 printed m me d = if m.completes then told_text me.index d.msg else []
 
-abbrev pub client_given : ClientState → Input → Moved Hosted
+abbrev pub client_given : ClientState → Input → Step
 client_given s (input.Take d) = by_client (client_takes s d) (printed (client_takes s d) s.me d)
 client_given s input.Tick = by_client (client_ticks s) []
-client_given s (input.Order order) = stays (ClientAt s)
+client_given s (input.Order order) = rests (ClientAt s)
 
 -- a hosted role takes an input
-abbrev pub given : Hosted → Input → Moved Hosted
+abbrev pub given : Hosted → Input → Step
 given (ClientAt s) i = client_given s i
 given (BatcherAt s) i = by_row batcher_rules BatcherAt s i
 given (LeaderAt s) i = by_row leader_rules LeaderAt s i
@@ -90,19 +90,19 @@ given (UnbatcherAt s) i = by_row unbatcher_rules UnbatcherAt s i
 given (ReaderAt s) i = by_row reader_rules ReaderAt s i
 
 -- a client sends its first request; another role has nothing to begin with
-abbrev pub begun : Hosted → Moved Hosted
+abbrev pub begun : Hosted → Step
 begun (ClientAt s) = record { next = ClientAt s; kept = []; sends = client_start s; text = [] }
-begun (BatcherAt s) = stays (BatcherAt s)
-begun (LeaderAt s) = stays (LeaderAt s)
-begun (ProxyAt s) = stays (ProxyAt s)
-begun (AcceptorAt s) = stays (AcceptorAt s)
-begun (MatchmakerAt s) = stays (MatchmakerAt s)
-begun (ReplicaAt s) = stays (ReplicaAt s)
-begun (UnbatcherAt s) = stays (UnbatcherAt s)
-begun (ReaderAt s) = stays (ReaderAt s)
+begun (BatcherAt s) = rests (BatcherAt s)
+begun (LeaderAt s) = rests (LeaderAt s)
+begun (ProxyAt s) = rests (ProxyAt s)
+begun (AcceptorAt s) = rests (AcceptorAt s)
+begun (MatchmakerAt s) = rests (MatchmakerAt s)
+begun (ReplicaAt s) = rests (ReplicaAt s)
+begun (UnbatcherAt s) = rests (UnbatcherAt s)
+begun (ReaderAt s) = rests (ReaderAt s)
 
 -- what a hosted role does
-unfoldable pub does : Hosted → Doing → Moved Hosted
+unfoldable pub does : Hosted → Doing → Step
 does h Begin = begun h
 does h (Give i) = given h i
 

@@ -1,5 +1,5 @@
--- What binding, running and giving back come to, behind an input that was accepted.
-use Rattle.std.specs.Prelude.{◌≡◌, ◌≤◌, ℕ, Bool, true, List, ◌++◌, map, Option, Some, Result, Ok, Err, IfOk, OnOk, OnErr, slice_get}
+-- What binding, running and giving back come to, after an input that was accepted.
+use Rattle.std.specs.Prelude.{◌≡◌, ◌≤◌, ℕ, Bool, true, List, ◌++◌, Option, Some, Result, Ok, Err, IfOk, IfErr, slice_get}
 use Rattle.cx_base.specs.declared.cluster.Cluster.{Cluster}
 use Rattle.cx_base.specs.declared.event.Event.{Event}
 use Rattle.cx_base.specs.declared.role.RoleId.{RoleId}
@@ -17,10 +17,9 @@ use Rattle.cx_node.specs.declared.node.Stop.{Stop}
 use Rattle.cx_node.specs.declared.node.Stop.TheVariants as stop
 use Rattle.cx_node.specs.declared.opening.OpenStop.{OpenStop}
 use Rattle.cx_node.specs.declared.opening.OpenStop.TheVariants as open_stop
-use Rattle.cx_node.specs.Acts.{fails_by}
 use Rattle.cx_node.specs.Doing.{Scene}
 use Rattle.cx_node.specs.Guest.{keeper_of, who}
-use Rattle.cx_node.specs.Node.{IsEnd, RunFails, Runs, RunsPart, Takes}
+use Rattle.cx_node.specs.Node.{IsEnd, IsUnderway, Runs, RunsPart, Takes}
 use Rattle.cx_node.specs.Opening.{IsBadAs, IsFirstBad}
 use Rattle.cx_node.specs.Serving.{Outside, Served, ServedPart, hosts}
 
@@ -43,11 +42,11 @@ ended_status (Err (stop.StoreFault role)) = status.StoreFault role
 
 -- ---- what is done
 
--- a link tells these binds besides
+-- a history with these binds besides
 abbrev pub with_binds : List Bind → LinkHistory → LinkHistory
 with_binds binds h = record h { binds = h.binds ++ binds }
 
--- The stores of these roles were given back: the depot holds what each store tells, for other roles what it held, and each fault of
+-- The stores of these roles were given back: the depot holds what each store holds, for other roles what it held, and each fault of
 -- a store, and nothing else, has raised its role's count.
 pub record GivesBack {D : Type 0} (seen : D → Option (List ℕ)) (disk_faults : D → ℕ) (guests : List (Guest (JournalState D))) (tells : Bool) (held held_after : RoleId → List ℕ) (faults faults_after : RoleId → ℕ) : Type 0 where
   pub holds : tells ≡ true → (i : ℕ) (guest : Guest (JournalState D)) (j : JournalState D) (file : List ℕ)
@@ -64,36 +63,35 @@ pub record GivesBack {D : Type 0} (seen : D → Option (List ℕ)) (disk_faults 
       → faults_after role ≡ faults role
   pub later : (role : RoleId) → faults role ≤ faults_after role
 
--- Hosted roles ran to this answer: the whole run was made, and no name has changed; or a front of it, and what failed has a cause.
-pub record Ran {K : Type 0} (gives : Appending K) (c : Cluster) (turns : ℕ) (answer : Result RunEnd Stop) (old new : Scene K) (links links_after writes writes_after : ℕ) : Type 0 where
-  pub done : IfOk answer (λ e. Runs gives c turns e old new)
-  pub names : OnOk answer (map who new.guests ≡ map who old.guests)
-  pub part : OnErr answer (RunsPart gives (fails_by answer) c turns old new)
-  pub store : (role : RoleId) → answer ≡ Err (stop.StoreFault role) → RunFails gives c role old.guests new.guests
+-- Hosted roles ran to this answer: the whole run was made, or the first of its actions were done, and what failed has a cause.
+pub record Ran {K : Type 0} (gives : Appending K) (tend : Option ℕ) (c : Cluster) (turns : ℕ) (answer : Result RunEnd Stop) (old new : Scene K) (links links_after writes writes_after : ℕ) : Type 0 where
+  pub done : IfOk answer (λ e. Runs gives tend c turns e old new)
+  pub part : IfErr answer (λ e. RunsPart gives e tend c turns old new)
   pub written : answer ≡ Err stop.WriteFault → Rises writes writes_after
   pub unwritten : (answer ≡ Err stop.WriteFault → ⊥) → writes_after ≡ writes
   pub linked : answer ≡ Err stop.LinkFault → Rises links links_after
   pub unlinked : (answer ≡ Err stop.LinkFault → ⊥) → links_after ≡ links
 
 -- the whole run was made, to this end
-abbrev pub HostEnds : List RoleId → Cluster → List Event → ℕ → RunEnd → Outside → Outside → Type 0
-HostEnds roles c events turns e old new =
-    (told : RoleId → List Record) × (takes : Takes) × Served roles c events told takes old new × IsEnd c turns (hosts c events told roles) takes e
+abbrev pub HostEnds : List RoleId → Option ℕ → Cluster → List Event → ℕ → RunEnd → Outside → Outside → Type 0
+HostEnds roles tend c events turns e old new =
+    (told : RoleId → List Record) × (takes : Takes) × Served roles tend c events told takes old new × IsEnd tend c turns (hosts c events told roles) takes e
 
--- a front of it was made
-abbrev pub HostEndsEarly : List RoleId → Cluster → List Event → Outside → Outside → Type 0
-HostEndsEarly roles c events old new = (told : RoleId → List Record) × (takes : Takes) × ServedPart roles c events told takes old new
+-- the first of its actions were done
+abbrev pub HostEndsEarly : List RoleId → Option ℕ → Cluster → List Event → ℕ → Outside → Outside → Type 0
+HostEndsEarly roles tend c events turns old new =
+    (told : RoleId → List Record) × (takes : Takes) × ServedPart roles tend c events told takes old new × IsUnderway tend c turns (hosts c events told roles) takes
 
 -- what was done, and why, for each answer; hosting reads nothing
-abbrev pub HostDid : List RoleId → Cluster → List Event → ℕ → Outside → Outside → Status → Type 0
-HostDid roles c events turns old new status.Done = HostEnds roles c events turns end.Done old new
-HostDid roles c events turns old new status.Turns = HostEnds roles c events turns end.Turns old new
-HostDid roles c events turns old new status.LinkFault = HostEndsEarly roles c events old new × Rises old.links new.links
-HostDid roles c events turns old new status.WriteFault = HostEndsEarly roles c events old new × Rises old.writes new.writes
-HostDid roles c events turns old new (status.StoreFault role) = HostEndsEarly roles c events old new × Rises (old.stores role) (new.stores role)
-HostDid roles c events turns old new (status.BadStore role at) = HostEndsEarly roles c events old new × (old.tells ≡ true → IsFirstBad roles c old.held role at)
-HostDid roles c events turns old new status.NoMemory = HostEndsEarly roles c events old new
-HostDid roles c events turns old new other = ⊥
+abbrev pub HostDid : List RoleId → Option ℕ → Cluster → List Event → ℕ → Outside → Outside → Status → Type 0
+HostDid roles tend c events turns old new status.Done = HostEnds roles tend c events turns end.Done old new
+HostDid roles tend c events turns old new status.Turns = HostEnds roles tend c events turns end.Turns old new
+HostDid roles tend c events turns old new status.LinkFault = HostEndsEarly roles tend c events turns old new × Rises old.links new.links
+HostDid roles tend c events turns old new status.WriteFault = HostEndsEarly roles tend c events turns old new × Rises old.writes new.writes
+HostDid roles tend c events turns old new (status.StoreFault role) = HostEndsEarly roles tend c events turns old new × Rises (old.stores role) (new.stores role)
+HostDid roles tend c events turns old new (status.BadStore role at) = HostEndsEarly roles tend c events turns old new × (old.tells ≡ true → IsFirstBad roles c old.held role at)
+HostDid roles tend c events turns old new status.NoMemory = HostEndsEarly roles tend c events turns old new
+HostDid roles tend c events turns old new other = ⊥
 
 -- the roles ran
 abbrev pub HasRun : Status → Type 0
@@ -102,9 +100,9 @@ HasRun status.Turns = Unit {0}
 HasRun status.WriteFault = Unit {0}
 HasRun other = ⊥
 
--- what hosting answered; a failed write or take, and a store that failed, is always told, and roles run only from stores of their own
-pub record HostAnswered (roles : List RoleId) (c : Cluster) (events : List Event) (turns : ℕ) (old new : Outside) (s : Status) : Type 0 where
-  pub did : HostDid roles c events turns old new s
+-- what hosting answered; a failed write or take, and a store that failed, is always reported, and roles run only from stores of their own
+pub record HostAnswered (roles : List RoleId) (tend : Option ℕ) (c : Cluster) (events : List Event) (turns : ℕ) (old new : Outside) (s : Status) : Type 0 where
+  pub did : HostDid roles tend c events turns old new s
   pub written : (s ≡ status.WriteFault → ⊥) → new.writes ≡ old.writes
   pub linked : (s ≡ status.LinkFault → ⊥) → new.links ≡ old.links
   pub good : HasRun s → old.tells ≡ true → (i : ℕ) (role : RoleId) (at : ℕ) → slice_get roles i ≡ Some role → IsBadAs c role (old.held role) at role.kind → ⊥

@@ -1,4 +1,4 @@
--- What the input of a node says: its header's cluster, and the requests of the lines behind it.
+-- What the input of a node says: its header's cluster, and the requests of the lines after it.
 use Rattle.std.specs.Prelude.{◌≡◌, ◌⊎◌, ℕ, Bool, true, false, List, Option, None, Some, Result, Ok, Err, if◌then◌else◌}
 use Rattle.std.specs.Io.KnownBytes.{Consumes}
 use Rattle.std.specs.List.{list_all}
@@ -21,12 +21,12 @@ abbrev pub with_port : Option ℕ → Cluster → List ℕ → Heard
 with_port None c rest = BadHeader
 with_port (Some port) c rest = Lines c (requests_of c rest)
 
--- the cluster that a header's text says, and the requests that the bytes behind it spell
+-- the cluster that a header's text says, and the requests that the bytes after it spell
 abbrev pub behind : Result Cluster ClusterFault → List ℕ → Heard
 behind (Ok c) rest = with_port c.base_port c rest
 behind (Err fault) rest = BadHeader
 
--- the same of a header's text and the bytes behind it, where there is a header
+-- the same of a header's text and the bytes after it, where there is a header
 abbrev pub of_header : Option (List ℕ × List ℕ) → Heard → Heard
 of_header None without = without
 of_header (Some parts) without = behind (header_cluster parts.0) parts.1
@@ -35,7 +35,7 @@ of_header (Some parts) without = behind (header_cluster parts.0) parts.1
 unfoldable pub input_of : List ℕ → Heard
 input_of bytes = of_header (header_of bytes) BadHeader
 
--- What bytes say behind which others may come: their whole lines, and a line that is too long already. A header that hasn't ended
+-- What bytes say after which others may come: their whole lines, and a line that is too long already. A header that hasn't ended
 -- is bad only where it is too long.
 unfoldable pub lines : List ℕ → Heard
 lines bytes = of_header (header_of (counted 1024 bytes)) (if is_long_header (counted 16384 bytes) then BadHeader else Nothing)
@@ -57,7 +57,7 @@ refused_of roles BadHeader = Some (refusal.BadInput 0)
 refused_of roles (Lines c spelled) =
     if list_all (λ (r : RoleId). names_role c r) roles then bad_line_of spelled.bad else Some refusal.BadWords
 
--- what was answered is what the input says, want of memory aside
+-- what was answered is what the input says, out of memory aside
 abbrev pub IsRefusal : Option Refusal → Refusal → Type 0
 IsRefusal said refusal.NoMemory = Unit {0}
 IsRefusal said refusal.ReadFault = ⊥
@@ -72,11 +72,11 @@ IsAnswer ended roles heard (Err refusal.ReadFault) = (refused_of roles heard ≡
 IsAnswer ended roles heard (Err (refusal.BadInput line)) = refused_of roles heard ≡ Some (refusal.BadInput line)
 IsAnswer ended roles heard (Err refusal.BadWords) = refused_of roles heard ≡ Some refusal.BadWords
 
--- what bytes that a read failed behind are refused for, or else the failed read
+-- what bytes after which a read failed are refused for, or else the failed read
 abbrev pub refusal_of_part : Option Refusal → Refusal
 refusal_of_part None = refusal.ReadFault
 refusal_of_part (Some why) = why
 
--- Where a read failed, an input is refused for what the whole lines of the bytes that were read say, or for that; or memory was wanting.
+-- Where a read failed, an input is refused for what the whole lines of the bytes that were read say, or for that; or memory ran out.
 abbrev pub FailsRead : List RoleId → Option (List ℕ) → Option (List ℕ) → Refusal → Type 0
 FailsRead roles left left_after why = (why ≡ refusal.NoMemory) ⊎ ((bytes : List ℕ) × Consumes left left_after bytes × (why ≡ refusal_of_part (refused_of roles (lines bytes))))

@@ -1,6 +1,9 @@
 pub mod Hosted
 pub mod Ports
+pub mod Action
 pub mod Run
+pub mod Tending
+pub mod TendingExamples
 pub mod Guest
 pub mod Seat
 pub mod Doing
@@ -13,3 +16,5 @@ pub mod Stops
 pub mod Durable
 pub mod Hosting
 pub mod Acts
+pub mod Tends
+pub mod Orders

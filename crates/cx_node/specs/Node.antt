@@ -2,15 +2,17 @@
 use Rattle.std.specs.Prelude.{◌≡◌, ◌⊎◌, ◌≤◌, ◌<◌, ℕ, true, false, List, length, take, Option}
 use Rattle.std.specs.List.{list_any}
 use Rattle.cx_base.specs.declared.cluster.Cluster.{Cluster}
-use Rattle.cx_base.specs.declared.role.RoleId.{RoleId}
 use Rattle.cx_role.specs.Role.{Appending}
 use Rattle.cx_node.specs.declared.guest.Guest.{Guest}
 use Rattle.cx_node.specs.declared.node.RunEnd.{RunEnd}
 use Rattle.cx_node.specs.declared.node.RunEnd.TheVariants.{Done, Turns}
-use Rattle.cx_node.specs.Doing.{Does, DoesPart, Scene, StoreFails}
+use Rattle.cx_node.specs.declared.node.Stop.{Stop}
+use Rattle.cx_node.specs.Action.{HasTaken}
+use Rattle.cx_node.specs.Doing.{DidPart, Does, Scene}
 use Rattle.cx_node.specs.Guest.{hosted_in}
 use Rattle.cx_node.specs.Hosted.{Hosted}
-use Rattle.cx_node.specs.Run.{all_finished, is_client, node_run}
+use Rattle.cx_node.specs.Run.{all_finished, is_client}
+use Rattle.cx_node.specs.Tending.{node_run}
 
 -- the cluster, and the hosted roles in the order of the words
 pub record NodeState (K : Type 0) : Type 0 where
@@ -21,26 +23,28 @@ pub record NodeState (K : Type 0) : Type 0 where
 abbrev pub Takes : Type 0
 Takes = List (Option (List ℕ))
 
--- a run has come to its end with these takes, and to no end before the last of them
-pub record IsEnd (c : Cluster) (limit : ℕ) (hs : List Hosted) (takes : Takes) (end : RunEnd) : Type 0 where
+-- a run has made at most limit turns with these takes, and came to no end before the last of them
+pub record IsUnderway (tend : Option ℕ) (c : Cluster) (limit : ℕ) (hs : List Hosted) (takes : Takes) : Type 0 where
   pub most : length takes ≤ limit
-  pub not_before : (k : ℕ) → k < length takes → all_finished ((node_run c (take k takes) hs).next) ≡ false
+  pub not_before : (k : ℕ) → k < length takes → all_finished ((node_run tend c (take k takes) hs).next) ≡ false
+
+-- a run has come to its end with these takes, and to no end before the last of them
+pub record IsEnd (tend : Option ℕ) (c : Cluster) (limit : ℕ) (hs : List Hosted) (takes : Takes) (end : RunEnd) : Type 0 where
+  pub most : length takes ≤ limit
+  pub not_before : (k : ℕ) → k < length takes → all_finished ((node_run tend c (take k takes) hs).next) ≡ false
   -- Done: all hosted clients have finished, or none is hosted and all turns were made.
-  pub done : end ≡ Done → (all_finished ((node_run c takes hs).next) ≡ true) ⊎ ((list_any is_client hs ≡ false) × (length takes ≡ limit))
+  pub done : end ≡ Done → (all_finished ((node_run tend c takes hs).next) ≡ true) ⊎ ((list_any is_client hs ≡ false) × (length takes ≡ limit))
   -- Turns: all turns were made, and a hosted client hasn't finished.
-  pub turns : end ≡ Turns → (list_any is_client hs ≡ true) × (length takes ≡ limit) × (all_finished ((node_run c takes hs).next) ≡ false)
+  pub turns : end ≡ Turns → (list_any is_client hs ≡ true) × (length takes ≡ limit) × (all_finished ((node_run tend c takes hs).next) ≡ false)
 
--- the whole run was made
-abbrev pub Runs : {K : Type 0} → Appending K → Cluster → ℕ → RunEnd → Scene K → Scene K → Type 0
-Runs gives c turns end old new =
-    (takes : Takes) × Does gives c takes (node_run c takes (hosted_in old.guests)) old new × IsEnd c turns (hosted_in old.guests) takes end
+-- the whole run was made, with what the takes of the link gave
+abbrev pub Runs : {K : Type 0} → Appending K → Option ℕ → Cluster → ℕ → RunEnd → Scene K → Scene K → Type 0
+Runs gives tend c turns end old new =
+    (takes : Takes) × Does gives c (node_run tend c takes (hosted_in old.guests)) old new × IsEnd tend c turns (hosted_in old.guests) takes end
+    × HasTaken takes (node_run tend c takes (hosted_in old.guests)).actions
 
--- A front of it was made, with the first of its takes. Of no other role than these has an append failed.
-abbrev pub RunsPart : {K : Type 0} → Appending K → (RoleId → Type 0) → Cluster → ℕ → Scene K → Scene K → Type 0
-RunsPart gives failing c turns old new =
-    (takes : Takes) × (made : ℕ) × (length takes ≤ turns)
-    × DoesPart gives failing c (take made takes) (node_run c takes (hosted_in old.guests)) old new
-
--- in a run with these takes the keeper of this role failed
-abbrev pub RunFails : {K : Type 0} → Appending K → Cluster → RoleId → List (Guest K) → List (Guest K) → Type 0
-RunFails gives c role old new = (takes : Takes) × StoreFails gives (node_run c takes (hosted_in old)).kept role old new
+-- The first of its actions were done, its takes among them, when this stopped it.
+abbrev pub RunsPart : {K : Type 0} → Appending K → Stop → Option ℕ → Cluster → ℕ → Scene K → Scene K → Type 0
+RunsPart gives e tend c turns old new =
+    (takes : Takes) × IsUnderway tend c turns (hosted_in old.guests) takes
+    × DidPart gives c (node_run tend c takes (hosted_in old.guests)).actions e old new

@@ -6,6 +6,7 @@ use Rattle.cx_base.specs.declared.role.Kind.{Kind}
 use Rattle.cx_base.specs.declared.role.Kind.TheVariants as kind
 use Rattle.cx_base.specs.declared.role.RoleId.{RoleId}
 use Rattle.cx_client.specs.Client.{client_opened}
+use Rattle.cx_inv_open.specs.Reopened.{refused_as}
 use Rattle.cx_journal.specs.Image.{image}
 use Rattle.cx_journal.specs.State.{JournalState, told_records}
 use Rattle.cx_model.specs.Acceptor.{acceptor_rules}
@@ -15,7 +16,7 @@ use Rattle.cx_model.specs.Matchmaker.{matchmaker_rules}
 use Rattle.cx_model.specs.Proxy.{proxy_rules}
 use Rattle.cx_model.specs.Reader.{reader_rules}
 use Rattle.cx_model.specs.Replica.{replica_rules}
-use Rattle.cx_model.specs.Rules.{opened, refused}
+use Rattle.cx_model.specs.Rules.{opened}
 use Rattle.cx_model.specs.Unbatcher.{unbatcher_rules}
 use Rattle.cx_msg.specs.declared.kept.Record.{Record}
 use Rattle.cx_script.specs.Requests.{script_of}
@@ -48,14 +49,6 @@ opened_as c events me records kind.Replica = ReplicaAt (opened replica_rules c m
 opened_as c events me records kind.Unbatcher = UnbatcherAt (opened unbatcher_rules c me [])
 opened_as c events me records kind.Reader = ReaderAt (opened reader_rules c me [])
 
--- the first record that a role of this kind could not have appended
-abbrev pub refused_as : Cluster → RoleId → List Record → Kind → Option ℕ
-refused_as c me records kind.Leader = refused leader_rules c me records
-refused_as c me records kind.Acceptor = refused acceptor_rules c me records
-refused_as c me records kind.Matchmaker = refused matchmaker_rules c me records
-refused_as c me records kind.Replica = refused replica_rules c me records
-refused_as c me records other = None
-
 -- the bytes are no store of a role of this kind, for the reason at this place
 abbrev pub IsBadAs : Cluster → RoleId → List ℕ → ℕ → Kind → Type 0
 IsBadAs c me file at kind.Leader = IsBadStore leader_rules c me file at
@@ -64,14 +57,14 @@ IsBadAs c me file at kind.Matchmaker = IsBadStore matchmaker_rules c me file at
 IsBadAs c me file at kind.Replica = IsBadStore replica_rules c me file at
 IsBadAs c me file at other = ⊥
 
--- the first of these roles whose store is none of its own, and the place of the first fault in it
+-- the first of these roles whose store is not one of its own, and the place of the first fault in it
 pub record IsFirstBad (roles : List RoleId) (c : Cluster) (held : RoleId → List ℕ) (role : RoleId) (at : ℕ) : Type 0 where
   pub place : ℕ
   pub here : slice_get roles place ≡ Some role
   pub bad : IsBadAs c role (held role) at role.kind
   pub first : (i : ℕ) (other : RoleId) (fault : ℕ) → i < place → slice_get roles i ≡ Some other → IsBadAs c other (held other) fault other.kind → ⊥
 
--- a journal has these records, as far as its disk tells, and nothing has failed
+-- a journal has these records, as far as its disk's bytes are known, and nothing has failed
 pub record HasRecords {D : Type 0} (seen : D → Option (List ℕ)) (disk_faults : D → ℕ) (tells : Bool) (records : List Record) (j : JournalState D) : Type 0 where
   pub whole : j.whole ≡ true
   pub told : tells ≡ true → is_some (seen j.disk) ≡ true

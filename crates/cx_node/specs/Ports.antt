@@ -9,7 +9,7 @@ use Rattle.cx_msg.specs.Letter.{Letter, spelling}
 use Rattle.cx_model.specs.Names.{names_role}
 use Rattle.cx_edge.specs.Link.{Bind, Sending}
 
--- how many roles stand before those of a kind, by the kinds' codes
+-- how many roles come before those of a kind, by the kinds' codes
 abbrev pub before : Cluster → Kind → ℕ
 before c Client = 0
 before c Batcher = c.clients

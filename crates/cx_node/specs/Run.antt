@@ -1,4 +1,5 @@
--- The run of a node: a function of its cluster, its hosted roles as they were opened, and what each take of its link gave.
+-- The turns of a node that doesn't tend its roles, and its run: a function of its cluster, its hosted roles as they were opened, and what
+-- each take of its link gave.
 use Rattle.std.specs.Prelude.{ℕ, zero, suc, ◌+◌, ◌/◌, ◌%◌, ◌==◌, min, Bool, true, false, ◌&&◌, ◌||◌, List, [], ◌∷◌, ◌++◌, length, Option, None, Some, Result, Ok, Err, option_map, slice_get, slice_set, if◌then◌else◌}
 use Rattle.std.specs.List.{list_all, list_any}
 use Rattle.cx_base.specs.declared.cluster.Cluster.{Cluster}
@@ -15,20 +16,28 @@ use Rattle.cx_msg.specs.declared.fault.WireFault.{WireFault}
 use Rattle.cx_msg.specs.declared.input.Input.TheVariants as input
 use Rattle.cx_node.specs.declared.doing.Doing.{Doing}
 use Rattle.cx_node.specs.declared.doing.Doing.TheVariants.{Begin, Give}
-use Rattle.cx_node.specs.Hosted.{Hosted, ClientAt, Moved, does, is_idle_leader, name_of, stays}
+use Rattle.cx_node.specs.Action.{Action, Took, step_actions}
+use Rattle.cx_node.specs.Hosted.{Hosted, ClientAt, Step, does, is_idle_leader, name_of}
+
+-- The result of a part of a run: what follows, and what was done, in order.
+pub record Moved (S : Type 0) : Type 0 where
+  pub next : S
+  pub actions : List Action
+
+-- nothing is done
+abbrev pub stays : {S : Type 0} → S → Moved S
+stays s = record { next = s; actions = [] }
 
 -- one thing after another
 abbrev pub then_do : {S T : Type 0} → Moved S → (S → Moved T) → Moved T
-then_do m f =
-    record {
-      next = (f m.next).next;
-      kept = m.kept ++ (f m.next).kept;
-      sends = m.sends ++ (f m.next).sends;
-      text = m.text ++ (f m.next).text;
-    }
+then_do m f = record { next = (f m.next).next; actions = m.actions ++ (f m.next).actions }
 
-abbrev pub put_back : ℕ → List Hosted → Moved Hosted → Moved (List Hosted)
-put_back i hs m = record { next = slice_set hs i m.next; kept = m.kept; sends = m.sends; text = m.text }
+-- a take of the link gives this, and then comes the rest
+abbrev pub took : {S : Type 0} → Option (List ℕ) → Moved S → Moved S
+took what m = record { next = m.next; actions = Took what ∷ m.actions }
+
+abbrev pub put_back : ℕ → List Hosted → Step → Moved (List Hosted)
+put_back i hs s = record { next = slice_set hs i s.next; actions = step_actions s.kept s.sends s.text }
 
 abbrev pub found_does : ℕ → List Hosted → Doing → Option Hosted → Moved (List Hosted)
 found_does i hs what None = stays hs
@@ -88,8 +97,8 @@ decoded_come (Ok d) hs = at_place (place_of d.to hs) (Give (input.Take d)) hs
 
 -- what a take gave comes to its role
 unfoldable pub comes : Option (List ℕ) → List Hosted → Moved (List Hosted)
-comes None hs = stays hs
-comes (Some bytes) hs = decoded_come (decoded bytes) hs
+comes None hs = took None (stays hs)
+comes (Some bytes) hs = took (Some bytes) (decoded_come (decoded bytes) hs)
 
 -- all roles tick, at each turn that 64 divides
 unfoldable pub ticked : ℕ → List Hosted → Moved (List Hosted)
@@ -99,14 +108,14 @@ ticked n hs = if n % 64 == 0 then all_do (Give input.Tick) hs else stays hs
 unfoldable pub turn : Cluster → ℕ → Option (List ℕ) → List Hosted → Moved (List Hosted)
 turn c n what hs = then_do (ordered c n hs) (λ after. then_do (comes what after) (λ last. ticked n last))
 
--- the turns from the n-th on
-abbrev pub turns_from : Cluster → ℕ → List (Option (List ℕ)) → List Hosted → Moved (List Hosted)
-turns_from c n [] hs = stays hs
-turns_from c n (what ∷ rest) hs = then_do (turn c n what hs) (λ after. turns_from c (n + 1) rest after)
+-- the turns from the n-th on, each of this kind
+abbrev pub turns_from : {S : Type 0} → (ℕ → Option (List ℕ) → S → Moved S) → ℕ → List (Option (List ℕ)) → S → Moved S
+turns_from step n [] s = stays s
+turns_from step n (what ∷ rest) s = then_do (step n what s) (λ after. turns_from step (n + 1) rest after)
 
 -- The whole run: clients send their first requests, and then come the turns.
-unfoldable pub node_run : Cluster → List (Option (List ℕ)) → List Hosted → Moved (List Hosted)
-node_run c takes hs = then_do (all_do Begin hs) (λ after. turns_from c 1 takes after)
+abbrev pub untended_run : Cluster → List (Option (List ℕ)) → List Hosted → Moved (List Hosted)
+untended_run c takes hs = then_do (all_do Begin hs) (λ after. turns_from (turn c) 1 takes after)
 
 -- ---- when it ends
 

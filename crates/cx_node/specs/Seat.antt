@@ -1,11 +1,9 @@
 -- A hosted role under the name of its seat.
-use Rattle.std.specs.Prelude.{◌≡◌, Option, None, Some, IsTrue}
+use Rattle.std.specs.Prelude.{◌≡◌, IsTrue}
 use Rattle.cx_base.specs.declared.role.RoleId.{RoleId}
 use Rattle.cx_node.specs.declared.guest.Guest.{Guest}
 use Rattle.cx_node.specs.declared.guest.Guest.TheVariants as guest
-use Rattle.cx_msg.specs.declared.kept.Record.{Record}
-use Rattle.cx_role.specs.Role.{Appending}
-use Rattle.cx_node.specs.Guest.{Fails, hosted_of, who}
+use Rattle.cx_node.specs.Guest.{hosted_of, who}
 use Rattle.cx_node.specs.Hosted.{is_live}
 
 -- the role by this name: what a failed append leaves of a role has no name of its own
@@ -23,9 +21,3 @@ named me (guest.Reader role) = guest.Reader (record role { me = me })
 -- a role that may take a step has this name
 abbrev pub IsNamed : {K : Type 0} → RoleId → Guest K → Type 0
 IsNamed me h = IsTrue (is_live (hosted_of h)) → me ≡ who h
-
--- there is a keeper, and its append of this record failed
-abbrev pub FailsIn : {K : Type 0} → Appending K → Option Record → Option K → Option K → Type 0
-FailsIn gives next None new = ⊥
-FailsIn gives next (Some old) None = ⊥
-FailsIn gives next (Some old) (Some new) = Fails gives next old new

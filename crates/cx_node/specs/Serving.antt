@@ -1,4 +1,4 @@
--- What serving came to.
+-- The result of serving.
 use Rattle.std.specs.Prelude.{◌≡◌, ◌⊎◌, ℕ, Bool, true, List, ◌++◌, map, take, Option, None, Some, IfSome, slice_get}
 use Rattle.std.specs.Io.KnownBytes.{Appends, IsAtEnd}
 use Rattle.cx_base.specs.declared.cluster.Cluster.{Cluster}
@@ -8,7 +8,6 @@ use Rattle.cx_base.specs.declared.status.Status.{Status}
 use Rattle.cx_base.specs.declared.status.Status.TheVariants as status
 use Rattle.cx_base.specs.Faults.{Rises}
 use Rattle.cx_edge.specs.Link.{LinkHistory}
-use Rattle.cx_edge.specs.Sink.{AppendsPart}
 use Rattle.cx_journal.specs.Image.{image}
 use Rattle.cx_journal.specs.State.{records_or_none, told_records}
 use Rattle.cx_model.specs.World.{records_of}
@@ -18,15 +17,17 @@ use Rattle.cx_node.specs.declared.input.Refusal.{Refusal}
 use Rattle.cx_node.specs.declared.input.Refusal.TheVariants as refusal
 use Rattle.cx_node.specs.declared.node.RunEnd.{RunEnd}
 use Rattle.cx_node.specs.declared.node.RunEnd.TheVariants as end
-use Rattle.cx_node.specs.Hosted.{Hosted, Moved}
+use Rattle.cx_node.specs.Action.{Action, Bound, HasTaken, kept_in, printed_in}
+use Rattle.cx_node.specs.Doing.{Linked}
+use Rattle.cx_node.specs.Hosted.{Hosted}
 use Rattle.cx_node.specs.Input.{FailsRead, input_of, refused_of}
-use Rattle.cx_node.specs.Node.{IsEnd, Takes}
+use Rattle.cx_node.specs.Node.{IsEnd, IsUnderway, Takes}
 use Rattle.cx_node.specs.Opening.{IsBadAs, IsFirstBad, is_durable, opened_as}
-use Rattle.cx_node.specs.Ports.{bind_of, sendings}
-use Rattle.cx_node.specs.Run.{node_run}
+use Rattle.cx_node.specs.Run.{Moved}
+use Rattle.cx_node.specs.Tending.{node_run}
 
--- What a node has outside: what its source has left, what its link and its output tell, whether its depot tells, what that holds
--- for each role, and how often each has failed.
+-- What a node has outside: what its source has left, the history of its link, what its output has taken, what its depot holds for each
+-- role and whether that is known, and how often each has failed.
 pub record Outside : Type 0 where
   pub left : Option (List ℕ)
   pub reads : ℕ
@@ -42,73 +43,69 @@ abbrev pub outside : Option (List ℕ) → ℕ → Option LinkHistory → ℕ �
 outside left reads link links out writes tells held stores =
     record { left = left; reads = reads; link = link; links = links; out = out; writes = writes; tells = tells; held = held; stores = stores }
 
--- the records that a store tells a role of its own kind
+-- the records of a store, as a role of its own kind opens it
 abbrev pub told_to : (RoleId → List ℕ) → RoleId → List Record
 told_to held me = records_or_none (image (Some me.kind) (held me))
 
--- the hosted roles as they are opened, each from the records that were told to it
+-- the hosted roles as they are opened, each from these records
 abbrev pub hosts : Cluster → List Event → (RoleId → List Record) → List RoleId → List Hosted
 hosts c events told roles = map (λ (me : RoleId). opened_as c events me (told me) me.kind) roles
 
 -- the run of these roles over what the takes of a link gave
-abbrev pub run_of : Cluster → List Event → (RoleId → List Record) → List RoleId → Takes → Moved (List Hosted)
-run_of c events told roles takes = node_run c takes (hosts c events told roles)
+abbrev pub run_of : Option ℕ → Cluster → List Event → (RoleId → List Record) → List RoleId → Takes → Moved (List Hosted)
+run_of tend c events told roles takes = node_run tend c takes (hosts c events told roles)
 
 -- the input says this cluster and these requests, and is refused for nothing
 abbrev pub Says : List RoleId → Option (List ℕ) → Cluster → List Event → Type 0
 Says roles left c events = IfSome left (λ all. (input_of all ≡ Lines c (record { events = events; bad = None })) × (refused_of roles (input_of all) ≡ None))
 
--- what was told to the roles is what a depot that tells holds
+-- what the roles were opened from is what the depot holds, where that is known
 abbrev pub IsTold : Outside → (RoleId → List Record) → Type 0
 IsTold old told = old.tells ≡ true → (me : RoleId) → is_durable me.kind ≡ true → told me ≡ told_to old.held me
 
--- What a whole run left: the link was asked for each role's bind and for all sends, the text is printed, and each store has the records
--- that were told to its role, and behind them those that it kept.
-pub record Served (roles : List RoleId) (c : Cluster) (events : List Event) (told : RoleId → List Record) (takes : Takes) (old new : Outside) : Type 0 where
-  pub told_by : IsTold old told
-  pub link : (after : LinkHistory) → new.link ≡ Some after
-      → (before : LinkHistory) × (old.link ≡ Some before)
-      × (after ≡ record {
-        binds = before.binds ++ map (bind_of c) roles;
-        taken = before.taken ++ takes;
-        sent = before.sent ++ sendings c (run_of c events told roles takes).sends;
-      })
-  pub printed : Appends old.out new.out (run_of c events told roles takes).text
-  pub stores : old.tells ≡ true → (i : ℕ) (me : RoleId) → slice_get roles i ≡ Some me → is_durable me.kind ≡ true
-      → told_records (Some (new.held me)) ≡ told me ++ records_of me (run_of c events told roles takes).kept
+-- all that is done to the end of a run: each role is bound to its port, and then come the actions of the run
+abbrev pub whole_run : Option ℕ → Cluster → List Event → (RoleId → List Record) → List RoleId → Takes → List Action
+whole_run tend c events told roles takes = map Bound roles ++ (run_of tend c events told roles takes).actions
 
--- A front of that: the first binds, takes and sends, a part of the text, and in each store the first of its records.
-pub record ServedPart (roles : List RoleId) (c : Cluster) (events : List Event) (told : RoleId → List Record) (takes : Takes) (old new : Outside) : Type 0 where
-  pub told_by : IsTold old told
-  pub bound : ℕ
-  pub taken : ℕ
-  pub sent : ℕ
-  pub link : (after : LinkHistory) → new.link ≡ Some after
-      → (before : LinkHistory) × (old.link ≡ Some before)
-      × (after ≡ record {
-        binds = before.binds ++ map (bind_of c) (take bound roles);
-        taken = before.taken ++ take taken takes;
-        sent = before.sent ++ sendings c (take sent (run_of c events told roles takes).sends);
-      })
-  pub printed : AppendsPart old.out new.out (run_of c events told roles takes).text
+-- These actions were done, and no others: the link's history has their binds, takes and sends, their bytes are printed, and each hosted role's store
+-- has their records of it, after those that it had. Of a role that isn't hosted nothing was touched.
+pub record Did (roles : List RoleId) (c : Cluster) (actions : List Action) (old new : Outside) : Type 0 where
+  pub link : Linked c actions old.link new.link
+  pub printed : Appends old.out new.out (printed_in actions)
   pub stores : old.tells ≡ true → (i : ℕ) (me : RoleId) → slice_get roles i ≡ Some me → is_durable me.kind ≡ true
-      → (count : ℕ) × (told_records (Some (new.held me)) ≡ told_records (Some (old.held me)) ++ take count (records_of me (run_of c events told roles takes).kept))
+      → told_records (Some (new.held me)) ≡ told_records (Some (old.held me)) ++ records_of me (kept_in actions)
+  pub others : (me : RoleId) → ((i : ℕ) → slice_get roles i ≡ Some me → ⊥) → (new.held me ≡ old.held me) × (new.stores me ≡ old.stores me)
+  pub tells : new.tells ≡ old.tells
+
+-- A whole run was done: over what the takes of the link gave, and from the records that the stores had.
+pub record Served (roles : List RoleId) (tend : Option ℕ) (c : Cluster) (events : List Event) (told : RoleId → List Record) (takes : Takes) (old new : Outside) : Type 0 where
+  pub told_by : IsTold old told
+  pub told_whole : old.tells ≡ true → (i : ℕ) (me : RoleId) → slice_get roles i ≡ Some me → is_durable me.kind ≡ true → told_records (Some (old.held me)) ≡ told me
+  pub taken : HasTaken takes (run_of tend c events told roles takes).actions
+  pub did : Did roles c (whole_run tend c events told roles takes) old new
+
+-- The first actions of a run were done, one after the other, and no others. What the link gave is in them too, so each rests on what was
+-- taken and kept before it; what the takes to come would give is free.
+pub record ServedPart (roles : List RoleId) (tend : Option ℕ) (c : Cluster) (events : List Event) (told : RoleId → List Record) (takes : Takes) (old new : Outside) : Type 0 where
+  pub told_by : IsTold old told
+  pub count : ℕ
+  pub did : Did roles c (take count (whole_run tend c events told roles takes)) old new
 
 -- the input was read to its end, and no read failed
 abbrev pub AllRead : Outside → Outside → Type 0
 AllRead old new = IsAtEnd new.left × (new.reads ≡ old.reads)
 
 -- the input was accepted, and the whole run was made, to this end
-abbrev pub Ends : List RoleId → ℕ → RunEnd → Outside → Outside → Type 0
-Ends roles turns e old new =
+abbrev pub Ends : List RoleId → Option ℕ → ℕ → RunEnd → Outside → Outside → Type 0
+Ends roles tend turns e old new =
     (c : Cluster) × (events : List Event) × (told : RoleId → List Record) × (takes : Takes)
-    × Says roles old.left c events × AllRead old new × Served roles c events told takes old new × IsEnd c turns (hosts c events told roles) takes e
+    × Says roles old.left c events × AllRead old new × Served roles tend c events told takes old new × IsEnd tend c turns (hosts c events told roles) takes e
 
--- the input was accepted, and a front of its run was made
-abbrev pub EndsEarly : List RoleId → Outside → Outside → Type 0
-EndsEarly roles old new =
+-- the input was accepted, and the first actions of its run were done
+abbrev pub EndsEarly : List RoleId → Option ℕ → ℕ → Outside → Outside → Type 0
+EndsEarly roles tend turns old new =
     (c : Cluster) × (events : List Event) × (told : RoleId → List Record) × (takes : Takes)
-    × Says roles old.left c events × AllRead old new × ServedPart roles c events told takes old new
+    × Says roles old.left c events × AllRead old new × ServedPart roles tend c events told takes old new × IsUnderway tend c turns (hosts c events told roles) takes
 
 -- nothing but the source was used
 pub record IsUntouched (old new : Outside) : Type 0 where
@@ -116,6 +113,7 @@ pub record IsUntouched (old new : Outside) : Type 0 where
   pub links : new.links ≡ old.links
   pub out : new.out ≡ old.out
   pub writes : new.writes ≡ old.writes
+  pub tells : new.tells ≡ old.tells
   pub held : (me : RoleId) → new.held me ≡ old.held me
   pub stores : (me : RoleId) → new.stores me ≡ old.stores me
 
@@ -131,23 +129,24 @@ abbrev pub AnswersPart : List RoleId → Option (List ℕ) → Option (List ℕ)
 AnswersPart roles left left_after s = (why : Refusal) × (s ≡ refused_status why) × FailsRead roles left left_after why
 
 -- What a node answered: what was done, and why.
-pub record Answered (roles : List RoleId) (turns : ℕ) (old new : Outside) (s : Status) : Type 0 where
+pub record Answered (roles : List RoleId) (tend : Option ℕ) (turns : ℕ) (old new : Outside) (s : Status) : Type 0 where
   -- Done: all hosted clients have finished, or none is hosted and all turns were made; Turns: all were made, and a client hasn't finished.
-  pub done : s ≡ status.Done → Ends roles turns end.Done old new
-  pub turns_ended : s ≡ status.Turns → Ends roles turns end.Turns old new
+  pub done : s ≡ status.Done → Ends roles tend turns end.Done old new
+  pub turns_ended : s ≡ status.Turns → Ends roles tend turns end.Turns old new
   -- The input is refused by a role outside the cluster, or its first bad line, or a read failed; nothing else was done.
   pub bad_words : s ≡ status.BadWords → IfSome old.left (λ all. refused_of roles (input_of all) ≡ Some refusal.BadWords) × IsUntouched old new
   pub bad_input : (line : ℕ) → s ≡ status.BadInput line → IfSome old.left (λ all. refused_of roles (input_of all) ≡ Some (refusal.BadInput line)) × IsUntouched old new
   pub read_fault : s ≡ status.ReadFault → Rises old.reads new.reads × IsUntouched old new
-  -- A failure behind that: its count has risen, and a front of the run was made.
-  pub link_fault : s ≡ status.LinkFault → Rises old.links new.links × EndsEarly roles old new
-  pub write_fault : s ≡ status.WriteFault → Rises old.writes new.writes × EndsEarly roles old new
-  pub store_fault : (role : RoleId) → s ≡ status.StoreFault role → Rises (old.stores role) (new.stores role) × EndsEarly roles old new
-  -- The first store that is none of its role's is told with the place of its first fault.
-  pub bad_store : (role : RoleId) (at : ℕ) → s ≡ status.BadStore role at → EndsEarly roles old new
+  -- A failure after that: its count has risen, and the first actions of the run were done.
+  pub link_fault : s ≡ status.LinkFault → Rises old.links new.links × EndsEarly roles tend turns old new
+  pub write_fault : s ≡ status.WriteFault → Rises old.writes new.writes × EndsEarly roles tend turns old new
+  pub store_fault : (role : RoleId) → s ≡ status.StoreFault role → Rises (old.stores role) (new.stores role) × EndsEarly roles tend turns old new
+  -- The first store that isn't one of its role's is reported with the place of its first fault.
+  pub bad_store : (role : RoleId) (at : ℕ) → s ≡ status.BadStore role at → EndsEarly roles tend turns old new
   pub bad_place : (role : RoleId) (at : ℕ) → s ≡ status.BadStore role at → old.tells ≡ true → (c : Cluster) × (events : List Event) × Says roles old.left c events × IsFirstBad roles c old.held role at
-  pub no_memory : s ≡ status.NoMemory → IsUntouched old new ⊎ EndsEarly roles old new
-  -- A failed read is always told, unless the whole lines before it are refused. A failed write or take, and a store that failed, is always told.
+  pub no_memory : s ≡ status.NoMemory → IsUntouched old new ⊎ EndsEarly roles tend turns old new
+  -- A failed read is always reported, unless the whole lines before it are refused. A failed write or take, and a store that failed, is
+  -- always reported.
   pub heard : (new.reads ≡ old.reads) ⊎ AnswersPart roles old.left new.left s
   pub written : (s ≡ status.WriteFault → ⊥) → new.writes ≡ old.writes
   pub linked : (s ≡ status.LinkFault → ⊥) → new.links ≡ old.links
@@ -160,26 +159,26 @@ pub record NoFault (old new : Outside) : Type 0 where
   pub writes : Rises old.writes new.writes → ⊥
   pub stores : (role : RoleId) → Rises (old.stores role) (new.stores role) → ⊥
 
--- the whole input is known and refused for nothing, and the depot tells for each role a store of its own
+-- the whole input is known and refused for nothing, and the depot is known to hold for each hosted role a store of its own
 pub record IsGood (roles : List RoleId) (old : Outside) : Type 0 where
   pub all : List ℕ
   pub left : old.left ≡ Some all
   pub accepted : refused_of roles (input_of all) ≡ None
   pub tells : old.tells ≡ true
-  pub stores : (c : Cluster) (events : List Event) (role : RoleId) (at : ℕ) → Says roles old.left c events → IsBadAs c role (old.held role) at role.kind → ⊥
+  pub stores : (c : Cluster) (events : List Event) (i : ℕ) (role : RoleId) (at : ℕ) → Says roles old.left c events → slice_get roles i ≡ Some role → IsBadAs c role (old.held role) at role.kind → ⊥
 
--- the run came to its end, or memory was wanting
+-- the run came to its end, or memory ran out
 abbrev pub EndsWell : Status → Type 0
 EndsWell status.Done = Unit {0}
 EndsWell status.Turns = Unit {0}
 EndsWell status.NoMemory = Unit {0}
 EndsWell other = ⊥
 
--- Where all is good and nothing fails, the run comes to its end, or memory is wanting.
+-- Where all is good and nothing fails, the run comes to its end, or memory ran out.
 abbrev pub Completes : List RoleId → Outside → Outside → Status → Type 0
 Completes roles old new s = NoFault old new → IsGood roles old → EndsWell s
 
--- Where the whole input is known and accepted and nothing fails, a store that is none of its role's is always told, or memory is wanting.
+-- Where the whole input is known and accepted and nothing fails, a store that isn't one of its role's is always reported, or memory ran out.
 abbrev pub TellsBad : List RoleId → Outside → Outside → Status → Type 0
 TellsBad roles old new s =
     NoFault old new → old.tells ≡ true → (all : List ℕ) → old.left ≡ Some all → (c : Cluster) (events : List Event) (role : RoleId) (at : ℕ)

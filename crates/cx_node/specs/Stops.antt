@@ -1,12 +1,13 @@
 -- How the stop of a role within an append is a crash of the model's run.
-use Rattle.std.specs.Prelude.{◌≡◌, ℕ, true, is_some, List, [], ◌∷◌, ◌++◌, Option, Some}
+use Rattle.std.specs.Prelude.{◌≡◌, ℕ, true, is_some, List, [], ◌∷◌, ◌++◌, Option, Some, Ok}
 use Rattle.cx_base.specs.declared.cluster.Cluster.{Cluster}
 use Rattle.cx_base.specs.declared.event.Cut.{Cut}
 use Rattle.cx_base.specs.declared.event.Cut.TheVariants.{Whole}
 use Rattle.cx_base.specs.declared.event.Event.{Event}
 use Rattle.cx_base.specs.declared.event.Event.TheVariants as event
 use Rattle.cx_base.specs.declared.role.RoleId.{RoleId}
-use Rattle.cx_journal.specs.State.{IsImageOf, JournalState, told_records}
+use Rattle.cx_journal.specs.Image.{image}
+use Rattle.cx_journal.specs.State.{JournalState, told_records}
 use Rattle.cx_model.specs.World.{change, kept_by, records_of, run}
 use Rattle.cx_msg.specs.declared.kept.Record.{Record}
 use Rattle.cx_promises.specs.Lawful.{IsLawful}
@@ -39,7 +40,8 @@ pub record IsNextRecord {D : Type 0} (seen : D → Option (List ℕ)) (c : Clust
   pub records : told_records (seen journal.disk) ≡ records_of me (run c es).kept
   pub next : (change (run c es) (with_cut Whole e)).kept ≡ kept_by me (Some r)
 
--- The bytes are the journal of a run with this event cut so, and that run is lawful.
+-- The bytes are the journal, as a role of this kind opens it, of what the role kept in a run with this event cut so, and that run is
+-- lawful.
 pub record IsOfRun (c : Cluster) (es : List Event) (e : Event) (cut : Cut) (me : RoleId) (bytes : List ℕ) : Type 0 where
-  pub image : IsImageOf (records_of me (run c (es ++ with_cut cut e ∷ [])).kept) bytes
+  pub journal : image (Some me.kind) bytes ≡ Ok (records_of me (run c (es ++ with_cut cut e ∷ [])).kept)
   pub lawful : IsLawful c (es ++ with_cut cut e ∷ [])

@@ -1,13 +1,14 @@
 //! How hosted roles do what they are asked.
 
-ghost use Rattle.std.specs.Prelude.{◌≡◌, ◌<◌, [], length, OnOk, OnErr, IsTrue, Err};
+ghost use Rattle.std.specs.Prelude.{◌≡◌, ◌<◌, [], length, OnOk, IsTrue, Err, slice_get};
 ghost use Rattle.std.specs.List.{position};
 ghost use Rattle.cx_base.specs.declared.role.RoleId.{RoleId};
 ghost use Rattle.cx_base.specs.Role.{same_role};
 ghost use Rattle.cx_node.specs.declared.node.Stop.TheVariants as stop;
-ghost use Rattle.cx_node.specs.Acts.{Acts, Blames, fails_by, failures};
+ghost use Rattle.cx_model.specs.World.{records_of};
+ghost use Rattle.cx_node.specs.Acts.{Acts, Blames, failures};
 ghost use Rattle.cx_node.specs.Doing.{scene};
-ghost use Rattle.cx_node.specs.Guest.{AreReady, GuestFails, GuestGrows, GuestGrowsPart, hosted_in, hosted_of, who};
+ghost use Rattle.cx_node.specs.Guest.{AreReady, FailsIn, GuestGrows, Rests, hosted_in, hosted_of, keeper_of, who};
 ghost use Rattle.cx_node.specs.Hosted.{does, is_live};
 ghost use Rattle.cx_node.specs.Run.{all_do, at_place, does_at, place_of};
 
@@ -30,8 +31,8 @@ fn ask<K: Keeper>(
     ensures kept { OnOk result (GuestGrows K.append_gives (does (hosted_of seat.old) what.now).kept seat.old seat.new) }
     ensures sends { OnOk result (outbox.new.list ≡ (does (hosted_of seat.old) what.now).sends) }
     ensures text { OnOk result (text.new.items ≡ (does (hosted_of seat.old) what.now).text) }
-    ensures part { OnErr result (GuestGrowsPart K.append_gives (fails_by result (who seat.old)) (does (hosted_of seat.old) what.now).kept seat.old seat.new) }
-    ensures failed { (role : RoleId) → result ≡ Err (stop.StoreFault role) → (who seat.old ≡ role) × GuestFails K.append_gives (does (hosted_of seat.old) what.now).kept seat.old seat.new }
+    ensures rests { result ≡ Err stop.NoMemory → Rests K.append_gives (keeper_of seat.old) (keeper_of seat.new) }
+    ensures failed { (role : RoleId) → result ≡ Err (stop.StoreFault role) → (who seat.old ≡ role) × FailsIn K.append_gives (slice_get (records_of (who seat.old) (does (hosted_of seat.old) what.now).kept) 0) (keeper_of seat.old) (keeper_of seat.new) }
     ensures no_write { result ≡ Err stop.WriteFault → ⊥ }
     ensures no_link { result ≡ Err stop.LinkFault → ⊥ }
     ensures name { who seat.new ≡ who seat.old }

@@ -12,7 +12,7 @@ use crate::Seat;
 use cx_edge::Depot;
 use cx_journal::Journal;
 
-/// Gives the store of each role that has one back to the depot, which then holds what the store tells, and joins its faults to
+/// Gives the store of each role that has one back to the depot, which then holds what the store holds, and adds its faults to
 /// the role's count. It takes no memory.
 pub fn close_seats<D: Depot>(depot: &mut D, seats: Vec<Seat<Journal<D::Store>>>)
     requires out { D.out depot.old ≡ lent_to seats.items }

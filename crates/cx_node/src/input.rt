@@ -12,14 +12,11 @@ ghost use Rattle.cx_node.specs.declared.input.Heard.TheVariants.{Lines, Nothing}
 ghost use Rattle.cx_node.specs.declared.input.Refusal.TheVariants as refusal;
 ghost use Rattle.cx_node.specs.Input.{FailsRead, IsAnswer, IsRefusal, bad_line_of, behind, heard_of, input_of, lines, refused_of, with_port};
 
-use cx_base::{Cluster, NoMemory, RoleId};
+use cx_base::{Cluster, MAX_HEADER_LENGTH, MAX_LINE_LENGTH, NoMemory, RoleId};
 use cx_cluster::{ClusterFault, read};
 use cx_edge::{ReadAll, Source, read_all};
 use cx_role::names_role;
-use cx_script::{
-    MAX_HEADER_LENGTH, MAX_LINE_LENGTH, Schedule, counted, is_long_header, read_requests,
-    split_header,
-};
+use cx_script::{Schedule, counted, is_long_header, read_requests, split_header};
 use std::alloc::Global;
 
 // More bytes than an input has none of whose lines is bad.
@@ -32,7 +29,7 @@ pub enum Heard {
     Nothing,
     /// The header says no cluster with a port.
     BadHeader,
-    /// The header's cluster, and what the lines behind it spell.
+    /// The header's cluster, and what the lines after it spell.
     Lines {
         cluster: Cluster,
         schedule: Schedule,
@@ -45,13 +42,13 @@ pub enum Refusal {
     NoMemory,
     /// A read failed.
     ReadFault,
-    /// The first bad line, counted from 1 behind the header, which is line 0.
+    /// The first bad line, counted from 1 after the header, which is line 0.
     BadInput { line: u64 },
     /// A role that is to be hosted isn't in the header's cluster.
     BadWords,
 }
 
-// A cluster with a port, and what the bytes behind its header spell.
+// A cluster with a port, and what the bytes after its header spell.
 fn with_port(alloc: Global, cluster: Cluster, rest: &[u8]) -> Result<Heard, NoMemory>
     ensures { IfOk result (λ heard. heard ≡ with_port cluster.base_port cluster rest.now) }
 {
@@ -62,7 +59,7 @@ fn with_port(alloc: Global, cluster: Cluster, rest: &[u8]) -> Result<Heard, NoMe
     Ok(Heard::Lines { cluster, schedule })
 }
 
-// What a header's text and the bytes behind it say.
+// What a header's text and the bytes after it say.
 fn behind(alloc: Global, header: &[u8], rest: &[u8]) -> Result<Heard, NoMemory>
     ensures { IfOk result (λ heard. heard ≡ behind (header_cluster header.now) rest.now) }
 {
@@ -84,7 +81,7 @@ fn read_input(alloc: Global, bytes: &[u8]) -> Result<Heard, NoMemory>
     }
 }
 
-// What bytes say behind which others may come.
+// What bytes say after which others may come.
 #[tactic(auto, unfolding(crate::specs::Input::lines))]
 fn read_lines(alloc: Global, bytes: &[u8]) -> Result<Heard, NoMemory>
     ensures { IfOk result (λ heard. heard ≡ lines bytes.now) }
@@ -98,7 +95,7 @@ fn read_lines(alloc: Global, bytes: &[u8]) -> Result<Heard, NoMemory>
     Ok(Heard::Nothing)
 }
 
-// What bytes say: the whole input where it has ended, else bytes behind which others may come.
+// What bytes say: the whole input where it has ended, else bytes after which others may come.
 fn hear(alloc: Global, bytes: &[u8], ended: bool) -> Result<Heard, NoMemory>
     ensures { IfOk result (λ heard. heard ≡ heard_of ended bytes.now) }
 {
@@ -130,7 +127,7 @@ fn bad_line(line: Option<u64>) -> Option<Refusal>
     }
 }
 
-// Why lines behind a header are refused: a role outside the cluster stands before the first bad line.
+// Why lines after a header are refused: a role outside the cluster comes before the first bad line.
 fn refused(roles: &[RoleId], cluster: &Cluster, schedule: &Schedule) -> Option<Refusal>
     ensures { result ≡ refused_of roles.now (Lines cluster.now schedule.now) }
 {
@@ -174,7 +171,7 @@ fn answer_bytes(
 
 /// Reads the input to its end, and answers its cluster and requests, for a node of these roles. It is refused, in this order, for
 /// its header, for a role outside the cluster, and for its first bad line; `ReadFault` comes only where the source's count rose,
-/// and none of these stands before it.
+/// and none of these comes before it.
 pub fn listen<S: Source>(
     alloc: Global,
     roles: &[RoleId],
@@ -190,11 +187,11 @@ pub fn listen<S: Source>(
     ensures bad_input { (line : ℕ) → result ≡ Err (refusal.BadInput line) → IfSome (S.left source.old) (λ all. refused_of roles.now (input_of all) ≡ Some (refusal.BadInput line)) }
     ensures bad_words { result ≡ Err refusal.BadWords → IfSome (S.left source.old) (λ all. refused_of roles.now (input_of all) ≡ Some refusal.BadWords) }
     ensures read_fault { IsErrOf result Refusal.ReadFault → Rises (S.faults source.old) (S.faults source.new) }
-    // A failed read is always told, unless the whole lines before it are refused.
+    // A failed read is always reported, unless the whole lines before it are refused.
     ensures read_failed { (S.faults source.new ≡ S.faults source.old) ⊎ IfErr result (FailsRead roles.now (S.left source.old) (S.left source.new)) }
     ensures later { S.faults source.old ≤ S.faults source.new }
 
-    // Where no read failed, the answer is what the whole input says, or want of memory.
+    // Where no read failed, the answer is what the whole input says, or that memory ran out.
     ensures complete { (Rises (S.faults source.old) (S.faults source.new) → ⊥) → IfSome (S.left source.old) (λ all. IfErr result (IsRefusal (refused_of roles.now (input_of all)))) }
 {
     match read_all(alloc, source, LIMIT) {

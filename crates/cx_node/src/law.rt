@@ -15,8 +15,9 @@ use cx_disk::Disk;
 
 /// A law of journals and runs. A role's journal has what the role kept in a run, and the role appends the record of its next event:
 /// whatever a crash leaves at any moment of that append is the journal of the run in which the event is cut, the record lost or
-/// kept; and once the append was answered Ok, whatever a crash leaves is that of the whole event. Each of these runs is lawful. So a node that
-/// is stopped at any write and opened anew goes on in a run of the model.
+/// kept; and once the append was answered Ok, whatever a crash leaves is that of the whole event. It is a journal of the role's
+/// own kind, and each of these runs is lawful. So a node that is stopped at any write and opened anew goes on in a run of the
+/// model.
 pub fn stops_are_crashes<D: Disk>()
     ensures within { (c : Cluster) (es : List Event) (e : Event) (me : RoleId) (r : Record) (old new : JournalState D) (answer : Result (Unit {0}) KeepFault) (bytes : List ℕ)
         → IsNextRecord D.seen c es e me r old → IsJournalAppend D.seen D.may_leave D.moment D.left_since D.faults old r answer new

@@ -1,35 +1,45 @@
-//! A node: hosted roles that take datagrams of a link, and keep their records in journals.
+//! A node: hosted roles that take datagrams from a link and keep their records in journals.
 //!
-//! Stands on the role crates, on clients, journals and what is outside; the program stands on it. Its theorem is the contract
-//! of `serve`: what was bound, sent, kept and printed is exactly the node's run over what the link gave, or a front of it where
-//! something failed; each status comes by its cause, and every store is given back. And `stops_are_crashes`: what a node that
-//! is stopped at any write leaves is the journal of a run of the model in which that role crashed there.
+//! Its theorems are the contract of `serve`: what was bound, sent, kept and printed is exactly the
+//! node's run over what the link gave, or a prefix of each and a status that says why; and
+//! `stops_are_crashes`: a crash at any moment of an append leaves the journal of a run in which that
+//! role crashed there.
 #![tactic(auto)]
 
 mod acting;
 mod binding;
+mod care;
 mod closing;
+mod come;
 mod doing;
+mod examples;
 mod guest;
 mod input;
-#[cfg(test)]
-mod input_tests;
 mod law;
 mod node;
 mod opening;
+mod orders;
 mod seat;
 mod sending;
 mod serving;
+mod standing;
+mod tending;
 mod turning;
 mod waking;
+mod whom;
 
 pub use closing::close_seats;
+pub use come::Come;
 pub use doing::Doing;
+pub use examples::{beats, no_leader, reports, waits};
 pub use guest::Guest;
 pub use input::{Heard, Refusal, listen};
 pub use law::stops_are_crashes;
 pub use node::{Node, RunEnd, Stop};
 pub use opening::{OpenStop, open_seats};
+pub use orders::no_vain_order;
 pub use seat::Seat;
 pub use serving::serve;
+pub use standing::Standing;
 pub use waking::{WakeStop, wake};
+pub use whom::Whom;

@@ -1,18 +1,19 @@
 //! The node: its hosted roles, and how it runs.
 
-ghost use Rattle.std.specs.Prelude.{◌≡◌, ◌≤◌, ◌<◌, [], length, map, IfOk, IfErr, OnOk, OnErr, Err};
+ghost use Rattle.std.specs.Prelude.{◌≡◌, ◌≤◌, ◌<◌, [], length, IfOk, IfErr, Err};
 ghost use Rattle.std.specs.List.{list_all, list_any};
-ghost use Rattle.cx_base.specs.declared.role.RoleId.{RoleId};
 ghost use Rattle.cx_base.specs.Faults.{Rises};
 ghost use Rattle.cx_node.specs.declared.node.Stop.TheVariants as stop;
-ghost use Rattle.cx_node.specs.Acts.{ActsLong, Blames, fails_by, failures};
+ghost use Rattle.cx_node.specs.Acts.{ActsLong, Blames, failures};
 ghost use Rattle.cx_node.specs.Doing.{scene};
-ghost use Rattle.cx_node.specs.Guest.{AreReady, hosted_in, hosted_of, who};
-ghost use Rattle.cx_node.specs.Node.{RunFails, Runs, RunsPart};
+ghost use Rattle.cx_node.specs.Guest.{AreReady, hosted_in, hosted_of};
+ghost use Rattle.cx_node.specs.Node.{Runs, RunsPart};
 ghost use Rattle.cx_node.specs.Run.{all_finished, has_finished, is_client};
+ghost use Rattle.cx_node.specs.Tending.{first_care};
 
+use crate::care::Care;
 use crate::{Doing, Seat};
-use cx_base::{Cluster, NoMemory, RoleId};
+use cx_base::{Cluster, MAX_DATAGRAM_LENGTH, NoMemory, RoleId};
 use cx_edge::{Link, Sink};
 use cx_keeper::Keeper;
 use cx_role::Outbox;
@@ -20,10 +21,10 @@ use std::alloc::Global;
 use std::marker::Model;
 
 /// More bytes than a datagram has, so that a longer one can't pass for one that it begins with.
-pub const BUFFER: usize = 32_769;
+pub const BUFFER: usize = MAX_DATAGRAM_LENGTH + 1;
 
 /// Why a run stopped before its end.
-#[derive(Clone, Copy, Debug, PartialEq, Eq)]
+#[derive(Clone, Copy)]
 pub enum Stop {
     NoMemory,
     /// The output failed.
@@ -43,7 +44,7 @@ impl From<NoMemory> for Stop {
 }
 
 /// How a whole run ended.
-#[derive(Clone, Copy, Debug, PartialEq, Eq)]
+#[derive(Clone, Copy)]
 pub enum RunEnd {
     /// All hosted clients have finished; or none is hosted, and all turns were made.
     Done,
@@ -119,18 +120,30 @@ impl<K: Keeper + Drop> Node<K> {
         any_client(&self.seats) && all_finished(&self.seats)
     }
 
-    // Makes so many turns, or those until all hosted clients have finished.
+    // What is counted before the first turn.
+    fn first_care(&self, tend: Option<u32>) -> Result<Care, NoMemory>
+        ensures { IfOk result (λ care. care ≡ first_care tend (hosted_in self.now.guests)) }
+    {
+        match tend {
+            Some(_) => Care::new(self.alloc, self.seats.len()),
+            None => Care::new(self.alloc, 0),
+        }
+    }
+
+    // Makes `turns` turns, or those until all hosted clients have finished.
     fn all_turns<L: Link, W: Sink>(
         &mut self,
         turns: u32,
+        tend: Option<u32>,
         link: &mut L,
         out: &mut W,
     ) -> Result<(), Stop>
         requires ready { AreReady self.old.cluster self.old.guests }
-        ensures acts { ActsLong K.append_gives self.old.cluster turns result (scene self.old.guests (L.told link.old) (W.taken out.old)) (scene self.new.guests (L.told link.new) (W.taken out.new)) }
+        ensures acts { ActsLong K.append_gives tend self.old.cluster turns result (scene self.old.guests (L.told link.old) (W.taken out.old)) (scene self.new.guests (L.told link.new) (W.taken out.new)) }
         ensures blames { Blames result (failures (L.faults link.old) (W.faults out.old)) (failures (L.faults link.new) (W.faults out.new)) }
         ensures cluster { self.new.cluster ≡ self.old.cluster }
     {
+        let mut care = self.first_care(tend)?;
         self.all_act(&Doing::Begin, link, out)?;
         let mut made = 0;
         while made < turns {
@@ -138,34 +151,34 @@ impl<K: Keeper + Drop> Node<K> {
                 return Ok(());
             }
             made += 1;
-            self.turn(made, link, out)?;
+            self.turn(tend, &mut care, made, link, out)?;
         }
         Ok(())
     }
 
-    /// Runs so many turns, or until all hosted clients have finished: clients send their first requests, and each turn has three
-    /// parts. An idle leader 0 is ordered to lead (at turn 1 and at each that 4,096 divides), one datagram is taken of the link, and all
-    /// roles tick (at each turn that 64 divides). What each role keeps, what is sent and what is printed are exactly the run's, or a
-    /// front of it where something failed.
+    /// Runs `turns` turns, or until all hosted clients have finished: clients send their first requests, and each turn has three
+    /// parts. An idle leader 0 is ordered to lead (at turn 1 and at each that 4,096 divides), one datagram is taken from the link,
+    /// and all roles tick (at each turn that 64 divides). A node that tends its roles has them tick, and orders leader 0, by what it
+    /// counts, with at most `tend` turns from one beat to the next. What is taken, kept, sent and printed are exactly the run's
+    /// actions, or a prefix of them where something failed.
     pub fn run<L: Link, W: Sink>(
         &mut self,
         turns: u32,
+        tend: Option<u32>,
         link: &mut L,
         out: &mut W,
     ) -> Result<RunEnd, Stop>
         requires ready { AreReady self.old.cluster self.old.guests }
-        ensures done { IfOk result (λ end. Runs K.append_gives self.old.cluster turns end (scene self.old.guests (L.told link.old) (W.taken out.old)) (scene self.new.guests (L.told link.new) (W.taken out.new))) }
-        ensures part { OnErr result (RunsPart K.append_gives (fails_by result) self.old.cluster turns (scene self.old.guests (L.told link.old) (W.taken out.old)) (scene self.new.guests (L.told link.new) (W.taken out.new))) }
-        ensures store { (role : RoleId) → result ≡ Err (stop.StoreFault role) → RunFails K.append_gives self.old.cluster role self.old.guests self.new.guests }
+        ensures done { IfOk result (λ end. Runs K.append_gives tend self.old.cluster turns end (scene self.old.guests (L.told link.old) (W.taken out.old)) (scene self.new.guests (L.told link.new) (W.taken out.new))) }
+        ensures part { IfErr result (λ e. RunsPart K.append_gives e tend self.old.cluster turns (scene self.old.guests (L.told link.old) (W.taken out.old)) (scene self.new.guests (L.told link.new) (W.taken out.new))) }
         ensures written { result ≡ Err stop.WriteFault → Rises (W.faults out.old) (W.faults out.new) }
         ensures unwritten { (result ≡ Err stop.WriteFault → ⊥) → W.faults out.new ≡ W.faults out.old }
         ensures linked { result ≡ Err stop.LinkFault → Rises (L.faults link.old) (L.faults link.new) }
         ensures unlinked { (result ≡ Err stop.LinkFault → ⊥) → L.faults link.new ≡ L.faults link.old }
-        ensures names { OnOk result (map who self.new.guests ≡ map who self.old.guests) }
         ensures cluster { self.new.cluster ≡ self.old.cluster }
     {
         let hosts_client = self.has_client();
-        self.all_turns(turns, link, out)?;
+        self.all_turns(turns, tend, link, out)?;
         if hosts_client && !self.has_finished() {
             return Ok(RunEnd::Turns);
         }

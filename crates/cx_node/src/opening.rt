@@ -33,7 +33,7 @@ use cx_script::script;
 use std::alloc::Global;
 
 /// Why the hosted roles could not all be opened.
-#[derive(Clone, Copy, Debug, PartialEq, Eq)]
+#[derive(Clone, Copy)]
 pub enum OpenStop {
     NoMemory,
     /// The store of a role failed.
@@ -62,6 +62,7 @@ fn open_durable<D: Depot, R: Role>(
     ensures bad { (role : RoleId) (at : ℕ) → result ≡ Err (open_stop.BadStore role at) → (role ≡ me) × (D.tells depot.old ≡ true → IsBadStore R.rules cluster.now me (D.held depot.old me) at) }
     ensures others { (who : RoleId) → (result ≡ Err (open_stop.StoreFault who) → ⊥) → D.faults depot.new who ≡ D.faults depot.old who }
     ensures failed { (role : RoleId) → result ≡ Err (open_stop.StoreFault role) → (role ≡ me) × Rises (D.faults depot.old me) (D.faults depot.new me) }
+    ensures apart { (who : RoleId) → (who ≡ me → ⊥) → (D.held depot.new who ≡ D.held depot.old who) × (D.faults depot.new who ≡ D.faults depot.old who) }
 {
     let Ok(store) = depot.open(me) else {
         return Err(OpenStop::StoreFault { role: me });
@@ -133,6 +134,7 @@ fn open_guest<D: Depot>(
     ensures own { (role : RoleId) (at : ℕ) → result ≡ Err (open_stop.BadStore role at) → role ≡ me }
     ensures others { (who : RoleId) → (result ≡ Err (open_stop.StoreFault who) → ⊥) → D.faults depot.new who ≡ D.faults depot.old who }
     ensures failed { (role : RoleId) → result ≡ Err (open_stop.StoreFault role) → Rises (D.faults depot.old role) (D.faults depot.new role) }
+    ensures apart { (who : RoleId) → (who ≡ me → ⊥) → (D.held depot.new who ≡ D.held depot.old who) × (D.faults depot.new who ≡ D.faults depot.old who) }
 {
     match me.kind {
         Kind::Client => {
@@ -194,7 +196,7 @@ pub fn open_seats<D: Depot>(
     ensures out { D.out depot.new ≡ lent_to seats.new.items }
     ensures told { D.tells depot.new ≡ D.tells depot.old }
 
-    // What a store tells as its records stays, also where it could not be opened.
+    // The records of a store stay, also where it could not be opened.
     ensures held { D.tells depot.old ≡ true → (who : RoleId) → told_records (Some (D.held depot.new who)) ≡ told_records (Some (D.held depot.old who)) }
     ensures bad { (role : RoleId) (at : ℕ) → result ≡ Err (open_stop.BadStore role at) → D.tells depot.old ≡ true → IsFirstBad roles.now cluster.now (D.held depot.old) role at }
     ensures later { (role : RoleId) → D.faults depot.old role ≤ D.faults depot.new role }
@@ -202,6 +204,9 @@ pub fn open_seats<D: Depot>(
     // A count rises only where the answer names its role.
     ensures others { (who : RoleId) → (result ≡ Err (open_stop.StoreFault who) → ⊥) → D.faults depot.new who ≡ D.faults depot.old who }
     ensures failed { (role : RoleId) → result ≡ Err (open_stop.StoreFault role) → Rises (D.faults depot.old role) (D.faults depot.new role) }
+
+    // What the depot shows of other roles stays.
+    ensures apart { (who : RoleId) → ((i : ℕ) → slice_get roles.now i ≡ Some who → ⊥) → (D.held depot.new who ≡ D.held depot.old who) × (D.faults depot.new who ≡ D.faults depot.old who) }
 {
     for role in roles {
         if seats.reserve(1).is_err() {

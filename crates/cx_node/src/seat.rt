@@ -2,17 +2,22 @@
 
 ghost use Rattle.std.specs.Prelude.{◌≡◌, [], true, IsTrue, OnOk, OnErr, IsErrOf};
 ghost use Rattle.std.specs.List.{slice_get};
+ghost use Rattle.std.specs.Option.{option_map};
+ghost use Rattle.cx_leader.specs.Tending.{can_collect, is_new};
 ghost use Rattle.cx_model.specs.Rules.{outcome_of, running_after};
 ghost use Rattle.cx_model.specs.World.{kept_by, records_of};
-ghost use Rattle.cx_node.specs.Guest.{Appended, AppendedPart, Fails, GrowsPart, GuestFails, GuestGrows, GuestGrowsPart, hosted_of, keeper_of, who};
+ghost use Rattle.cx_role.specs.Role.{Refuses};
+ghost use Rattle.cx_node.specs.Guest.{Appended, Fails, FailsIn, GuestGrows, Rests, hosted_of, keeper_of, who};
 ghost use Rattle.cx_node.specs.Hosted.{ClientAt, begun, client_given, does, given, is_idle_leader, is_live};
 ghost use Rattle.cx_node.specs.Run.{has_finished, is_client};
-ghost use Rattle.cx_node.specs.Seat.{FailsIn};
+ghost use Rattle.cx_node.specs.Tending.{completed, held_of, is_of, leader_of, standing_of};
+ghost use Rattle.cx_node.specs.Tends.{is_leader_so};
 
-use crate::{Doing, Guest};
-use cx_base::{NoMemory, RoleId};
+use crate::{Doing, Guest, Standing};
+use cx_base::{Kind, NoMemory, RoleId};
 use cx_client::Client;
 use cx_keeper::{Keeper, MemKeeper};
+use cx_leader::Leader;
 use cx_msg::Input;
 use cx_role::{Outbox, Role, StepFault};
 use cx_trace::put_told;
@@ -50,7 +55,7 @@ fn step<R: Role, K: Keeper>(
     ensures state { OnOk result (R.state role.new ≡ running_after R.rules (R.state role.old) (outcome_of R.rules (R.state role.old) input.now)) }
     ensures kept { OnOk result (Appended K.append_gives (records_of (R.state role.old).me (kept_by (R.state role.old).me (outcome_of R.rules (R.state role.old) input.now).kept)) keeper.old keeper.new) }
     ensures sends { OnOk result (out.new.list ≡ (outcome_of R.rules (R.state role.old) input.now).sends) }
-    ensures part { OnErr result (AppendedPart K.append_gives (IsErrOf result StepFault.Failed) (records_of (R.state role.old).me (kept_by (R.state role.old).me (outcome_of R.rules (R.state role.old) input.now).kept)) keeper.old keeper.new) }
+    ensures rests { IsErrOf result StepFault.NoMemory → Refuses K.append_gives keeper.old keeper.new }
     ensures failed { IsErrOf result StepFault.Failed → Fails K.append_gives (slice_get (records_of (R.state role.old).me (kept_by (R.state role.old).me (outcome_of R.rules (R.state role.old) input.now).kept)) 0) keeper.old keeper.new }
 
     // A role that can take no step any more may have another name.
@@ -152,7 +157,7 @@ fn give<K: Keeper>(
     ensures kept { OnOk result (GuestGrows K.append_gives (given (hosted_of guest.old) input.now).kept guest.old guest.new) }
     ensures sends { OnOk result (out.new.list ≡ (given (hosted_of guest.old) input.now).sends) }
     ensures text { OnOk result (text.new.items ≡ (given (hosted_of guest.old) input.now).text) }
-    ensures part { OnErr result (GrowsPart K.append_gives (IsErrOf result StepFault.Failed) (records_of (who guest.old) (given (hosted_of guest.old) input.now).kept) (keeper_of guest.old) (keeper_of guest.new)) }
+    ensures rests { IsErrOf result StepFault.NoMemory → Rests K.append_gives (keeper_of guest.old) (keeper_of guest.new) }
     ensures failed { IsErrOf result StepFault.Failed → FailsIn K.append_gives (slice_get (records_of (who guest.old) (given (hosted_of guest.old) input.now).kept) 0) (keeper_of guest.old) (keeper_of guest.new) }
     ensures name { OnOk result (who guest.new ≡ who guest.old) }
     ensures live { OnOk result (IsTrue (is_live (hosted_of guest.new))) }
@@ -170,6 +175,19 @@ fn give<K: Keeper>(
         Guest::Reader { role } => step_alone(alloc, role, input, out)?,
     }
     Ok(())
+}
+
+// What a leader reports.
+fn standing_in(leader: &Leader) -> Standing
+    ensures { result ≡ standing_of leader.now }
+{
+    Standing {
+        may_lead: leader.idle() && leader.has_heard(),
+        watermark: leader.watermark(),
+        has_open: leader.has_open(),
+        is_spent: leader.is_spent(),
+        can_collect: leader.can_collect(),
+    }
 }
 
 // The keeper of a hosted role's records, where it has any.
@@ -211,11 +229,68 @@ impl<K: Keeper> Seat<K> {
         }
     }
 
+    /// Whether it is a leader that never began a round. It takes no memory.
+    pub fn is_new(&self) -> bool
+        ensures { result ≡ is_leader_so (λ l. is_new l.durable) (leader_of (hosted_of self.now)) }
+    {
+        match &self.guest {
+            Guest::Leader { role, .. } => role.is_new(),
+            _ => false,
+        }
+    }
+
+    /// Whether it is a leader that an order to collect would have begin. It takes no memory.
+    pub fn can_collect(&self) -> bool
+        ensures { result ≡ is_leader_so (λ l. can_collect l.volatile) (leader_of (hosted_of self.now)) }
+    {
+        match &self.guest {
+            Guest::Leader { role, .. } => role.can_collect(),
+            _ => false,
+        }
+    }
+
+    /// What its leader reports, if it is one. It takes no memory.
+    pub fn standing(&self) -> Option<Standing>
+        ensures { result ≡ option_map standing_of (leader_of (hosted_of self.now)) }
+    {
+        match &self.guest {
+            Guest::Leader { role, .. } => Some(standing_in(role)),
+            _ => None,
+        }
+    }
+
+    /// How many slots its replica holds, 0 where it is none. It takes no memory.
+    pub fn held(&self) -> u64
+        ensures { result ≡ held_of (hosted_of self.now) }
+    {
+        match &self.guest {
+            Guest::Replica { role, .. } => role.held(),
+            _ => 0,
+        }
+    }
+
+    /// How many requests its client has completed, 0 where it is none. It takes no memory.
+    pub fn completed(&self) -> u64
+        ensures { result ≡ completed (hosted_of self.now) }
+    {
+        match &self.guest {
+            Guest::Client { role } => role.completed(),
+            _ => 0,
+        }
+    }
+
+    /// Whether it is of this kind. It takes no memory.
+    pub fn is_of(&self, kind: Kind) -> bool
+        ensures { result ≡ is_of kind (hosted_of self.now) }
+    {
+        self.me.kind == kind
+    }
+
     /// Whether it is a client. It takes no memory.
     pub fn is_client(&self) -> bool
         ensures { result ≡ is_client (hosted_of self.now) }
     {
-        self.me.kind == cx_base::Kind::Client
+        self.me.kind == Kind::Client
     }
 
     /// Whether it has no request that isn't answered: only a client has any. It takes no memory.
@@ -236,7 +311,7 @@ impl<K: Keeper> Seat<K> {
     }
 
     /// The role does what it is asked: its state, its record, what it sends and the line that it prints are exactly those of the
-    /// definition. `Failed` comes only where its keeper's append failed, and then, as for want of memory, a front of that was done.
+    /// definition. `Failed` comes only where its keeper's append of that record failed; then, and out of memory, nothing may be sent.
     #[tactic(auto, unfolding(crate::specs::Hosted::does))]
     pub fn act(
         &mut self,
@@ -251,8 +326,8 @@ impl<K: Keeper> Seat<K> {
         ensures kept { OnOk result (GuestGrows K.append_gives (does (hosted_of self.old) what.now).kept self.old self.new) }
         ensures sends { OnOk result (out.new.list ≡ (does (hosted_of self.old) what.now).sends) }
         ensures text { OnOk result (text.new.items ≡ (does (hosted_of self.old) what.now).text) }
-        ensures part { OnErr result (GuestGrowsPart K.append_gives (IsErrOf result StepFault.Failed) (does (hosted_of self.old) what.now).kept self.old self.new) }
-        ensures failed { IsErrOf result StepFault.Failed → GuestFails K.append_gives (does (hosted_of self.old) what.now).kept self.old self.new }
+        ensures rests { IsErrOf result StepFault.NoMemory → Rests K.append_gives (keeper_of self.old) (keeper_of self.new) }
+        ensures failed { IsErrOf result StepFault.Failed → FailsIn K.append_gives (slice_get (records_of (who self.old) (does (hosted_of self.old) what.now).kept) 0) (keeper_of self.old) (keeper_of self.new) }
         ensures name { who self.new ≡ who self.old }
         ensures live { OnOk result (IsTrue (is_live (hosted_of self.new))) }
     {

@@ -4,13 +4,13 @@ ghost use Rattle.std.specs.Prelude.{◌≡◌, [], ◌∷◌, OnOk, OnErr};
 ghost use Rattle.cx_node.specs.Doing.{Asks, AsksPart};
 ghost use Rattle.cx_node.specs.Ports.{before, port_of};
 
-use cx_base::{Cluster, Kind, NoMemory, RoleId};
+use cx_base::{Cluster, Kind, NoMemory, RoleId, count_of};
 use cx_edge::Link;
 use cx_msg::{Datagram, encode_into};
-use cx_role::{count_of, names_role};
+use cx_role::names_role;
 use std::alloc::Global;
 
-// How many roles stand before those of a kind.
+// How many roles come before those of a kind.
 fn before(cluster: &Cluster, kind: Kind) -> u16
     ensures { result ≡ before cluster.now kind }
 {
@@ -47,7 +47,7 @@ fn send_one<L: Link>(
     bytes: &mut Vec<u8>,
     link: &mut L,
 ) -> Result<(), NoMemory>
-    ensures sent { OnOk result (Asks cluster.now [] (letter.now ∷ []) (L.told link.old) (L.told link.new)) }
+    ensures sent { OnOk result (Asks cluster.now (letter.now ∷ []) (L.told link.old) (L.told link.new)) }
     ensures nothing { OnErr result (L.told link.new ≡ L.told link.old) }
     ensures still { L.faults link.new ≡ L.faults link.old }
 {
@@ -60,7 +60,7 @@ fn send_one<L: Link>(
     Ok(())
 }
 
-/// Asks the link to send these datagrams, in order, each as its bytes. One that the link loses is lost. For want of memory the
+/// Asks the link to send these datagrams, in order, each as its bytes. One that the link loses is lost. Out of memory, the
 /// first ones were sent.
 pub fn send_all<L: Link>(
     alloc: Global,
@@ -69,53 +69,12 @@ pub fn send_all<L: Link>(
     bytes: &mut Vec<u8>,
     link: &mut L,
 ) -> Result<(), NoMemory>
-    ensures sent { OnOk result (Asks cluster.now [] letters.now (L.told link.old) (L.told link.new)) }
-    ensures part { OnErr result (AsksPart cluster.now [] letters.now (L.told link.old) (L.told link.new)) }
+    ensures sent { OnOk result (Asks cluster.now letters.now (L.told link.old) (L.told link.new)) }
+    ensures part { OnErr result (AsksPart cluster.now letters.now (L.told link.old) (L.told link.new)) }
     ensures still { L.faults link.new ≡ L.faults link.old }
 {
     for letter in letters {
         send_one(alloc, cluster, letter, bytes, link)?;
     }
     Ok(())
-}
-
-#[cfg(test)]
-mod tests {
-    use super::*;
-    use std::test::Fail;
-
-    // A cluster with one role of each kind.
-    const CLUSTER: Cluster = Cluster {
-        f: 0,
-        leaders: 1,
-        proxies: 1,
-        acceptors: 1,
-        replicas: 1,
-        batchers: 1,
-        unbatchers: 1,
-        readers: 1,
-        clients: 1,
-        batch: 1,
-        base_port: Some(20_000),
-    };
-
-    const PORTS: [(Kind, u16); 9] = [
-        (Kind::Client, 20_000),
-        (Kind::Batcher, 20_001),
-        (Kind::Leader, 20_002),
-        (Kind::Proxy, 20_003),
-        (Kind::Acceptor, 20_004),
-        (Kind::Matchmaker, 20_005),
-        (Kind::Replica, 20_006),
-        (Kind::Unbatcher, 20_007),
-        (Kind::Reader, 20_008),
-    ];
-
-    #[test]
-    fn ports_follow_the_codes(rt: HostRuntime) -> Result<(), Fail> {
-        for (kind, port) in &PORTS {
-            assert_eq!(rt; port_of(&CLUSTER, RoleId::new(*kind, 0)), *port);
-        }
-        Ok(())
-    }
 }

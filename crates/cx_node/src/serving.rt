@@ -70,6 +70,7 @@ fn run_seats<L: Link, D: Depot, W: Sink>(
     cluster: &Cluster,
     seats: Vec<Seat<Journal<D::Store>>>,
     turns: u32,
+    tend: Option<u32>,
     link: &mut L,
     depot: &mut D,
     out: &mut W,
@@ -78,14 +79,14 @@ fn run_seats<L: Link, D: Depot, W: Sink>(
     requires lent { D.out depot.old ≡ lent_to seats.items }
     ensures ran { (after : List (Guest (JournalState D.Store))) × (answer : Result RunEnd Stop) × (result ≡ ended_status answer)
         × Ran (IsJournalAppend D.Store.Disk.seen D.Store.Disk.may_leave D.Store.Disk.moment D.Store.Disk.left_since D.Store.Disk.faults)
-        cluster.now turns answer (scene seats.items (L.told link.old) (W.taken out.old)) (scene after (L.told link.new) (W.taken out.new)) (L.faults link.old) (L.faults link.new) (W.faults out.old) (W.faults out.new)
+        tend cluster.now turns answer (scene seats.items (L.told link.old) (W.taken out.old)) (scene after (L.told link.new) (W.taken out.new)) (L.faults link.old) (L.faults link.new) (W.faults out.old) (W.faults out.new)
         × GivesBack D.Store.Disk.seen D.Store.Disk.faults after (D.tells depot.old) (D.held depot.old) (D.held depot.new) (D.faults depot.old) (D.faults depot.new) }
     ensures told { D.tells depot.new ≡ D.tells depot.old }
     ensures given_back { D.out depot.new ≡ [] }
 {
     match Node::new(alloc, cluster, seats) {
         Ok(mut node) => {
-            let end = node.run(turns, link, out);
+            let end = node.run(turns, tend, link, out);
             close_seats(depot, node.into_seats());
             ended(end)
         }
@@ -103,6 +104,7 @@ fn host<L: Link, D: Depot, W: Sink>(
     roles: &[RoleId],
     events: &[Event],
     turns: u32,
+    tend: Option<u32>,
     link: &mut L,
     depot: &mut D,
     out: &mut W,
@@ -111,7 +113,7 @@ fn host<L: Link, D: Depot, W: Sink>(
     requires distinct { (i j : ℕ) (me : RoleId) → slice_get roles.now i ≡ Some me → slice_get roles.now j ≡ Some me → i ≡ j }
     requires scripts { (client : ℕ) → IsScript cluster.now client (script_of client events.now) }
     requires lent { D.out depot.old ≡ [] }
-    ensures answered { (left left_after : Option (List ℕ)) (reads reads_after : ℕ) → HostAnswered roles.now cluster.now events.now turns
+    ensures answered { (left left_after : Option (List ℕ)) (reads reads_after : ℕ) → HostAnswered roles.now tend cluster.now events.now turns
         (outside left reads (L.told link.old) (L.faults link.old) (W.taken out.old) (W.faults out.old) (D.tells depot.old) (D.held depot.old) (D.faults depot.old))
         (outside left_after reads_after (L.told link.new) (L.faults link.new) (W.taken out.new) (W.faults out.new) (D.tells depot.new) (D.held depot.new) (D.faults depot.new)) result }
     ensures given_back { D.out depot.new ≡ [] }
@@ -121,7 +123,7 @@ fn host<L: Link, D: Depot, W: Sink>(
     }
     let mut opened = Vec::new(alloc);
     match open_seats(alloc, cluster, roles, events, depot, &mut opened) {
-        Ok(()) => run_seats(alloc, cluster, opened, turns, link, depot, out),
+        Ok(()) => run_seats(alloc, cluster, opened, turns, tend, link, depot, out),
         Err(stop) => {
             close_seats(depot, opened);
             unopened(stop)
@@ -129,13 +131,15 @@ fn host<L: Link, D: Depot, W: Sink>(
     }
 }
 
-/// Hosts these roles: the input is read to its end; each role is bound to its port and opened from its store; and they run so many
-/// turns, or until all hosted clients have finished. What was bound, sent, printed and kept is exactly the node's run, or a front
-/// of it where something failed, and every store is given back whatever happens.
+/// Hosts these roles: the input is read to its end; each role is bound to its port and opened from its store; and they run `turns`
+/// turns, or until all hosted clients have finished. With `tend` the node tends them, with at most that many turns from one beat to
+/// the next (64 to 65,536 are of use). What was bound, sent, printed and kept is exactly the node's run, or a prefix of it where
+/// something failed, and every store is given back whatever happens. A role or a port that is bound already is a fault of the link.
 pub fn serve<S: Source, L: Link, D: Depot, W: Sink>(
     alloc: Global,
     roles: &[RoleId],
     turns: u32,
+    tend: Option<u32>,
     input: &mut S,
     link: &mut L,
     depot: &mut D,
@@ -143,7 +147,7 @@ pub fn serve<S: Source, L: Link, D: Depot, W: Sink>(
 ) -> Status
     requires distinct { (i j : ℕ) (me : RoleId) → slice_get roles.now i ≡ Some me → slice_get roles.now j ≡ Some me → i ≡ j }
     requires lent { D.out depot.old ≡ [] }
-    ensures answered { Answered roles.now turns
+    ensures answered { Answered roles.now tend turns
         (outside (S.left input.old) (S.faults input.old) (L.told link.old) (L.faults link.old) (W.taken out.old) (W.faults out.old) (D.tells depot.old) (D.held depot.old) (D.faults depot.old))
         (outside (S.left input.new) (S.faults input.new) (L.told link.new) (L.faults link.new) (W.taken out.new) (W.faults out.new) (D.tells depot.new) (D.held depot.new) (D.faults depot.new)) result }
     ensures complete { Completes roles.now
@@ -161,6 +165,7 @@ pub fn serve<S: Source, L: Link, D: Depot, W: Sink>(
             roles,
             schedule.events(),
             turns,
+            tend,
             link,
             depot,
             out,

@@ -10,12 +10,15 @@ ghost use Rattle.cx_node.specs.Guest.{AreReady, hosted_in};
 ghost use Rattle.cx_base.specs.Role.{role};
 ghost use Rattle.cx_base.specs.declared.role.Kind.TheVariants as kind;
 ghost use Rattle.cx_node.specs.Run.{comes, grid_of, lead_at, ordered, place_of, ticked, turn};
+ghost use Rattle.cx_node.specs.Tending.{any_turn};
+ghost use Rattle.cx_node.specs.Tends.{TendsOnce, tended};
 
-use crate::{Doing, Node, Stop};
+use crate::care::Care;
+use crate::{Come, Doing, Node, Stop};
 use cx_base::{Cluster, Grid, Kind, Order, RoleId};
 use cx_edge::{Link, Sink, TakeEnd};
 use cx_keeper::Keeper;
-use cx_msg::{Datagram, Input, WireFault, decode};
+use cx_msg::{Input, WireFault, decode};
 use std::alloc::Global;
 
 // The greatest number of members of a grid, and the first acceptors.
@@ -23,8 +26,8 @@ const MEMBERS: u16 = 16;
 
 const FIRST: [u16; 16] = [0, 1, 2, 3, 4, 5, 6, 7, 8, 9, 10, 11, 12, 13, 14, 15];
 
-// The grid that leader 0 is ordered to lead: the first acceptors, in two rows where their number is even, else in one.
-fn first_grid(cluster: &Cluster) -> Grid
+/// The grid that leader 0 is ordered to lead: the first acceptors, in two rows where their number is even, else in one.
+pub fn first_grid(cluster: &Cluster) -> Grid
     ensures { result ≡ grid_of cluster.now }
 {
     let count = cluster.acceptors.min(MEMBERS);
@@ -48,12 +51,8 @@ fn is_tick_turn(n: u32) -> bool
     n % 64 == 0
 }
 
-// Takes one datagram of the link, if one is there.
-fn receive<L: Link>(
-    alloc: Global,
-    buffer: &mut [u8],
-    link: &mut L,
-) -> Result<Option<Datagram>, Stop>
+/// Takes what the link gives.
+pub fn receive<L: Link>(alloc: Global, buffer: &mut [u8], link: &mut L) -> Result<Come, Stop>
     ensures told { Receives (L.told link.old) (L.told link.new) result }
     ensures fault { result ≡ Err stop.LinkFault → Rises (L.faults link.old) (L.faults link.new) }
     ensures no_fault { (result ≡ Err stop.LinkFault → ⊥) → L.faults link.new ≡ L.faults link.old }
@@ -62,13 +61,13 @@ fn receive<L: Link>(
 {
     match link.take(buffer) {
         TakeEnd::Got(count) => match decode(alloc, &buffer[..count]) {
-            Ok(datagram) => Ok(Some(datagram)),
+            Ok(datagram) => Ok(Come::Letter { datagram }),
             Err(fault) => match fault {
                 WireFault::NoMemory => Err(Stop::NoMemory),
-                _ => Ok(None),
+                _ => Ok(Come::Foreign),
             },
         },
-        TakeEnd::Nothing => Ok(None),
+        TakeEnd::Nothing => Ok(Come::Nothing),
         TakeEnd::Failed => Err(Stop::LinkFault),
     }
 }
@@ -99,7 +98,7 @@ impl<K: Keeper + Drop> Node<K> {
     }
 
     // The first part of the n-th turn.
-    fn order<L: Link, W: Sink>(&mut self, n: u32, link: &mut L, out: &mut W) -> Result<(), Stop>
+    pub fn order<L: Link, W: Sink>(&mut self, n: u32, link: &mut L, out: &mut W) -> Result<(), Stop>
         requires ready { AreReady self.old.cluster self.old.guests }
         ensures acts { Acts K.append_gives self.old.cluster [] (ordered self.old.cluster n (hosted_in self.old.guests)) result (scene self.old.guests (L.told link.old) (W.taken out.old)) (scene self.new.guests (L.told link.new) (W.taken out.new)) }
         ensures blames { Blames result (failures (L.faults link.old) (W.faults out.old)) (failures (L.faults link.new) (W.faults out.new)) }
@@ -118,8 +117,9 @@ impl<K: Keeper + Drop> Node<K> {
         ensures blames { Blames result (failures (L.faults link.old) (W.faults out.old)) (failures (L.faults link.new) (W.faults out.new)) }
         ensures cluster { self.new.cluster ≡ self.old.cluster }
     {
-        match receive(self.alloc, &mut self.buffer, link)? {
-            Some(datagram) => {
+        let come = receive(self.alloc, &mut self.buffer, link)?;
+        match come {
+            Come::Letter { datagram } => {
                 let to = datagram.to();
                 self.act_named(
                     to,
@@ -130,7 +130,8 @@ impl<K: Keeper + Drop> Node<K> {
                     out,
                 )
             }
-            None => Ok(()),
+            Come::Nothing => Ok(()),
+            Come::Foreign => Ok(()),
         }
     }
 
@@ -147,8 +148,13 @@ impl<K: Keeper + Drop> Node<K> {
         Ok(())
     }
 
-    // The n-th turn.
-    pub fn turn<L: Link, W: Sink>(&mut self, n: u32, link: &mut L, out: &mut W) -> Result<(), Stop>
+    // The n-th turn of a node that doesn't tend its roles.
+    fn untended_turn<L: Link, W: Sink>(
+        &mut self,
+        n: u32,
+        link: &mut L,
+        out: &mut W,
+    ) -> Result<(), Stop>
         requires ready { AreReady self.old.cluster self.old.guests }
         ensures acts { ActsOnce K.append_gives self.old.cluster (λ what. turn self.old.cluster n what (hosted_in self.old.guests)) result (scene self.old.guests (L.told link.old) (W.taken out.old)) (scene self.new.guests (L.told link.new) (W.taken out.new)) }
         ensures blames { Blames result (failures (L.faults link.old) (W.faults out.old)) (failures (L.faults link.new) (W.faults out.new)) }
@@ -157,5 +163,25 @@ impl<K: Keeper + Drop> Node<K> {
         self.order(n, link, out)?;
         self.take(link, out)?;
         self.tick(n, link, out)
+    }
+
+    // The n-th turn, tended with a limit of turns from beat to beat, or not tended.
+    pub fn turn<L: Link, W: Sink>(
+        &mut self,
+        tend: Option<u32>,
+        care: &mut Care,
+        n: u32,
+        link: &mut L,
+        out: &mut W,
+    ) -> Result<(), Stop>
+        requires ready { AreReady self.old.cluster self.old.guests }
+        ensures acts { TendsOnce K.append_gives self.old.cluster (λ what. any_turn tend self.old.cluster n what (tended care.old (hosted_in self.old.guests))) result (scene self.old.guests (L.told link.old) (W.taken out.old)) (scene self.new.guests (L.told link.new) (W.taken out.new)) care.new }
+        ensures blames { Blames result (failures (L.faults link.old) (W.faults out.old)) (failures (L.faults link.new) (W.faults out.new)) }
+        ensures cluster { self.new.cluster ≡ self.old.cluster }
+    {
+        match tend {
+            Some(most) => self.tended_turn(care, most, n, link, out),
+            None => self.untended_turn(n, link, out),
+        }
     }
 }

@@ -16,7 +16,7 @@ use cx_role::{Role, WakeFault};
 use std::alloc::Global;
 
 /// Why a role could not be woken.
-#[derive(Clone, Copy, Debug, PartialEq, Eq)]
+#[derive(Clone, Copy)]
 pub enum WakeStop {
     /// The store failed.
     Failed,

@@ -85,7 +85,7 @@ held_past_by : (v : Vote) (best : RingState Vote) (s : ℕ) (goes : Bool) → (n
 held_past_by v best s true goes other = rw goes (value_put v s best.items ∙ ap (λ (b : Bool). if b then Some v else value_at slot_of s best.items) other)
 held_past_by v best s false goes other = rw goes refl
 
--- a vote told is one of those that are still to come
+-- a vote reported is one of those that are still to come
 held_by : (v : Vote) (votes : List Vote) (best : RingState Vote) (s : ℕ) (at : Bool) → best.first ≤ s → (v.slot == s) ≡ at
     → better (value_at slot_of s (with_vote v best).items) (best_vote s votes) ≡ better (value_at slot_of s best.items) (best_vote s (v ∷ votes))
 held_by v votes best s true le at =
@@ -150,7 +150,7 @@ between_same promises best cw end same le =
     let with_values : List Value → Plan = λ values. record { cw = cw; end = end; values = values } in
     ap with_values (values_same (λ s. value_at slot_of s best.items) (λ s. best_vote s (votes_told promises)) best.first cw (end - cw) same le)
 
--- what is held gives the plan of all that was told
+-- what is held gives the plan of all that was reported
 pub plan_same : (low : ℕ) (promises : List Promised) (best : RingState Vote) (behind : ℕ) → IsBest promises best behind → plan_of low best behind ≡ plan low promises
 plan_same low promises best behind is =
     let cw : max low best.first ≡ greatest_cw low promises = ap (max low) is.first ∙ greatest_low low promises in

@@ -1,4 +1,4 @@
--- Who was counted, and what the answers tell.
+-- Who was counted, and what the answers report.
 use Rattle.std.specs.Prelude.{◌≡◌, ◌<◌, ◌+◌, ◌^◌, ℕ, Bool, true, false, ◌==◌, ◌&&◌, ◌||◌, nat_lt, nat_le, List, [], ◌∷◌, ◌++◌, All, IsTrue, refl}
 use Rattle.std.specs.List.{list_all, list_any}
 use Rattle.std.proofs.Common.{ap, arith, sym, ◌∙◌, ⊎_elim}
@@ -81,7 +81,7 @@ is_in-promised id (p ∷ promises) = ap (λ (b : Bool). (p.acceptor == id) || b)
 pub rows-marked : (es : List Entry) (marks : List ℕ) (promises : List Promised) → ((id : ℕ) → is_in id marks ≡ has_promised id promises) → rows_whole es marks ≡ rows_whole es (promised_by promises)
 rows-marked es marks promises is = rows-same es marks (promised_by promises) (λ id. is id ∙ is_in-promised id promises)
 
--- ---- what the answers tell
+-- ---- what the answers report
 
 in_range : (cw : ℕ) (v : Vote) → vote_in_range cw v ≡ true → IsVote cw v
 unfolding field.slot

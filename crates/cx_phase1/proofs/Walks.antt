@@ -4,11 +4,11 @@ use Rattle.std.proofs.Common.{drop, get_or, drop-cons, append_assoc, arith, ap, 
 use Rattle.std.proofs.lemmas.List.{drop_all}
 use Rattle.cx_base.specs.Lists.{numbers}
 
--- what is left at a place is the value there and what is left behind it
+-- what is left at a place is the value there and what is left after it
 pub next_left : {X : Type 0} (xs : List X) (i : ℕ) (x : X) → i < length xs → x ≡ get_or xs i x → drop i xs ≡ x ∷ drop (i + 1) xs
 next_left xs i x lt is = let k : i + 1 ≡ suc i = omega arith in drop-cons xs i x lt ∙ rw (← is, k) refl
 
--- Of what is left f gives the whole answer. If g takes the next value in, then it gives the answer of what is left behind it.
+-- Of what is left f gives the whole answer. If g takes the next value in, then it gives the answer of what is left after it.
 pub carried : {X Y : Type 0} (f g : List X → Y) (xs : List X) (i : ℕ) (x : X) (all : Y) → i < length xs → x ≡ get_or xs i x → ((rest : List X) → g rest ≡ f (x ∷ rest)) → f (drop i xs) ≡ all → g (drop (i + 1) xs) ≡ all
 carried f g xs i x all lt is step so_far = step (drop (i + 1) xs) ∙ ap f (sym (next_left xs i x lt is)) ∙ so_far
 

@@ -20,7 +20,7 @@ abbrev pub replaces : Vote → Option Vote → Bool
 replaces v None = true
 replaces v (Some first) = is_before first.round v.round
 
--- the best vote of each slot of the window, with one more told
+-- the best vote of each slot of the window, with one more reported
 abbrev pub with_vote : Vote → RingState Vote → RingState Vote
 with_vote v best =
     if nat_le best.first v.slot && replaces v (value_at slot_of v.slot best.items) then record best { items = with_value slot_of v best.items }

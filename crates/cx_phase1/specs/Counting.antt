@@ -8,7 +8,7 @@ use Rattle.cx_model.specs.Plan.{promised_by, has_promised}
 use Rattle.cx_phase1.specs.declared.told.Told.{Told}
 use Rattle.cx_phase1.specs.declared.told.Told.TheVariants.{Whole, Counted, Same, Unasked}
 
--- the entries of earlier rounds that aren't retired, and the acceptors that were counted, with what they told
+-- the entries of earlier rounds that aren't retired, and the acceptors that were counted, with what they reported
 pub record Counting : Type 0 where
   pub live : List Entry
   pub promises : List Promised
@@ -17,7 +17,7 @@ pub record Counting : Type 0 where
 abbrev pub are_ids : List Entry → Bool
 are_ids live = list_all (λ (e : Entry). list_all (λ id. nat_lt id 64) e.grid.members) live
 
--- what one more answer comes to
+-- the result of one more answer
 abbrev pub told_by : Counting → Promised → Told
 told_by k p =
     if not (is_member_of k.live p.acceptor) then Unasked

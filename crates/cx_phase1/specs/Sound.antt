@@ -16,19 +16,19 @@ pub record IsVote (cw : ℕ) (v : Vote) : Type 0 where
   pub end : v.slot < 2 ^ 40
   pub value : IsTrue (field.value.fits v.value)
 
--- what an acceptor told: a number of slots, and such votes
+-- what an acceptor reported: a number of slots, and such votes
 pub record IsPromise (p : Promised) : Type 0 where
   pub cw : p.cw ≤ 2 ^ 40
   pub votes : All (IsVote p.cw) p.votes
 
--- the window begins at the greatest watermark told, each of its slots has the best vote told of it, and the end is behind
--- the greatest slot told
+-- the window begins at the greatest watermark reported, each of its slots has the best vote reported for it, and the end is after
+-- the greatest slot reported
 pub record IsBest (promises : List Promised) (best : RingState Vote) (behind : ℕ) : Type 0 where
   pub first : best.first ≡ greatest_cw 0 promises
   pub votes : (s : ℕ) → best.first ≤ s → value_at slot_of s best.items ≡ best_vote s (votes_told promises)
   pub end : behind ≡ end_told 0 (votes_told promises)
 
--- members are ids that can be marked, those are marked that were counted, and what is held is the best of what they told
+-- members are ids that can be marked, those are marked that were counted, and what is held is the best of what they reported
 pub record IsSound (live : List Entry) (promises : List Promised) (marks : List ℕ) (votes : RingState Vote) (end : ℕ) : Type 0 where
   pub ids : IsTrue (are_ids live)
   pub marked : (id : ℕ) → is_in id marks ≡ has_promised id promises

@@ -16,7 +16,7 @@ pub record IsWindow (cw next : ℕ) : Type 0 where
 abbrev pub is_used_up : Window → Bool
 is_used_up w = (w.next == w.cw + 32) || (w.next == 1099511627776)
 
--- the next slot, if there is one, and the window behind it
+-- the next slot, if there is one, and the window after it
 abbrev pub free_slot : Window → Option ℕ
 free_slot w = if is_used_up w then None else Some w.next
 

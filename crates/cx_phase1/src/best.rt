@@ -1,4 +1,4 @@
-//! The best vote told of each slot: that of the greatest round, and of one round the first one told (VLDB 2021).
+//! The best vote reported for each slot: that of the greatest round, and of one round the first reported (VLDB 2021).
 
 ghost use Rattle.std.specs.Prelude.{◌≡◌, ◌≤◌, ◌<◌, ◌+◌, ◌^◌, true, All};
 ghost use Rattle.std.specs.Option.{option_copied};
@@ -20,7 +20,7 @@ impl Slotted<Vote> for BySlot {
     }
 }
 
-/// The best vote told of each slot of a window.
+/// The best vote reported for each slot of a window.
 pub type Best = Ring<Vote, BySlot>;
 
 // Whether a vote goes into the place of the best one so far of its slot: there is none, or it is of a greater round.
@@ -58,7 +58,7 @@ fn hold_all(best: &mut Best, votes: Vec<Vote>)
     }
 }
 
-/// Holds the best of what an acceptor told from the slot `cw` on, and nothing below it. It takes no memory.
+/// Holds the best of what an acceptor reported from the slot `cw` on, and nothing below it. It takes no memory.
 pub fn take_in(best: &mut Best, cw: u64, votes: Vec<Vote>)
     requires room { best.old.room ≡ true }
     requires cw { cw ≤ 2 ^ 40 }

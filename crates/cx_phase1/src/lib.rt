@@ -1,7 +1,8 @@
-//! A leader's first phase: who has promised, and what the leader then proposes (VLDB 2021); and the slots that it proposes at.
+//! A leader's first phase: who has promised, and what is then proposed (VLDB 2021).
 //!
-//! Stands on the model, on grids and on rings of slots; the leader stands on it. Its theorem: an answer counts once, the phase is over exactly
-//! when each live grid has a whole row, and the plan is the model's.
+//! `Slots` is the leader's window of slots. Its theorems are: an answer counts once; the phase ends
+//! exactly when each live grid has a whole row; the plan is the model's, in each slot the value of
+//! the greatest round reported, or a no-op.
 #![tactic(auto)]
 
 mod best;
@@ -9,8 +10,6 @@ mod phase1;
 mod planning;
 mod promises;
 mod slots;
-#[cfg(test)]
-mod tests;
 mod told;
 
 pub use phase1::Phase1;

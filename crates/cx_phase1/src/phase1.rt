@@ -19,15 +19,15 @@ use cx_ring::Ring;
 use std::alloc::Global;
 use std::marker::Model;
 
-/// The grids of earlier rounds that are not retired, and the acceptors that have promised, with what they told.
+/// The grids of earlier rounds that are not retired, and the acceptors that have promised, with what they reported.
 #[derive(Drop)]
 pub struct Phase1 {
     alloc: Global,
     live: Vec<Entry>,
     marks: Marks,
-    // The best vote told of each slot from the greatest watermark told on.
+    // The best vote reported for each slot from the greatest watermark reported on.
     best: Best,
-    // One more than the greatest slot told, or 0.
+    // One more than the greatest slot reported, or 0.
     end: u64,
     // What contracts see of the promises.
     told: Promises,
@@ -86,8 +86,8 @@ impl Phase1 {
         is_member_of(&self.live, acceptor)
     }
 
-    /// An acceptor promises, and tells what it voted from the slot `cw` on: votes of rising slots of the window of 32 slots
-    /// from there on. Want of memory leaves all as it was, and so do the answers `Same` and `Unasked`,
+    /// An acceptor promises, and reports what it voted from the slot `cw` on: votes of rising slots of the window of 32 slots
+    /// from there on. Out of memory, it leaves all as it was, and so do the answers `Same` and `Unasked`,
     /// of which the latter takes none.
     pub fn answer(&mut self, acceptor: u16, cw: u64, votes: &Votes) -> Result<Told, NoMemory>
         requires cw { IsTrue (field.mark.fits cw) }
@@ -117,8 +117,8 @@ impl Phase1 {
         }
     }
 
-    /// What the leader proposes once each live grid has a whole row: from the greatest watermark told, and at least `low`, to
-    /// behind the greatest slot told, in each slot the value of the greatest round voted there, or a no-op (VLDB 2021).
+    /// What the leader proposes once each live grid has a whole row: from the greatest watermark reported, and at least `low`, to
+    /// after the greatest slot reported, in each slot the value of the greatest round voted there, or a no-op (VLDB 2021).
     pub fn plan(&self, low: u64) -> Result<Plan, NoMemory>
         requires { low ≤ 2 ^ 40 }
         ensures plan { IfOk result (λ found. found ≡ plan low self.now.promises) }

@@ -25,7 +25,7 @@ pub fn end_of(low: u64, cw: u64, votes: &[Vote]) -> u64
     end
 }
 
-// A slot at which nobody told a vote has nothing to do.
+// A slot at which nobody reported a vote has nothing to do.
 fn voted_value(alloc: Global, slot: u64, best: &Best) -> Result<Value, NoMemory>
     ensures { IfOk result (λ value. value ≡ voted_value (value_at slot_of slot best.now.items)) }
 {

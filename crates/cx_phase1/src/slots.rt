@@ -3,17 +3,12 @@
 ghost use Rattle.std.specs.Prelude.{◌≡◌, ◌≤◌, ◌+◌, ◌^◌};
 ghost use Rattle.cx_phase1.specs.Window.{IsWindow, free_slot, advanced, raised};
 
+use cx_base::{SLOTS, WINDOW};
 use std::marker::Model;
-
-// How many slots the window has, from the watermark on.
-const WINDOW: u64 = 32;
-
-// Slots are below 2^40.
-const END: u64 = 1_099_511_627_776;
 
 /// The chosen watermark and the next free slot of a window of 32 slots from the watermark on; slots end at 2^40 (VLDB 2021;
 /// the window and the end are this project's own).
-#[derive(Clone, Copy, Debug)]
+#[derive(Clone, Copy)]
 pub struct Slots {
     cw: u64,
     next: u64,
@@ -48,7 +43,7 @@ impl Slots {
         ensures slot { result ≡ free_slot self.old }
         ensures rest { self.new ≡ advanced self.old }
     {
-        if self.next == self.cw + WINDOW || self.next == END {
+        if self.next == self.cw + WINDOW || self.next == SLOTS {
             return None;
         }
         let slot = self.next;

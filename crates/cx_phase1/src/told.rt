@@ -1,11 +1,11 @@
-//! What an acceptor's answer comes to.
+//! The result of an acceptor's answer.
 
-/// What an acceptor's answer comes to.
+/// The result of an acceptor's answer.
 #[derive(Clone, Copy, Debug, PartialEq, Eq)]
 pub enum Told {
     /// It counts, and each live grid now has a whole row.
     Whole,
-    /// It counts, and more are wanted.
+    /// It counts, and more are needed.
     Counted,
     /// The acceptor was counted before.
     Same,

@@ -24,7 +24,7 @@ pub begins_within : (from : ℕ) (ends : List ℕ) (all : ℕ) → AreEnds from 
 begins_within from [] all h = omega (arith, h)
 begins_within from (x ∷ ends) all h = omega (arith, h.0, begins_within x ends all h.1)
 
--- a piece ends at or behind where it begins, and within the bytes
+-- a piece ends at or after where it begins, and within the bytes
 pub lies : (from : ℕ) (ends : List ℕ) (all n end : ℕ) → AreEnds from ends all → slice_get ends n ≡ Some end → (begin_of from ends n ≤ end) × (end ≤ all)
 lies from [] all n end h e = cc
 lies from (x ∷ ends) all zero end h e =

@@ -6,7 +6,7 @@ abbrev pub cut_at : ℕ → List ℕ → List ℕ → List (List ℕ)
 cut_at from [] bytes = []
 cut_at from (end ∷ ends) bytes = take (end - from) (drop from bytes) ∷ cut_at end ends bytes
 
--- each piece ends at or behind where it begins, and the last one where the bytes end
+-- each piece ends at or after where it begins, and the last one where the bytes end
 abbrev pub AreEnds : ℕ → List ℕ → ℕ → Type 0
 AreEnds from [] all = from ≡ all
 AreEnds from (end ∷ ends) all = (from ≤ end) × AreEnds end ends all

@@ -1,12 +1,12 @@
-//! Pieces of bytes in one buffer.
+//! Strings of bytes, held in shared chunks.
 //!
-//! Stands on want of memory alone; the histories of a run stand on it. Its theorem: the list of pieces is what was pushed
-//! (`Pieces::push`), of which `Pieces::get` gives the one of a number.
+//! The histories of a run lie in it. Its theorem is: contracts see the list of what was pushed, of
+//! which `Pieces::get` lends the one of a number, and `Pieces::shared` gives it as bytes that share
+//! their chunk.
 #![tactic(auto)]
 
+mod chunk;
+mod filling;
 mod pieces;
 
 pub use pieces::Pieces;
-
-#[cfg(test)]
-mod tests;

@@ -1,72 +1,125 @@
-//! Pieces of bytes in one buffer.
+//! Pieces of bytes in chunks.
 
-ghost use Rattle.std.specs.Prelude.{◌≡◌, ◌≤◌, ◌+◌, ◌-◌, ◌++◌, ◌∷◌, [], IfOk, OnOk, OnErr, length, take, drop, slice_get};
+ghost use Rattle.std.specs.Prelude.{◌≡◌, ◌<◌, ◌+◌, ◌++◌, ◌∷◌, [], IfOk, OnOk, OnErr, length, slice_get};
 ghost use Rattle.std.specs.Option.{option_copied};
-ghost use Rattle.cx_pieces.specs.Ends.{begin_of};
+ghost use Rattle.cx_pieces.specs.Chunks.{AreFull, all_of};
 
+use crate::chunk::Chunk;
+use bytes::{Bytes, BytesMut};
 use cx_base::NoMemory;
 use std::alloc::Global;
 use std::marker::Model;
 
-/// Pieces of bytes, numbered from 0. What is held is one buffer, and of each piece where it ends in four bytes.
+// How many pieces a chunk has.
+const SIZE: usize = 256;
+
+/// Pieces of bytes, numbered from 0. The first ones are held in chunks of 256, a buffer and where each piece ends in it; of those
+/// after them each is held by itself, until they are as many as a chunk has.
 #[derive(Drop)]
 pub struct Pieces {
-    bytes: Vec<u8>,
-    ends: Vec<u32>,
+    alloc: Global,
+    count: usize,
+    chunks: Vec<Chunk>,
+    last: Vec<Bytes>,
+    // Room for the bytes of the next pieces.
+    room: BytesMut,
 }
 
 impl Model for Pieces {
-    ghost use Rattle.std.specs.Prelude.{ℕ, List, length};
-    ghost use Rattle.cx_pieces.specs.Ends.{AreEnds, cut_at};
+    ghost use Rattle.std.specs.Prelude.{ℕ, List, ◌++◌};
+    ghost use Rattle.cx_pieces.specs.Chunks.{AreHeld, all_of};
 
     ghost Value = { List (List ℕ) };
 
-    ghost view = { λ p. cut_at 0 p.ends.items p.bytes.items };
+    ghost view = { λ p. all_of p.chunks.items ++ p.last.items };
 
-    ghost invariant = { λ p. AreEnds 0 p.ends.items (length p.bytes.items) };
+    ghost invariant = { λ p. AreHeld p.count p.chunks.items p.last.items p.room.items };
 }
 
-// Where the piece of a number ends.
-fn end_of(ends: &[u32], number: usize) -> Option<u32>
-    ensures { result ≡ slice_get ends.now number }
+// One more. More than a count can tell are answered as out of memory.
+fn next(count: usize) -> Result<usize, NoMemory>
+    ensures { IfOk result (λ n. n ≡ count + 1) }
 {
-    ends.get(number).copied()
+    count.checked_add(1).ok_or(NoMemory)
 }
 
-// Where the piece of a number begins: where the one before it ends.
-fn begin_of(ends: &[u32], number: usize) -> usize
-    ensures { result ≡ begin_of 0 ends.now number }
+// The chunk of a number, None exactly where there is none.
+fn chunk_at(chunks: &[Chunk], number: usize) -> Option<&Chunk>
+    ensures { option_copied result ≡ slice_get chunks.now number }
 {
-    if number == 0 {
-        return 0;
+    chunks.get(number)
+}
+
+// The bytes of a piece in chunks, None exactly where there is none.
+fn piece_of(chunks: &[Chunk], number: usize) -> Option<&[u8]>
+    requires { AreFull 256 chunks.now }
+    ensures { option_copied result ≡ slice_get (all_of chunks.now) number }
+{
+    match chunk_at(chunks, number / SIZE) {
+        None => None,
+        Some(chunk) => chunk.get(number % SIZE),
     }
-    match end_of(ends, number - 1) {
-        None => 0,
-        Some(end) => end as usize,
+}
+
+// A piece in chunks, None exactly where there is none.
+fn shared_of(chunks: &[Chunk], number: usize) -> Result<Option<Bytes>, NoMemory>
+    requires { AreFull 256 chunks.now }
+    ensures { IfOk result (λ piece. piece ≡ slice_get (all_of chunks.now) number) }
+{
+    match chunk_at(chunks, number / SIZE) {
+        None => Ok(None),
+        Some(chunk) => chunk.shared(number % SIZE),
     }
 }
 
-// The bytes from one place to another.
-fn between(bytes: &[u8], begin: usize, end: usize) -> &[u8]
-    requires order { begin ≤ end }
-    requires within { end ≤ length bytes.now }
-    ensures { result.now ≡ take (end - begin) (drop begin bytes.now) }
+// The bytes of a piece in a list, None exactly where there is none.
+fn lent(pieces: &[Bytes], number: usize) -> Option<&[u8]>
+    ensures { option_copied result ≡ slice_get pieces.now number }
 {
-    let rest = &bytes[begin..];
-    &rest[..end - begin]
+    match pieces.get(number) {
+        None => None,
+        Some(piece) => Some(piece.as_slice()),
+    }
 }
 
-// The end of one more piece of this length.
-fn end_behind(total: usize, more: usize) -> Result<u32, NoMemory>
-    ensures { IfOk result (λ end. end ≡ total + more) }
+// A piece in a list, None exactly where there is none.
+fn cloned(pieces: &[Bytes], number: usize) -> Result<Option<Bytes>, NoMemory>
+    ensures { IfOk result (λ piece. piece ≡ slice_get pieces.now number) }
 {
-    match total.checked_add(more) {
-        None => Err(NoMemory),
-        Some(end) => match u32::try_from(end) {
-            Ok(end) => Ok(end),
-            Err(_) => Err(NoMemory),
-        },
+    match pieces.get(number) {
+        None => Ok(None),
+        Some(piece) => Ok(Some(piece.clone()?)),
     }
+}
+
+// Copies a piece into the room, and cuts it off there.
+fn put_piece(room: &mut BytesMut, piece: &[u8]) -> Result<Bytes, NoMemory>
+    requires { room.old.items ≡ [] }
+    ensures piece { IfOk result (λ held. held ≡ piece.now) }
+    ensures room { room.new.items ≡ [] }
+{
+    room.extend_from_slice(piece)?;
+    match room.freeze_to(piece.len()) {
+        Ok(held) => Ok(held),
+        Err(_) => {
+            room.clear();
+            Err(NoMemory)
+        }
+    }
+}
+
+// Makes a chunk of the last pieces where they are as many as one has.
+fn close(alloc: Global, chunks: &mut Vec<Chunk>, last: &mut Vec<Bytes>) -> Result<(), NoMemory>
+    ensures same { all_of chunks.new.items ++ last.new.items ≡ all_of chunks.old.items ++ last.old.items }
+    ensures full { AreFull 256 chunks.old.items → AreFull 256 chunks.new.items }
+{
+    if last.len() != SIZE {
+        return Ok(());
+    }
+    let chunk = Chunk::of(alloc, last)?;
+    chunks.push(chunk)?;
+    last.clear();
+    Ok(())
 }
 
 impl Pieces {
@@ -75,8 +128,11 @@ impl Pieces {
         ensures { result ≡ [] }
     {
         Pieces {
-            bytes: Vec::new(alloc),
-            ends: Vec::new(alloc),
+            alloc,
+            count: 0,
+            chunks: Vec::new(alloc),
+            last: Vec::new(alloc),
+            room: BytesMut::new(alloc),
         }
     }
 
@@ -84,29 +140,43 @@ impl Pieces {
     pub fn len(&self) -> usize
         ensures { result ≡ length self.now }
     {
-        self.ends.len()
+        self.count
     }
 
     /// The bytes of the piece of this number, None exactly where there is none. It takes no memory.
     pub fn get(&self, number: usize) -> Option<&[u8]>
         ensures { option_copied result ≡ slice_get self.now number }
     {
-        match end_of(&self.ends, number) {
-            None => None,
-            Some(end) => Some(between(&self.bytes, begin_of(&self.ends, number), end as usize)),
+        let closed = self.count - self.last.len();
+        if number < closed {
+            return piece_of(&self.chunks, number);
         }
+        lent(&self.last, number - closed)
     }
 
-    /// One piece more, behind the others. Want of memory changes nothing; more than 4,294,967,295 bytes in all are said to be
-    /// want of memory too.
+    /// The piece of this number, None exactly where there is none: it shares a buffer with others, and no byte is copied.
+    pub fn shared(&self, number: usize) -> Result<Option<Bytes>, NoMemory>
+        ensures { IfOk result (λ piece. piece ≡ slice_get self.now number) }
+    {
+        let closed = self.count - self.last.len();
+        if number < closed {
+            return shared_of(&self.chunks, number);
+        }
+        cloned(&self.last, number - closed)
+    }
+
+    /// One piece more, after the others. Out of memory, it changes nothing; more than 4,294,967,295 bytes in a chunk are
+    /// answered as out of memory too.
     pub fn push(&mut self, piece: &[u8]) -> Result<(), NoMemory>
         ensures ok { OnOk result (self.new ≡ self.old ++ piece.now ∷ []) }
         ensures err { OnErr result (self.new ≡ self.old) }
     {
-        let end = end_behind(self.bytes.len(), piece.len())?;
-        self.ends.reserve(1)?;
-        self.bytes.extend_from_slice(piece)?;
-        self.ends.push_reserved(end);
+        let count = next(self.count)?;
+        close(self.alloc, &mut self.chunks, &mut self.last)?;
+        self.last.reserve(1)?;
+        let held = put_piece(&mut self.room, piece)?;
+        self.last.push_reserved(held);
+        self.count = count;
         Ok(())
     }
 }

@@ -1,24 +1,33 @@
--- The promises of all runs, told of one.
+-- Every run is lawful: its promises, put together from the law crates.
 use Rattle.std.specs.Prelude.{List}
 use Rattle.cx_base.specs.declared.cluster.Cluster.{Cluster}
 use Rattle.cx_base.specs.declared.event.Event.{Event}
 use Rattle.cx_model.specs.Chosen.{chosen_prefix}
 use Rattle.cx_model.specs.World.{run, log_of}
 use Rattle.cx_inv_vote.proofs.Agree.{agreement}
-use Rattle.cx_inv_announce.proofs.Steps.{all_is_told}
-use Rattle.cx_inv_list.proofs.Answers.{one_list}
+use Rattle.cx_inv_announce.proofs.Steps.{announced}
+use Rattle.cx_inv_bypass.proofs.Steps.{bypassed_rounds}
+use Rattle.cx_inv_held.proofs.Steps.{kept_watermarks}
+use Rattle.cx_inv_open.proofs.Steps.{roles_reopen}
+use Rattle.cx_inv_list.proofs.Answers.{answers_are_of_a_log, one_list, reads_tell}
 use Rattle.cx_inv_list.proofs.Right.{machine_is_the_fold}
+use Rattle.cx_inv_read.proofs.Results.{after_answers, after_reads}
+use Rattle.cx_inv_retire.proofs.Later.{rounds_ask_later, reads_ask_later}
 use Rattle.cx_promises.specs.Lawful.{IsLawful, IsCommandList}
-use Rattle.cx_promises.proofs.Promised.{fresh_reads, safe_retirement}
 
 pub lawful : (c : Cluster) (es : List Event) → IsLawful c es
 lawful c es = record {
-  one_value = agreement.one_value c es;
+  agreement = agreement c es;
+  chosen = one_list.chosen c es;
   replicas_hold_it = one_list.replicas_hold_it c es;
+  it_grows = one_list.it_grows c es;
   maps_are_folds = λ p. machine_is_the_fold.map (log_of p (run c es).kept);
+  tables_are_folds = λ p. machine_is_the_fold.table (log_of p (run c es).kept);
   none_acts_twice = one_list.none_acts_twice _;
   answers_are_right = one_list.answers_are_right c es;
+  results_are_right = answers_are_of_a_log.results c es;
   commands_were_asked = one_list.commands_were_asked c es;
+<<<<<<< ours
   order = λ then later e from to seq at reply told s before command stands unasked.
       one_list.order c then later from to seq at reply told s before command (rw (← e) stands) (λ b m. unasked (b, m));
   read_values = λ from to seq n found told floor reader replica key asked.
@@ -34,11 +43,41 @@ lawful c es = record {
   reads_ask_later = λ then later h e i retires t unasked from to w sent.
       rw e (safe_retirement.reads_ask_later c then later h i retires t unasked from to w (rw (← e) sent));
   announced = λ then later e h proxy i g s v asks keeps b rows cols votes. rw h (all_is_told.told c then later e proxy i g s v asks keeps b rows cols votes);
+||||||| base
+  order = λ then later e from to seq at reply told s before command stands unasked.
+      one_list.order c then later from to seq at reply told s before command (rw (← e) stands) (λ b m. unasked (b, m));
+  read_values = λ from to seq n found told reader replica key asked.
+      (fresh_reads.in_the_list c es from to seq n found told, fresh_reads.value c es from to seq n found told reader replica key asked);
+  reads_after_answers = λ then later e from to seq at reply told t unasked by client n found is answer.
+      fresh_reads.after_answers c then later from to seq at reply told t unasked by client n found is (rw (← e) answer);
+  reads_after_reads = λ then later e from to seq m told answer t unasked by client n found is other.
+      fresh_reads.after_reads c then later from to seq m told answer t unasked by client n found is (rw (← e) other);
+  chosen_below = safe_retirement.chosen_below c es;
+  held = safe_retirement.held c es;
+  rounds_ask_later = λ then later h e i retires k g config new from to sent.
+      rw e (safe_retirement.rounds_ask_later c then later h i retires k g (rw (← e) config) new from to (rw (← e) sent));
+  reads_ask_later = λ then later h e i retires t unasked from to w sent.
+      rw e (safe_retirement.reads_ask_later c then later h i retires t unasked from to w (rw (← e) sent));
+  announced = λ then later e h proxy i g s v asks keeps b rows cols votes. rw h (all_is_told.told c then later e proxy i g s v asks keeps b rows cols votes);
+=======
+  order = one_list.order c es;
+  reads_are_right = reads_tell c es;
+  reads_of_their_replica = answers_are_of_a_log.read c es;
+  reads_after_answers = after_answers c es;
+  reads_after_reads = after_reads c es;
+  chosen_below = kept_watermarks.chosen_below c es;
+  held = kept_watermarks.held c es;
+  rounds_ask_later = rounds_ask_later c es;
+  reads_ask_later = reads_ask_later c es;
+  announced = announced c es;
+  bypassed_rounds = bypassed_rounds c es;
+  roles_reopen = roles_reopen c es;
+>>>>>>> theirs
 }
 
 pub prefix_is_the_list : (c : Cluster) (es : List Event) → IsCommandList c (run c es).kept (chosen_prefix (run c es).kept)
 prefix_is_the_list c es = record {
   chosen = one_list.chosen c es;
-  only = λ s v w at chosen. agreement.one_value c es s w v chosen (one_list.chosen c es s v at);
+  only = λ s v w at chosen. agreement c es s w v chosen (one_list.chosen c es s v at);
   replicas = one_list.replicas_hold_it c es;
 }

@@ -1,24 +1,13 @@
-//! What every run is promised: agreement, one command list, fresh reads, safe retirement, announcement.
+//! What every run is promised: agreement, one list, fresh reads, safe retirement, announcement, changes of grid, recovery.
 //!
-//! Stands on the law crates; the world stands on it. Its theorem is `runs_are_lawful`: all promises, of the run of each list of
-//! events over each cluster. Of agreement and the command list the law functions are in cx_inv_vote and cx_inv_list.
+//! The world, the replay and the node cite it; the law crates prove its sentences, each in one of
+//! them. Its theorem is `runs_are_lawful`: all promises (`IsLawful`) hold of the run of each list of
+//! events over each cluster.
 #![tactic(auto)]
 
-ghost use Rattle.cx_model.specs.Promises.{FreshReads, SafeRetirement};
 ghost use Rattle.cx_promises.specs.Lawful.{RunsAreLawful};
 
-/// A read's answer tells its key's text after so many values of the one command list, and these hold all that was answered
-/// before the read was first asked for.
-pub fn reads_are_fresh()
-    ensures { FreshReads }
-{}
-
-/// What the watermark of a kept record says is true, and the grids of retired rounds are asked no more.
-pub fn retirement_is_safe()
-    ensures { SafeRetirement }
-{}
-
-/// Every run is lawful: all that is promised, told of one run.
+/// Every run is lawful: all that is promised, of one run.
 pub fn runs_are_lawful()
     ensures { RunsAreLawful }
 {}

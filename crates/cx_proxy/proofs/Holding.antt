@@ -83,7 +83,7 @@ stands p more is cw low = record { parts = is; near = record { low = low; high =
     in_end : (cw s : ℕ) → in_window cw s ≡ true → cw ≤ more → s < more + 32
     in_end cw s h le = let both = and_parts (nat_le cw s) (nat_lt s (cw + 32)) h in grind (arith, nat_tests, both.1)
 
--- a value that is found stands there
+-- a value that is found is there
 pub found_stands : (me : RoleId) (ring : RingState Pending) (s : ℕ) (p : Pending) → Holds me ring → pending_at s ring.items ≡ Some p → Stands ring.first ring.room p
 found_stands me ring s p h found = found_has (Stands ring.first ring.room) s ring.items p found h.pending
 

@@ -40,7 +40,7 @@ members_most (m ∷ ms) first count =
     let both = either_passes (λ x. m == x) (λ x. is_in x ms) (numbers first count) in
     omega (arith, both, one_passes m first count, members_most ms first count)
 
--- one more was told
+-- one more was sent to
 pub one_told : {A : Type 0} (f : ℕ → A) (i n : ℕ) (before after all : List A) (d : A) → i < n → after ≡ before ++ d ∷ [] → d ≡ f i
     → before ++ map f (numbers i (n - i)) ≡ all → after ++ map f (numbers (i + 1) (n - (i + 1))) ≡ all
 one_told f i n before after all d l more same h =

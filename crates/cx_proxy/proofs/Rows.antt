@@ -14,15 +14,15 @@ use Rattle.cx_msg.specs.declared.kept.Record.{Record}
 use Rattle.cx_model.specs.declared.states.Pending.{Pending}
 use Rattle.cx_model.specs.Outcome.{Outcome, answered}
 use Rattle.cx_model.specs.Proxy.{ProxyVolatile, proxy_rules, pending_at, raised_to, ask, propose_over, propose_row, vote_counted, vote_for}
-use Rattle.cx_model.specs.Rules.{refused}
+use Rattle.cx_model.specs.Rules.{refused_from}
 use Rattle.cx_role.specs.Role.{takes_no_memory}
 use Rattle.cx_proxy.specs.Declined.{declined, declined_over, uncounted}
 use Rattle.cx_proxy.specs.Slots.{slot_of}
 use Rattle.cx_ring.specs.Ring.{values_from}
 
-pub proxy_refuses : (c : Cluster) (me : RoleId) (rs : List Record) → 1 ≤ length rs → refused proxy_rules c me rs ≡ Some 0
-proxy_refuses c me [] h = absurd (omega arith)
-proxy_refuses c me (r ∷ rs) h = refl
+pub proxy_refuses : (c : Cluster) (me : RoleId) (d : Unit {0}) (rs : List Record) → 1 ≤ length rs → refused_from proxy_rules c me d 0 rs ≡ Some 0
+proxy_refuses c me d [] h = absurd (omega arith)
+proxy_refuses c me d (r ∷ rs) h = refl
 
 -- a slot from the watermark on has the value that it had
 found_more : (known s : ℕ) (p : Pending) (ps : List Pending) (keeps is : Bool) → nat_le known p.slot ≡ keeps → (p.slot == s) ≡ is → known ≤ s

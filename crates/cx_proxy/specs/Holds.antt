@@ -15,7 +15,7 @@ pub record IsPending (p : Pending) : Type 0 where
   pub window : IsTrue (in_window p.cw p.slot)
   pub value : IsTrue (field.value.fits p.value)
 
--- a value that stands in a ring, where another can take its place
+-- a value that is in a ring, where another can take its place
 pub record Stands (first : ℕ) (room : Bool) (p : Pending) : Type 0 where
   pub parts : IsPending p
   pub near : IsNear first p.slot

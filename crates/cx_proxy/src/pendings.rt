@@ -12,7 +12,7 @@ use cx_grid::{Marks, is_member};
 use cx_model::Pending;
 use cx_ring::{Ring, Slotted};
 
-/// How a pending value tells its slot.
+/// Which slot a pending value has.
 pub struct BySlot;
 
 impl Slotted<Pending> for BySlot {
@@ -100,7 +100,7 @@ pub fn uncounted(pending: &Pending, acceptor: u16, round: Round) -> Option<Why>
     None
 }
 
-// What stands in the place of a value while that is out.
+// What is in the place of a value while that is out.
 fn hollow(pending: &Pending) -> Pending
     ensures { result.slot ≡ pending.now.slot }
 {

@@ -6,14 +6,14 @@ ghost use Rattle.cx_field.specs.Fields as field;
 ghost use Rattle.cx_field.specs.Fields.{in_window};
 ghost use Rattle.cx_msg.specs.declared.input.Input.TheVariants as input;
 ghost use Rattle.cx_model.specs.declared.states.Pending.{Pending};
-ghost use Rattle.cx_model.specs.Rules.{Running, outcome_of};
+ghost use Rattle.cx_model.specs.Rules.{Running, opened, outcome_of};
 ghost use Rattle.cx_model.specs.Proxy.{ProxyVolatile, proxy_rules, propose_row, raised_to, pending_of, vote_for, pending_at};
 ghost use Rattle.cx_role.specs.Role.{Replies, takes_no_memory};
 ghost use Rattle.cx_proxy.specs.Holds.{IsPending};
 
 use crate::pendings::{Pendings, declined, find, note, put, uncounted};
 use crate::sends::{again_all, announce, ask_column};
-use cx_base::{Cluster, Duplicate, NoMemory, Order, RoleId, Round, Value, Why};
+use cx_base::{Cluster, Duplicate, NoMemory, Order, RoleId, Round, Value, WINDOW, Why};
 use cx_grid::{Marks, column_whole};
 use cx_keeper::Keeper;
 use cx_model::Pending;
@@ -21,9 +21,6 @@ use cx_msg::{Datagram, Msg, Record};
 use cx_role::{Outbox, Role, StepFault, WakeFault, is_for};
 use std::alloc::Global;
 use std::marker::Model;
-
-// How many slots the window has, from the watermark on.
-const WINDOW: u64 = 32;
 
 /// Asks a column of a grid for votes on each value that a leader hands over, and announces what a column voted for.
 #[derive(Drop)]
@@ -49,6 +46,20 @@ impl Model for Proxy {
 }
 
 impl Proxy {
+    // A proxy leader to which nothing was sent. It takes no memory.
+    fn new(alloc: Global, cluster: &Cluster, me: RoleId) -> Self
+        requires { me.kind ≡ kind.Proxy }
+        ensures { result ≡ opened proxy_rules cluster.now me [] }
+    {
+        Proxy {
+            alloc,
+            cluster: *cluster,
+            me,
+            live: true,
+            pending: Pendings::new(alloc, 0),
+        }
+    }
+
     // One datagram.
     fn taken(&mut self, datagram: &Datagram, out: &mut Outbox) -> Result<Why, NoMemory>
         requires { out.old.list ≡ [] }
@@ -111,7 +122,7 @@ impl Proxy {
         Ok(Why::Asking)
     }
 
-    // An acceptor tells that it keeps a vote.
+    // An acceptor reports that it keeps a vote.
     fn vote(
         &mut self,
         acceptor: u16,
@@ -152,23 +163,21 @@ impl Role for Proxy {
 
     ghost state = { λ s. s };
 
-    #[tactic(auto, using(crate::proofs::Rows::proxy_refuses))]
     fn open(
         alloc: Global,
         cluster: &Cluster,
         me: RoleId,
         records: &[Record],
     ) -> Result<Self, WakeFault> {
+        Proxy::new(alloc, cluster, me).reopen(records)
+    }
+
+    #[tactic(auto, using(crate::proofs::Rows::proxy_refuses))]
+    fn reopen(self, records: &[Record]) -> Result<Self, WakeFault> {
         if let [_, ..] = records {
             return Err(WakeFault::Record { index: 0 });
         }
-        Ok(Proxy {
-            alloc,
-            cluster: *cluster,
-            me,
-            live: true,
-            pending: Pendings::new(alloc, 0),
-        })
+        Ok(Proxy::new(self.alloc, &self.cluster, self.me))
     }
 
     fn take<K: Keeper>(

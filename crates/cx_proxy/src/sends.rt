@@ -50,7 +50,7 @@ pub fn ask_members(
     ensures list { OnOk result (out.new.list ≡ out.old.list ++ map (phase2a_to me pending.now) (members_for cluster.now pending.now)) }
     ensures room { OnOk result (length out.new.list ≤ length out.old.list + 16) }
 {
-    // A grid has at most 16 members, as its members tell.
+    // A grid has at most 16 members, as its members show.
     let _members = pending.grid.members();
     for acceptor in 0..cluster.acceptors {
         if is_member(&pending.grid, acceptor) {
@@ -84,7 +84,7 @@ pub fn announce(
     Ok(())
 }
 
-/// Asks or announces again for each value that is pending at so many slots from the ring's first on.
+/// Asks or announces again for each value that is pending at `count` slots from the ring's first on.
 pub fn again_all(
     alloc: Global,
     cluster: &Cluster,
@@ -162,7 +162,7 @@ fn column_of(pending: &Pending) -> u8
     ensures column { result ≡ pending.now.slot % pending.now.grid.cols }
     ensures within { result < pending.now.grid.cols }
 {
-    // No side of a grid is 0, which its members tell.
+    // No side of a grid is 0, which its members show.
     let _members = pending.grid.members();
     (pending.slot % u64::from(pending.grid.cols())) as u8
 }

@@ -18,7 +18,7 @@ same_ids a b h =
     let both = and_parts (a.client == b.client) (a.seq == b.seq) h in
     λ j. record { client = eqb-true a.client b.client both.0 j; seq = eqb-true a.seq b.seq both.1 j }
 
--- a key stands for its read's token
+-- a key is its read's token
 named_test : (t : Token) (e : Id × Reading) → e.0 ≡ id_of e.1.token → same_id (id_of t) e.0 ≡ same_read t e.1.token
 named_test t e is = ap (same_id (id_of t)) is
 

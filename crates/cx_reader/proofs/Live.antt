@@ -28,7 +28,7 @@ some-filter : {A : Type 0} (q : A → Bool) (xs : List A) → list_any (λ x. tr
 some-filter q [] = refl
 some-filter q (x ∷ xs) = any_chosen (λ x. true) (q x) x (filter q xs) ∙ ap (λ (b : Bool). (q x && true) || b) (some-filter q xs) ∙ both_true (q x) (list_any q xs)
 
--- answer by answer, or over all that was told
+-- answer by answer, or over all that was reported
 any_told : (p : Entry → Bool) (told : List MatchAnswer) → list_any (λ (a : MatchAnswer). list_any p a.entries) told ≡ list_any p (entries_told told)
 any_told p [] = refl
 any_told p (a ∷ told) = ap (λ (b : Bool). list_any p a.entries || b) (any_told p told) ∙ sym (list_any-append p a.entries (entries_told told))

@@ -7,13 +7,13 @@ use Rattle.cx_base.specs.declared.role.RoleId.{RoleId}
 use Rattle.cx_base.specs.Role.{role}
 use Rattle.cx_msg.specs.declared.kept.Record.{Record}
 use Rattle.cx_model.specs.Reader.{reader_rules}
-use Rattle.cx_model.specs.Rules.{refused}
+use Rattle.cx_model.specs.Rules.{refused_from}
 
 -- a role of a reader's kind is the reader of its index
 pub reader_itself : (me : RoleId) → me.kind ≡ Reader → role Reader me.index ≡ me
 reader_itself me is = ap (λ (k : Kind). role k me.index) (sym is)
 
 -- a role without records refuses the first
-pub reader_refuses : (c : Cluster) (me : RoleId) (rs : List Record) → 1 ≤ length rs → refused reader_rules c me rs ≡ Some 0
-reader_refuses c me [] h = absurd (omega arith)
-reader_refuses c me (r ∷ rs) h = refl
+pub reader_refuses : (c : Cluster) (me : RoleId) (d : Unit {0}) (rs : List Record) → 1 ≤ length rs → refused_from reader_rules c me d 0 rs ≡ Some 0
+reader_refuses c me d [] h = absurd (omega arith)
+reader_refuses c me d (r ∷ rs) h = refl

@@ -11,7 +11,7 @@ id_of t = record { client = t.client; seq = t.seq }
 abbrev pub reads_of : List (Id × Reading) → List Reading
 reads_of entries = map (λ (e : Id × Reading). e.1) entries
 
--- each read stands under its own token
+-- each read is under its own token
 abbrev pub AreNamed : List (Id × Reading) → Type 0
 AreNamed [] = Unit {0}
 AreNamed (e ∷ entries) = (e.0 ≡ id_of e.1.token) × AreNamed entries

@@ -1,7 +1,8 @@
-//! The reader: it finds how many slots a read has to wait for, and has a replica answer it (VLDB 2021: quorum reads).
+//! The reader of quorum reads: it finds how many slots a read has to wait for (VLDB 2021).
 //!
-//! Stands on what a role is and on rows of grids; the world and the node stand on it, through the trait `Role` alone. Its
-//! theorem is `Role`'s contract at the reader's rules: each step is the row, over any keeper, and a reader keeps no record.
+//! A replica then answers the read. The world and the node drive it through the trait `Role`. Its
+//! theorem is `Role`'s contract at `reader_rules`: each step is the model's row, over any keeper,
+//! and a reader keeps no record.
 #![tactic(auto)]
 
 mod matched;
@@ -11,6 +12,3 @@ mod reads;
 mod rows;
 
 pub use reader::Reader;
-
-#[cfg(test)]
-mod tests;

@@ -1,7 +1,10 @@
 //! The reader.
 
-ghost use Rattle.std.specs.Prelude.{◌≡◌, IsTrue};
+ghost use Rattle.std.specs.Prelude.{◌≡◌, [], IsTrue};
+ghost use Rattle.cx_base.specs.Role.{role};
+ghost use Rattle.cx_base.specs.declared.role.Kind.TheVariants as kind;
 ghost use Rattle.cx_model.specs.Reader.{ReaderVolatile, reader_rules, token};
+ghost use Rattle.cx_model.specs.Rules.{opened};
 ghost use Rattle.cx_field.specs.Fields as field;
 
 use crate::reading::Reading;
@@ -46,6 +49,21 @@ fn token(client: u16, seq: u64) -> Token
     Token { client, seq }
 }
 
+impl Reader {
+    // A reader to which nothing was sent. It takes no memory.
+    fn new(alloc: Global, cluster: &Cluster, index: u16) -> Self
+        ensures { result ≡ opened reader_rules cluster.now (role kind.Reader index) [] }
+    {
+        Reader {
+            alloc,
+            cluster: *cluster,
+            index,
+            live: true,
+            reads: Reads::new(alloc),
+        }
+    }
+}
+
 impl Role for Reader {
     ghost Durable = { Unit {0} };
 
@@ -55,23 +73,22 @@ impl Role for Reader {
 
     ghost state = { λ s. s };
 
-    #[tactic(auto, using(crate::proofs::Opened::reader_itself, crate::proofs::Opened::reader_refuses))]
+    #[tactic(auto, using(crate::proofs::Opened::reader_itself))]
     fn open(
         alloc: Global,
         cluster: &Cluster,
         me: RoleId,
         records: &[Record],
     ) -> Result<Self, WakeFault> {
+        Reader::new(alloc, cluster, me.index).reopen(records)
+    }
+
+    #[tactic(auto, using(crate::proofs::Opened::reader_refuses))]
+    fn reopen(self, records: &[Record]) -> Result<Self, WakeFault> {
         if let [_, ..] = records {
             return Err(WakeFault::Record { index: 0 });
         }
-        Ok(Reader {
-            alloc,
-            cluster: *cluster,
-            index: me.index,
-            live: true,
-            reads: Reads::new(alloc),
-        })
+        Ok(Reader::new(self.alloc, &self.cluster, self.index))
     }
 
     fn take<K: Keeper>(

@@ -103,7 +103,7 @@ impl Reading {
         matched::is_live_member(&self.told, acceptor)
     }
 
-    /// The greatest watermark that was told.
+    /// The greatest watermark that was reported.
     pub fn watermark(&self) -> Round
         ensures watermark { result ≡ greatest_watermark self.now.told }
         ensures fits { IsTrue (field.round0.fits result) }
@@ -111,7 +111,7 @@ impl Reading {
         matched::greatest_watermark(&self.told)
     }
 
-    /// The greatest number of slots that an acceptor told.
+    /// The greatest number of slots that an acceptor reported.
     pub fn mark(&self) -> u64
         ensures mark { result ≡ greatest_mark self.now.acks }
         ensures fits { IsTrue (field.mark.fits result) }
@@ -126,7 +126,7 @@ impl Reading {
         matched::rows_whole(&self.told, &self.counted)
     }
 
-    /// The read with one more matchmaker counted. This one stays, so that want of memory changes nothing.
+    /// The read with one more matchmaker counted. This one stays, so that running out of memory changes nothing.
     pub fn with_answer(&self, alloc: Global, answer: MatchAnswer) -> Result<Reading, NoMemory>
         requires { IsTrue (field.round0.fits answer.watermark) }
         ensures { IfOk result (λ more. more ≡ record self.now { told = self.now.told ++ answer ∷ [] }) }
@@ -136,7 +136,7 @@ impl Reading {
         Ok(more)
     }
 
-    /// The read with one more acceptor counted. This one stays, so that want of memory changes nothing.
+    /// The read with one more acceptor counted. This one stays, so that running out of memory changes nothing.
     pub fn with_ack(&self, alloc: Global, ack: Acked) -> Result<Reading, NoMemory>
         requires acceptor { ack.acceptor < 64 }
         requires mark { IsTrue (field.mark.fits ack.mark) }
@@ -148,7 +148,7 @@ impl Reading {
         Ok(more)
     }
 
-    /// The question for its key, for its replica that holds so many slots. It takes no memory.
+    /// The question for its key, for its replica that holds `mark` slots. It takes no memory.
     pub fn read(&self, reader: u16, mark: u64) -> Datagram
         requires { IsTrue (field.mark.fits mark) }
         ensures { result ≡ read_to (role KindOf.Reader reader) self.now mark }

@@ -13,7 +13,7 @@ use std::alloc::Global;
 use std::marker::Model;
 
 // A token, under which the map finds its read.
-#[derive(Clone, Copy, Debug, PartialEq, Eq, Hash)]
+#[derive(Clone, Copy, PartialEq, Eq, Hash)]
 struct Id {
     client: u16,
     seq: u64,
@@ -70,7 +70,7 @@ impl Reads {
         self.map.get(&id_of(token))
     }
 
-    /// Puts a read into the place of the earlier one of its token, or at the end; nothing changes where memory is wanting.
+    /// Puts a read into the place of the earlier one of its token, or at the end; nothing changes when out of memory.
     pub fn put(&mut self, one: Reading) -> Result<(), NoMemory>
         ensures ok { OnOk result (self.new ≡ with_reading one self.old) }
         ensures err { OnErr result (self.new ≡ self.old) }

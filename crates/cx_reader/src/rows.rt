@@ -1,4 +1,4 @@
-//! What a reader does with what it is asked and told. Memory is taken first, so that want of it leaves everything as it was.
+//! What a reader does with what it is asked and answered. Memory is taken first, so that running out of it leaves everything as it was.
 
 ghost use Rattle.std.specs.Prelude.{◌≡◌, ◌≤◌, ◌<◌, ◌+◌, ◌*◌, ◌++◌, [], map, IsTrue, IfOk, OnErr, false};
 ghost use Rattle.cx_base.specs.Lists.{below};
@@ -11,14 +11,11 @@ ghost use Rattle.cx_role.specs.Role.{Replies, takes_no_memory};
 
 use crate::reader::Reader;
 use crate::reading::Reading;
-use cx_base::{Cluster, Duplicate, NoMemory, RoleId, Round, Why};
+use cx_base::{Cluster, Duplicate, NoMemory, READS, RoleId, Round, Why};
 use cx_field::{Entries, Token};
 use cx_model::{Acked, MatchAnswer};
 use cx_msg::match_read;
 use cx_role::Outbox;
-
-/// The most reads that are in progress at once.
-const MOST: usize = 64;
 
 fn matchmakers(cluster: &Cluster) -> u16
     ensures { result ≡ 2 * cluster.now.f + 1 }
@@ -26,7 +23,7 @@ fn matchmakers(cluster: &Cluster) -> u16
     2 * u16::from(cluster.f) + 1
 }
 
-// Asks so many matchmakers for their entries. Room was taken beforehand.
+// Asks `count` matchmakers for their entries. Room was taken beforehand.
 fn ask_matchmakers(reader: u16, token: Token, count: u16, out: &mut Outbox)
     requires spare { count ≤ out.old.spare }
     requires token { IsTrue (field.token.fits token) }
@@ -49,7 +46,7 @@ impl Reader {
         let token = one.token();
         let why = match self.reads.get(token) {
             Some(_) => Why::Again,
-            None if self.reads.len() >= MOST => return Ok(Why::Full),
+            None if self.reads.len() >= READS => return Ok(Why::Full),
             None => Why::Started,
         };
         let count = matchmakers(&self.cluster);
@@ -131,7 +128,7 @@ impl Reader {
         }
     }
 
-    /// An acceptor tells how far it voted.
+    /// An acceptor reports how far it voted.
     pub(crate) fn pre_read_answer(
         &mut self,
         from: RoleId,

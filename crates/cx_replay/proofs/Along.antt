@@ -27,7 +27,7 @@ use Rattle.cx_script.proofs.GoesOn.{some_byte, spelled_long}
 use Rattle.cx_script.proofs.Schedules.{after}
 use Rattle.cx_script.proofs.WholeLines.{parts}
 
--- whole lines were handed out, n of them behind the header, their events run and the trace of these written
+-- whole lines were handed out, n of them after the header, their events run and the trace of these written
 pub record Along (c : Cluster) (left now : Option (List ℕ)) (held : List ℕ) (n : ℕ) (w : World) (old out : Option (List ℕ)) : Type 0 where
   pub ls : List (List ℕ)
   pub free : AreFree ls
@@ -169,7 +169,7 @@ ends_alone c left now old bytes consumed at_end is =
       written = Appends-nil old;
     }
 
--- the summary stands behind the trace
+-- the summary comes after the trace
 module _ (c : Cluster) (left now : Option (List ℕ)) (w : World) (old mid out : Option (List ℕ)) (reads reads_after writes writes_after : ℕ) (still : reads_after ≡ reads) (a : AtEnd c left now w old mid) where
   abbrev whole_text : List ℕ
   whole_text = trace (start c) a.es ++ summary (run c a.es)
@@ -215,7 +215,7 @@ sums_comes w out out_after writes writes_after (status.StoreFault role) t = t
 sums_comes w out out_after writes writes_after status.Turns t = t
 sums_comes w out out_after writes writes_after (status.BadStore role at) t = t
 
--- a bad line behind the trace of those before it
+-- a bad line after the trace of those before it
 module _ (c : Cluster) (left now : Option (List ℕ)) (reads reads_after : ℕ) (old out : Option (List ℕ)) (writes writes_after : ℕ) (es : List Event) (n : ℕ) where
   pub bad_stops : IsBad left c es n → Appends old out (trace (start c) es) → reads_after ≡ reads → writes_after ≡ writes → Replayed left now reads reads_after old out writes writes_after (status.BadInput n)
   bad_stops bad written read wrote =
@@ -278,7 +278,7 @@ stops_comes c n line w out out_after writes writes_after (status.StoreFault role
 stops_comes c n line w out out_after writes writes_after status.Turns t = t
 stops_comes c n line w out out_after writes writes_after (status.BadStore role at) t = t
 
--- a header was found, so that it counts behind which bytes it stands
+-- a header was found, so that it counts which bytes come before it
 same_found : (found : Option (List ℕ × List ℕ)) (without : Heard) (c : Cluster) (s : Spelled) → of_header found BadHeader ≡ Lines c s → of_header found without ≡ Lines c s
 same_found None without c s is = cc
 same_found (Some parts) without c s is = is

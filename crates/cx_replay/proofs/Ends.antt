@@ -123,7 +123,7 @@ module _ (left left_after : Option (List ℕ)) (reads reads_after : ℕ) (out ou
         writes_stay = λ other. wrote;
       }
 
--- each other status than Done, bad input and want of memory has its cause
+-- each other status than Done, bad input and out of memory has its cause
 pub completes : (left left_after : Option (List ℕ)) (reads reads_after : ℕ) (out out_after : Option (List ℕ)) (writes writes_after : ℕ) (s : Status)
     → Replayed left left_after reads reads_after out out_after writes writes_after s → ComesOfReplay s → Completes left reads reads_after writes writes_after s
 completes None left_after reads reads_after out out_after writes writes_after s r comes = tt

@@ -18,7 +18,7 @@ use Rattle.cx_replay.proofs.Texts.{part_of_more, then_part}
 use Rattle.cx_trace.specs.Summary.{chosen_text, replicas_text, slots_text, summary_text}
 use Rattle.cx_world.specs.Folded.{folded_of}
 
--- a front of a text was written, and this is to come
+-- a prefix of a text was written, and this is to come
 pub record Writing (text rest : List ℕ) (old now : Option (List ℕ)) (writes writes_now : ℕ) : Type 0 where
   pub done : List ℕ
   pub whole : done ++ rest ≡ text
@@ -58,7 +58,7 @@ module _ (text : List ℕ) (old now next : Option (List ℕ)) (writes writes_now
 pub writing_ends : (text : List ℕ) (old now : Option (List ℕ)) (writes writes_now : ℕ) (done : Unit {0}) → Writing text [] old now writes writes_now → WritesText text old now writes writes_now (Ok done)
 writing_ends text old now writes writes_now done w = (subst (Appends old now) (sym (append-nil w.done) ∙ w.whole) w.written, w.still)
 
--- the value of a slot, and those behind it
+-- the value of a slot, and those after it
 pub at_slot : (values : List Value) (slot : ℕ) → slot < length values → (value : Value) × (slice_get values slot ≡ Some value) × (drop slot values ≡ value ∷ drop (slot + 1) values)
 at_slot values slot inside = elim (slice_get_cases values slot).1 [
   | inl h ↦ (h.0, h.2, drop_more values slot h.0 inside ∙ ap (λ (v : Value). v ∷ drop (slot + 1) values) h.3)

@@ -1,4 +1,4 @@
--- Whole lines as text, what stands behind them, and what counts of both.
+-- Whole lines as text, what comes after them, and what counts of both.
 use Rattle.std.proofs.Common.{◌≡◌, ◌≤◌, ◌<◌, ◌++◌, ℕ, Bool, true, false, List, [], ◌∷◌, length, refl, sym, ap, ◌∙◌, subst, append_assoc, append-nil, arith, nat_lt, if◌then◌else◌, Option, None, Some, length-append}
 use Rattle.std.specs.Prelude.{IfSome}
 use Rattle.std.specs.Io.KnownBytes.{Consumes}
@@ -72,7 +72,7 @@ free_push (l ∷ ls) part free part_free = (free.0, free_push ls part free.1 par
 pub line_first : (part rest : List ℕ) → IsFree part → lines_of ((part ++ 10 ∷ []) ++ rest) ≡ strip_carriage_return part ∷ lines_of rest
 line_first part rest free = lines_of_text (part ∷ []) rest (free, tt)
 
--- what was handed out, and what is held behind it, are the bytes that were read
+-- what was handed out, and what is held after it, are the bytes that were read
 pub hands_on : (left now next : Option (List ℕ)) (bytes held held_next out : List ℕ) → Consumes left now (bytes ++ held) → Hands now next held held_next out → Consumes left next ((bytes ++ out) ++ held_next)
 hands_on left now next bytes held held_next out consumed h =
     subst (Consumes left next) (append_assoc bytes held h.read ∙ ap (λ l. bytes ++ l) h.whole ∙ sym (append_assoc bytes out held_next))
@@ -82,7 +82,7 @@ pub hands_held : (left now next : Option (List ℕ)) (bytes held held_next : Lis
 hands_held left now next bytes held held_next consumed h =
     subst (λ l. Consumes left next (l ++ held_next)) (append-nil bytes) (hands_on left now next bytes held held_next [] consumed h)
 
--- what holds of the bytes that were read, whatever comes behind them, holds of all
+-- what holds of the bytes that were read, whatever comes after them, holds of all
 pub of_all : (left left_after : Option (List ℕ)) (bytes : List ℕ) (P : List ℕ → Type 0) → Consumes left left_after bytes → ((more : List ℕ) → P (bytes ++ more)) → IfSome left P
 of_all None left_after bytes P consumed each = tt
 of_all (Some all) None bytes P consumed each = absurd consumed

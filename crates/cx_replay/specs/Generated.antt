@@ -14,7 +14,7 @@ use Rattle.cx_trace.specs.Summary.{replicas_text}
 use Rattle.cx_history.specs.Answers.{answers_in, read_answers_in}
 use Rattle.cx_world.specs.Folded.{folded_of}
 
--- the generator of a seed after so many events
+-- the generator of a seed after this many events
 abbrev pub gen_state : ℕ → ℕ → State
 gen_state seed zero = record { x = seed; made = 0 }
 gen_state seed (suc made) = next_state (gen_state seed made)
@@ -23,7 +23,7 @@ gen_state seed (suc made) = next_state (gen_state seed made)
 abbrev pub with_next : State → List Event → List Event
 with_next g es = es ++ next_event g (length (run gen_cluster es).sent) ∷ []
 
--- so many events of a seed
+-- this many events of a seed
 abbrev pub gen_events : ℕ → ℕ → List Event
 gen_events seed zero = []
 gen_events seed (suc count) = with_next (gen_state seed count) (gen_events seed count)
@@ -39,7 +39,7 @@ counts_text w =
     ++ count_line (codes "answers") (answers_in w.sent) ++ count_line (codes "reads") (read_answers_in w.sent)
     ++ count_line (codes "kept") (length w.kept)
 
--- behind the counts how many values are chosen, and the fold of each replica's kept values
+-- after the counts, how many values are chosen, and the fold of each replica's kept values
 unfoldable pub short_summary : World → List ℕ
 short_summary w =
     counts_text w ++ count_line (codes "chosen") (length (chosen_prefix w.kept))
@@ -49,19 +49,19 @@ short_summary w =
 abbrev pub gen_text : ℕ → ℕ → List ℕ
 gen_text seed count = short_summary (run gen_cluster (gen_events seed count))
 
--- What generating so many events of a seed came to: its sink before and after, and how often it has failed.
+-- The result of generating this many events of a seed: its sink before and after, and how often it has failed.
 pub record Generated (seed count : ℕ) (out out_after : Option (List ℕ)) (writes writes_after : ℕ) (s : Status) : Type 0 where
   -- Done: the text of the run was written.
   pub done : s ≡ status.Done → Appends out out_after (gen_text seed count)
   -- A write failed: the count rose, and a part of the text was written.
   pub write_fault : s ≡ status.WriteFault → Rises writes writes_after
   pub write_fault_out : s ≡ status.WriteFault → AppendsPart out out_after (gen_text seed count)
-  -- Memory was wanting: nothing was written.
+  -- Out of memory: nothing was written.
   pub no_memory_out : s ≡ status.NoMemory → Keeps out out_after
-  -- A failed write is always told.
+  -- A failed write is always reported.
   pub writes_stay : (s ≡ status.WriteFault → ⊥) → writes_after ≡ writes
 
--- no other status comes of it
+-- it ends with no other status
 abbrev pub ComesOfGen : Status → Type 0
 ComesOfGen status.Done = Unit {0}
 ComesOfGen status.BadWords = ⊥
@@ -74,6 +74,6 @@ ComesOfGen status.Turns = ⊥
 ComesOfGen status.NoMemory = Unit {0}
 ComesOfGen (status.BadStore role at) = ⊥
 
--- Without a fault of the sink the answer is Done, or memory was wanting.
+-- Without a fault of the sink the answer is Done, or memory ran out.
 abbrev pub GenCompletes : ℕ → ℕ → Status → Type 0
 GenCompletes writes writes_after s = (Rises writes writes_after → ⊥) → (s ≡ status.Done) ⊎ (s ≡ status.NoMemory)

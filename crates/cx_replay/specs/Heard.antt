@@ -2,7 +2,7 @@
 use Rattle.cx_base.specs.declared.cluster.Cluster.{Cluster}
 use Rattle.cx_script.specs.Lines.{Spelled}
 
--- the header hasn't ended yet; it says no cluster; or it says this one, and the lines behind it spell these events
+-- the header hasn't ended yet; it says no cluster; or it says this one, and the lines after it spell these events
 pub data Heard : Type 0 where
   Nothing : Heard
   BadHeader : Heard

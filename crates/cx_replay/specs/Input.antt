@@ -8,18 +8,18 @@ use Rattle.cx_script.specs.Header.{header_of}
 use Rattle.cx_script.specs.Lines.{schedule_of}
 use Rattle.cx_script.specs.Unended.{counted, is_long_header}
 
--- the first bad line: those behind the header count from 1, the header is line 0
+-- the first bad line: those after the header count from 1, the header is line 0
 abbrev pub bad_line : Heard → Option ℕ
 bad_line Nothing = None
 bad_line BadHeader = Some 0
 bad_line (Lines c spelled) = spelled.bad
 
--- the cluster that a header's text says, and what the bytes behind it spell
+-- the cluster that a header's text says, and what the bytes after it spell
 abbrev pub behind : Result Cluster ClusterFault → List ℕ → Heard
 behind (Ok c) rest = Lines c (schedule_of c rest)
 behind (Err fault) rest = BadHeader
 
--- the same of a header's text and the bytes behind it, where there is a header
+-- the same of a header's text and the bytes after it, where there is a header
 abbrev pub of_header : Option (List ℕ × List ℕ) → Heard → Heard
 of_header None without = without
 of_header (Some parts) without = behind (header_cluster parts.0) parts.1
@@ -28,7 +28,7 @@ of_header (Some parts) without = behind (header_cluster parts.0) parts.1
 unfoldable pub input_of : List ℕ → Heard
 input_of bytes = of_header (header_of bytes) BadHeader
 
--- What bytes say behind which others may come: their whole lines, and a line that is too long already. A header that hasn't ended
+-- What bytes say after which others may come: their whole lines, and a line that is too long already. A header that hasn't ended
 -- is bad only where it is too long.
 unfoldable pub lines : List ℕ → Heard
 lines bytes = of_header (header_of (counted 1024 bytes)) (if is_long_header (counted 16384 bytes) then BadHeader else Nothing)

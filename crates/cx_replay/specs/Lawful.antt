@@ -24,6 +24,6 @@ IsLawfulRun (Lines c spelled) = IsLawfulAlong c spelled.events
 abbrev pub IsLawfulInput : Option (List ℕ) → Option (List ℕ) → Type 0
 IsLawfulInput left left_after = (bytes : List ℕ) → Consumes left left_after bytes → (ended : Bool) → IsLawfulRun (heard_of ended bytes)
 
--- the run of so many generated events of a seed
+-- the run of this many generated events of a seed
 abbrev pub IsLawfulGenerated : ℕ → ℕ → Type 0
 IsLawfulGenerated seed count = IsLawfulAlong gen_cluster (gen_events seed count)

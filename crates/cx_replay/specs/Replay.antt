@@ -16,7 +16,7 @@ use Rattle.cx_trace.specs.Summary.{summary_text}
 use Rattle.cx_world.specs.Folded.{folded_of}
 use Rattle.cx_world.specs.World.{effect_of}
 
--- the lines of one event: what it came to, and what was sent
+-- the lines of one event: its result, and what was sent
 unfoldable pub step_text : World → Event → List ℕ
 step_text w e = event_text e (effect_of w e) ++ datagrams_text (length w.sent) ((change w e).sends)
 
@@ -29,7 +29,7 @@ trace w (e ∷ es) = step_text w e ++ trace (step w e) es
 abbrev pub summary : World → List ℕ
 summary w = summary_text (chosen_prefix w.kept) (map (λ p. folded_of p w.kept) (below w.cluster.replicas))
 
--- the summary where it is wanted
+-- the summary where there is one
 abbrev pub ending : Bool → World → List ℕ
 ending true w = summary w
 ending false w = []
@@ -40,7 +40,7 @@ trace_of Nothing = []
 trace_of BadHeader = []
 trace_of (Lines c spelled) = trace (start c) spelled.events
 
--- behind it the summary, where no line is bad
+-- after it the summary, where no line is bad
 abbrev pub summary_of : Heard → List ℕ
 summary_of Nothing = []
 summary_of BadHeader = []
@@ -54,7 +54,7 @@ text_of heard = trace_of heard ++ summary_of heard
 abbrev pub Prints : Heard → Option (List ℕ) → Option (List ℕ) → Type 0
 Prints heard old new = (bad_line heard ≡ None) × Appends old new (text_of heard)
 
--- a source has given bytes with this as their first bad line, whatever comes behind them
+-- a source has given bytes with this as their first bad line, whatever comes after them
 abbrev pub GivesBadLine : Option (List ℕ) → Option (List ℕ) → ℕ → Type 0
 GivesBadLine left left_after line = (bytes : List ℕ) × Consumes left left_after bytes × (bad_line (lines bytes) ≡ Some line)
 
@@ -63,13 +63,13 @@ abbrev pub PrintsLines : Option (List ℕ) → Option (List ℕ) → Option (Lis
 PrintsLines left left_after out out_after =
     (bytes : List ℕ) × Consumes left left_after bytes × (bad_line (lines bytes) ≡ None) × Appends out out_after (trace_of (lines bytes))
 
--- What a replay came to: its source and sink before and after, what each tells and how often each has failed.
+-- The result of a replay: its source and sink before and after, what each tells and how often each has failed.
 pub record Replayed (left left_after : Option (List ℕ)) (reads reads_after : ℕ) (out out_after : Option (List ℕ)) (writes writes_after : ℕ) (s : Status) : Type 0 where
   -- Done: the input was read to its end, no line is bad, and its trace and summary were written.
   pub done : s ≡ status.Done → IfSome left (λ all. Prints (input_of all) out out_after)
   pub at_end : s ≡ status.Done → IsAtEnd left_after
   pub all_read : s ≡ status.Done → reads_after ≡ reads
-  -- Bad input: this is the first bad line, and the trace of the lines before it was written. A read has failed only behind it.
+  -- Bad input: this is the first bad line, and the trace of the lines before it was written. A read has failed only after it.
   pub bad_input : (line : ℕ) → s ≡ status.BadInput line → IfSome left (λ all. bad_line (input_of all) ≡ Some line)
   pub bad_input_out : (line : ℕ) → s ≡ status.BadInput line → IfSome left (λ all. Appends out out_after (trace_of (input_of all)))
   pub bad_input_read : (line : ℕ) → s ≡ status.BadInput line → (reads_after ≡ reads) ⊎ GivesBadLine left left_after line
@@ -79,12 +79,12 @@ pub record Replayed (left left_after : Option (List ℕ)) (reads reads_after : �
   -- A write failed: the count rose, and a part of the text was written.
   pub write_fault : s ≡ status.WriteFault → Rises writes writes_after
   pub write_fault_out : s ≡ status.WriteFault → IfSome left (λ all. AppendsPart out out_after (text_of (input_of all)))
-  -- Memory was wanting: a part of the text was written.
+  -- Out of memory: a part of the text was written.
   pub no_memory_out : s ≡ status.NoMemory → IfSome left (λ all. AppendsPart out out_after (text_of (input_of all)))
-  -- A failed write is always told.
+  -- A failed write is always reported.
   pub writes_stay : (s ≡ status.WriteFault → ⊥) → writes_after ≡ writes
 
--- no other status comes of a replay
+-- a replay ends with no other status
 abbrev pub ComesOfReplay : Status → Type 0
 ComesOfReplay status.Done = Unit {0}
 ComesOfReplay status.BadWords = ⊥
@@ -102,7 +102,7 @@ abbrev pub answer_of : Option ℕ → Status
 answer_of None = status.Done
 answer_of (Some line) = status.BadInput line
 
--- Without a fault of source or sink a replay ends as its input says, or memory was wanting.
+-- Without a fault of source or sink a replay ends as its input says, or memory ran out.
 abbrev pub Completes : Option (List ℕ) → ℕ → ℕ → ℕ → ℕ → Status → Type 0
 Completes left reads reads_after writes writes_after s =
     IfSome left (λ all. (Rises reads reads_after → ⊥) → (Rises writes writes_after → ⊥) → (s ≡ answer_of (bad_line (input_of all))) ⊎ (s ≡ status.NoMemory))

@@ -21,28 +21,28 @@ use Rattle.cx_script.specs.Lines.{with_line, spelled_from, schedule_of}
 use Rattle.cx_script.specs.Unended.{whole_lines}
 use Rattle.cx_world.specs.World.{WorldState}
 
--- a line of a header ends it, or stands behind those before with its line feed, which fit or don't
+-- a line of a header ends it, or comes after those before, with its line feed, which fit or don't
 abbrev pub Joins : List ℕ → List ℕ → List ℕ → Joined → Type 0
 Joins line old new joined.Rule = (is_rule line ≡ true) × (new ≡ old)
 Joins line old new joined.Line = (is_rule line ≡ false) × (new ≡ old ++ (line ++ 10 ∷ [])) × (length new ≤ 16384)
 Joins line old new joined.Long = (is_rule line ≡ false) × (16384 < length (old ++ (line ++ 10 ∷ [])))
 Joins line old new joined.NoMemory = Unit {0}
 
--- Whole lines were handed out, and what was read behind them is held; they are a header with this text, whatever comes behind.
+-- Whole lines were handed out, and what was read after them is held; they are a header with this text, whatever comes after.
 pub record HasHeader (left now : Option (List ℕ)) (held text : List ℕ) : Type 0 where
   pub bytes : List ℕ
   pub whole : whole_lines bytes ≡ bytes
   pub consumed : Consumes left now (bytes ++ held)
   pub header : (more : List ℕ) → header_of (bytes ++ more) ≡ Some (text, more)
 
--- the input was read to its end, and it is a header with this text and nothing behind it
+-- the input was read to its end, and it is a header with this text and nothing after it
 pub record IsHeader (left now : Option (List ℕ)) (text : List ℕ) : Type 0 where
   pub bytes : List ℕ
   pub consumed : Consumes left now bytes
   pub at_end : IsAtEnd now
   pub header : header_of bytes ≡ Some (text, [])
 
--- what the reading of a header came to
+-- the result of the reading of a header
 abbrev pub ReadsHeader : Option (List ℕ) → Option (List ℕ) → List ℕ → List ℕ → HeaderEnd → Type 0
 ReadsHeader left now held text header.Whole = HasHeader left now held text
 ReadsHeader left now held text header.Alone = IsHeader left now text
@@ -55,14 +55,14 @@ abbrev pub Says : Option Cluster → Result Cluster ClusterFault → Type 0
 Says (Some c) said = said ≡ Ok c
 Says None said = (fault : ClusterFault) × (said ≡ Err fault)
 
--- Whole lines were handed out, and what was read behind them is held; whatever comes behind them is the schedule of this cluster.
+-- Whole lines were handed out, and what was read after them is held; whatever comes after them is the schedule of this cluster.
 pub record StandsBehind (left now : Option (List ℕ)) (held : List ℕ) (c : Cluster) : Type 0 where
   pub bytes : List ℕ
   pub whole : whole_lines bytes ≡ bytes
   pub consumed : Consumes left now (bytes ++ held)
   pub input : (more : List ℕ) → input_of (bytes ++ more) ≡ Lines c (schedule_of c more)
 
--- the n-th line is an event or none, whatever lines come behind it
+-- the n-th line is an event or none, whatever lines come after it
 abbrev pub Spells : Cluster → ℕ → List ℕ → Option Event → Type 0
 Spells c n line event = (later : List (List ℕ)) → spelled_from c n (line ∷ later) ≡ with_line n (Ok event) (spelled_from c (n + 1) later)
 
@@ -98,7 +98,7 @@ StopsIn c n line w out out_after writes writes_after (status.StoreFault role) = 
 StopsIn c n line w out out_after writes writes_after status.Turns = ⊥
 StopsIn c n line w out out_after writes writes_after (status.BadStore role at) = ⊥
 
--- what running the n-th line came to
+-- the result of running the n-th line
 abbrev pub RunsLine : Cluster → ℕ → List ℕ → WorldState → WorldState → Option (List ℕ) → Option (List ℕ) → ℕ → ℕ → Result (Unit {0}) Status → Type 0
 RunsLine c n line old new out out_after writes writes_after (Ok done) = RanLine c n line old new out out_after writes writes_after
 RunsLine c n line old new out out_after writes writes_after (Err s) = StopsIn c n line old.world out out_after writes writes_after s
@@ -121,7 +121,7 @@ abbrev pub WritesText : List ℕ → Option (List ℕ) → Option (List ℕ) →
 WritesText text out out_after writes writes_after (Ok done) = Appends out out_after text × (writes_after ≡ writes)
 WritesText text out out_after writes writes_after (Err s) = AppendsPart out out_after text × StopsWriting writes writes_after s
 
--- what writing the summary of a run came to
+-- the result of writing the summary of a run
 abbrev pub Sums : World → Option (List ℕ) → Option (List ℕ) → ℕ → ℕ → Status → Type 0
 Sums w out out_after writes writes_after status.Done = Appends out out_after (summary w) × (writes_after ≡ writes)
 Sums w out out_after writes writes_after status.WriteFault = AppendsPart out out_after (summary w) × Rises writes writes_after

@@ -13,7 +13,7 @@ use cx_script::{Gen, gen_cluster, generated_events_are_taken};
 use cx_world::World;
 use std::alloc::Global;
 
-// Runs so many events of a seed.
+// Runs this many events of a seed.
 fn run_events(alloc: Global, seed: u64, count: u64) -> Result<World, NoMemory>
     ensures { IfOk result (λ world. world ≡ record { world = run gen_cluster (gen_events seed count); spent = false }) }
 {
@@ -36,10 +36,10 @@ fn gen_into(alloc: Global, seed: u64, count: u64, text: &mut Vec<u8>) -> Result<
     short_into(alloc, &world, text)
 }
 
-/// Runs so many generated events of a seed over the generator's cluster, and writes the short summary of the run.
+/// Runs this many generated events of a seed over the generator's cluster, and writes the short summary of the run.
 ///
-/// After a failed write a part of the text was written, and for want of memory nothing. Without a fault of the sink the
-/// answer is `Done`, or want of memory. The run is lawful.
+/// After a failed write a part of the text was written, and when out of memory nothing. Without a fault of the sink the
+/// answer is `Done`, or that memory ran out. The run is lawful.
 pub fn run_gen<W: Sink>(alloc: Global, seed: u64, count: u64, out: &mut W) -> Status
     ensures comes { ComesOfGen result }
     ensures generated { Generated seed count (W.taken out.old) (W.taken out.new) (W.faults out.old) (W.faults out.new) result }

@@ -6,16 +6,15 @@ ghost use Rattle.cx_replay.specs.declared.header.HeaderEnd.TheVariants as end;
 ghost use Rattle.cx_replay.specs.Streamed.{Joins, ReadsHeader};
 ghost use Rattle.cx_script.specs.Header.{is_rule};
 
-use cx_base::NoMemory;
+use cx_base::{MAX_HEADER_LENGTH, NoMemory};
 use cx_edge::{Lines, Next, Source};
-use cx_script::MAX_HEADER_LENGTH;
 
-/// What reading a header came to.
-#[derive(Clone, Copy, Debug, PartialEq, Eq)]
+/// The result of reading a header.
+#[derive(Clone, Copy)]
 pub enum HeaderEnd {
     /// The line that ends it was read.
     Whole,
-    /// So it was, and nothing stands behind it.
+    /// So it was, and nothing comes after it.
     Alone,
     /// It is too long, or the input ended before that line.
     Bad,
@@ -29,7 +28,7 @@ pub enum HeaderEnd {
 enum Joined {
     // The one that ends it.
     Rule,
-    // Another one, which is put behind those before.
+    // Another one, which is put after those before.
     Line,
     // So it is, and the header is too long.
     Long,
@@ -64,7 +63,7 @@ fn join(text: &mut Vec<u8>, line: &[u8]) -> Joined
     }
 }
 
-/// Reads the lines of a header up to the one that ends it, and puts each of them with a line feed behind the others.
+/// Reads the lines of a header up to the one that ends it, and puts each of them with a line feed after the others.
 pub fn read_header<S: Source>(lines: &mut Lines, input: &mut S, text: &mut Vec<u8>) -> HeaderEnd
     requires none_held { lines.old.held ≡ [] }
     requires no_text { text.old.items ≡ [] }

@@ -1,8 +1,8 @@
-//! The lines behind a header are run, one by one.
+//! The lines after a header are run, one by one.
 
 ghost use Rattle.std.specs.Prelude.{◌≡◌, ℕ, Option, List, IsTrue, false};
 ghost use Rattle.std.specs.Io.KnownBytes.{Appends};
-ghost use Rattle.cx_base.specs.Asked.{takes_event};
+ghost use Rattle.cx_base.specs.Asked.{is_valid_event};
 ghost use Rattle.cx_base.specs.Faults.{Rises};
 ghost use Rattle.cx_edge.specs.Sink.{AppendsPart};
 ghost use Rattle.cx_model.specs.World.{start, step};
@@ -12,14 +12,14 @@ ghost use Rattle.cx_replay.specs.Streamed.{RunsLine, StandsBehind, Sums};
 
 use crate::step::step_into;
 use crate::summing::write_summary;
-use cx_base::{Cluster, Event, NoMemory, Status};
+use cx_base::{Cluster, Event, MAX_LINE_LENGTH, MAX_LINES, NoMemory, Status};
 use cx_edge::{Lines, Next, Sink, Source, write_all};
-use cx_script::{MAX_LINE_LENGTH, MAX_LINES, line, spelled_events_are_taken};
+use cx_script::{line, spelled_events_are_taken};
 use cx_world::World;
 use std::alloc::Global;
 
-/// What running an event came to.
-#[derive(Clone, Copy, Debug, PartialEq, Eq)]
+/// The result of running an event.
+#[derive(Clone, Copy)]
 pub enum RunEnd {
     Done,
     WriteFault,
@@ -35,7 +35,7 @@ fn run_event<W: Sink>(
     out: &mut W,
 ) -> RunEnd
     requires fresh { world.old.spent ≡ false }
-    requires taken { IsTrue (takes_event event.now) }
+    requires taken { IsTrue (is_valid_event event.now) }
     ensures world { result ≡ end.Done → world.new ≡ record { world = step world.old.world event.now; spent = false } }
     ensures done { result ≡ end.Done → Appends (W.taken out.old) (W.taken out.new) (step_text world.old.world event.now) }
     ensures part { AppendsPart (W.taken out.old) (W.taken out.new) (step_text world.old.world event.now) }
@@ -103,7 +103,7 @@ pub fn run_none<W: Sink>(alloc: Global, cluster: Cluster, out: &mut W) -> Status
     }
 }
 
-/// Reads the lines behind a header, runs each of them as it comes, and writes its text, and the summary at the end.
+/// Reads the lines after a header, runs each of them as it comes, and writes its text, and the summary at the end.
 pub fn run_lines<S: Source, W: Sink>(
     alloc: Global,
     cluster: Cluster,

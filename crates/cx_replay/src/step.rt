@@ -1,14 +1,15 @@
 //! One event with its text, and what replicas hold at the end.
 
 ghost use Rattle.std.specs.Prelude.{◌≡◌, ◌++◌, false, OnOk, IfOk, IsTrue, map};
-ghost use Rattle.cx_base.specs.Asked.{takes_event};
+ghost use Rattle.cx_base.specs.Asked.{is_valid_event};
 ghost use Rattle.cx_base.specs.Lists.{below};
 ghost use Rattle.cx_model.specs.World.{step};
 ghost use Rattle.cx_replay.specs.Replay.{step_text};
 ghost use Rattle.cx_world.specs.Folded.{folded_of};
 
+use crate::sending::lines_into;
 use cx_base::{Event, NoMemory};
-use cx_trace::{Folded, datagrams_into, event_into};
+use cx_trace::{Folded, event_into};
 use cx_world::World;
 use std::alloc::Global;
 
@@ -21,14 +22,13 @@ pub fn step_into(
     text: &mut Vec<u8>,
 ) -> Result<(), NoMemory>
     requires fresh { world.old.spent ≡ false }
-    requires taken { IsTrue (takes_event event.now) }
+    requires taken { IsTrue (is_valid_event event.now) }
     ensures world { OnOk result (world.new ≡ record { world = step world.old.world event.now; spent = false }) }
     ensures text { OnOk result (text.new.items ≡ text.old.items ++ step_text world.old.world event.now) }
 {
     let effect = world.step(event)?;
     event_into(event, &effect, text)?;
-    let sent = world.sent().since(effect.first)?;
-    datagrams_into(alloc, effect.first, &sent, text)
+    lines_into(alloc, world.sent(), effect.first, text)
 }
 
 /// What each replica's kept values leave, the replicas in order.

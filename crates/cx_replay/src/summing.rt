@@ -1,4 +1,4 @@
-//! The summary of a run is written line by line, so that no more than one slot's or one replica's stands in memory.
+//! The summary of a run is written line by line, so that no more than one slot's or one replica's is in memory.
 
 ghost use Rattle.std.specs.Prelude.{◌≡◌, ◌++◌, ℕ, List, [], map, slice_get, Some, IsOk, OnOk};
 ghost use Rattle.cx_base.specs.Fold.{commands_of};
@@ -10,10 +10,11 @@ ghost use Rattle.cx_trace.specs.Summary.{replica_text, replicas_text, slot_text,
 ghost use Rattle.cx_world.specs.Folded.{folded_of};
 
 use cx_base::{NoMemory, Status};
+use cx_choice::Chosen;
 use cx_edge::{Sink, write_all};
 use cx_kv::Executed;
 use cx_trace::{chosen_into, replica_into, slot_into};
-use cx_world::{Chosen, World};
+use cx_world::World;
 use std::alloc::Global;
 
 // Writes the lines that were put into a text, where there was memory for them.

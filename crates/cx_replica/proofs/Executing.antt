@@ -1,5 +1,5 @@
 -- What a command is answered, and that its answer fits.
-use Rattle.std.proofs.Common.{◌≡◌, ℕ, ◌+◌, ◌<◌, ◌≤◌, ◌^◌, ◌==◌, Bool, true, false, ◌&&◌, List, [], ◌∷◌, ◌++◌, length, Option, None, Some, Result, Ok, Err, OnOk, OnErr, inl, inr, refl, arith}
+use Rattle.std.proofs.Common.{◌≡◌, ℕ, ◌+◌, ◌<◌, ◌≤◌, ◌^◌, ◌==◌, Bool, true, false, ◌&&◌, List, [], ◌∷◌, ◌++◌, length, Option, None, Some, inl, inr, refl, arith}
 use Rattle.std.specs.Prelude.{nat_lt, if◌then◌else◌}
 use Rattle.std.specs.List.{list_all}
 use Rattle.std.proofs.lemmas.Bool.{and_from, and_parts, cases_Bool, eqb-true}
@@ -127,11 +127,10 @@ with_answer_holds p a (b ∷ notes) new h =
       | inr f ↦ rw f (and_from (p b) (list_all p (with_answer a notes)) h'.0 (with_answer_holds p a notes new h'.1))
     ]
 
--- the notes fit behind a new answer that fits, and where memory was wanting
-pub notes_fit : {E : Type 0} (result : Result (Unit {0}) E) (a : Answered) (old new : List Answered) → OnOk result (new ≡ with_answer a old) → OnErr result (new ≡ old)
-    → answered.fits a ≡ true → list_all (λ (x : Answered). answered.fits x) old ≡ true → list_all (λ (x : Answered). answered.fits x) new ≡ true
-notes_fit (Ok u) a old new ok err fine fit = rw ok (with_answer_holds (λ (x : Answered). answered.fits x) a old fine fit)
-notes_fit (Err e) a old new ok err fine fit = rw err fit
+-- the notes fit after a new answer that fits
+pub notes_fit : (a : Answered) (old new : List Answered) → new ≡ with_answer a old → answered.fits a ≡ true
+    → list_all (λ (x : Answered). answered.fits x) old ≡ true → list_all (λ (x : Answered). answered.fits x) new ≡ true
+notes_fit a old new is fine fit = rw is (with_answer_holds (λ (x : Answered). answered.fits x) a old fine fit)
 
 -- answers fit with one more that fits
 pub one_more_fits : (a : Answered) (old new : List Answered) → new ≡ old ++ a ∷ [] → answered.fits a ≡ true → list_all (λ (x : Answered). answered.fits x) old ≡ true

@@ -1,4 +1,4 @@
--- What a replica tells each leader.
+-- What a replica reports to each leader.
 use Rattle.std.proofs.Common.{◌≡◌, ℕ, suc, ◌+◌, ◌-◌, ◌<◌, List, [], ◌∷◌, ◌++◌, map, append_assoc, arith, refl}
 use Rattle.cx_base.specs.Lists.{numbers}
 use Rattle.cx_base.specs.Role.{role}
@@ -14,7 +14,7 @@ numbers_step i n below = let e : n - i ≡ suc (n - (i + 1)) = omega arith in rw
 own_letter : (me : RoleId) (mark i : ℕ) → me.kind ≡ Replica → letter (role Replica me.index) (role Leader i) (msg.Held mark) ≡ held_to me mark i
 own_letter me mark i k = rw (← k) refl
 
--- the next leader is told, and those after it are left
+-- the next leader gets its report, and those after it are left
 pub held_step : (me : RoleId) (mark i n : ℕ) (sent new all : List Letter) (d : Letter) → i < n → me.kind ≡ Replica
     → d ≡ letter (role Replica me.index) (role Leader i) (msg.Held mark) → new ≡ sent ++ d ∷ []
     → sent ++ map (held_to me mark) (numbers i (n - i)) ≡ all → new ++ map (held_to me mark) (numbers (i + 1) (n - (i + 1))) ≡ all

@@ -1,5 +1,5 @@
 -- How far commands have been executed.
-use Rattle.std.proofs.Common.{◌≡◌, ℕ, ◌+◌, ◌≤◌, List, ◌++◌, length, drop, IsTrue}
+use Rattle.std.proofs.Common.{◌≡◌, ℕ, ◌+◌, ◌*◌, ◌≤◌, List, ◌++◌, length, drop, IsTrue}
 use Rattle.std.specs.List.{list_all}
 use Rattle.cx_base.specs.declared.command.Answered.{Answered}
 use Rattle.cx_base.specs.declared.command.Command.{Command}
@@ -8,6 +8,7 @@ use Rattle.cx_base.specs.declared.command.Value.{Value}
 use Rattle.cx_base.specs.declared.role.RoleId.{RoleId}
 use Rattle.cx_field.specs.Fields.{answered}
 use Rattle.cx_model.specs.Replica.{Machine, execute_all, machine_from, results_from}
+use Rattle.cx_replica.specs.Room.{MachineState}
 use Rattle.cx_role.specs.Outbox.{Outgoing}
 
 -- a machine, the answers so far, and the commands that are left, on the way from a machine and all commands
@@ -16,13 +17,22 @@ pub record IsOnWay (n : ℕ) (first : Machine) (all : List Command) (now : Machi
   pub answers_are : answers ++ (execute_all n now left).answers ≡ (execute_all n first all).answers
   pub fit : IsTrue (list_all (λ (a : Answered). answered.fits a) answers)
 
--- a machine on the way from a first machine over all values, of which some are left
-pub record IsAmong (slot : ℕ) (first : Machine) (all : List Value) (now : Machine) (index : ℕ) : Type 0 where
-  pub machine : machine_from (slot + index) now (drop index all) ≡ machine_from slot first all
+-- the room that is left for the commands after the first ones
+pub record HasRoom (commands before now : ℕ) (index capacity held : ℕ) : Type 0 where
+  pub spare : commands ≤ now + index
+  pub grown : before ≤ now + index
+  pub answers : held + commands ≤ capacity + index
+
+-- a machine on the way from a first machine over all values, of which some are left, with room for these
+pub record IsAmong (slot : ℕ) (first : Machine) (all : List Value) (now : MachineState) (index : ℕ) : Type 0 where
+  pub machine : machine_from (slot + index) now.left (drop index all) ≡ machine_from slot first all
+  pub room : 8 * length all ≤ now.spare + 8 * index
 
 -- the same, with what was sent on the way
-pub record HasSent (c : Cluster) (me : RoleId) (slot : ℕ) (first : Machine) (all : List Value) (before : Outgoing) (now : Machine) (out : Outgoing) (index : ℕ) : Type 0 where
-  pub machine : machine_from (slot + index) now (drop index all) ≡ machine_from slot first all
-  pub sends : out.list ++ results_from c me (slot + index) now (drop index all) ≡ before.list ++ results_from c me slot first all
+pub record HasSent (c : Cluster) (me : RoleId) (slot : ℕ) (first : Machine) (all : List Value) (before : Outgoing) (now : MachineState) (vacant : ℕ) (out : Outgoing) (index : ℕ) : Type 0 where
+  pub machine : machine_from (slot + index) now.left (drop index all) ≡ machine_from slot first all
+  pub sends : out.list ++ results_from c me (slot + index) now.left (drop index all) ≡ before.list ++ results_from c me slot first all
+  pub room : 8 * length all ≤ now.spare + 8 * index
+  pub rooms : length all ≤ vacant + index
   pub spare : length all ≤ out.spare + index
   pub grown : before.spare ≤ out.spare + index

@@ -1,4 +1,4 @@
--- What is so of the values that are ready, and of a replica behind them.
+-- What is so of the values that are ready, and of a replica after them.
 use Rattle.std.proofs.Common.{◌≡◌, ℕ, zero, suc, ◌+◌, ◌-◌, ◌<◌, ◌≤◌, ◌^◌, ◌==◌, Bool, true, false, List, [], ◌∷◌, ◌++◌, length, Option, None, Some, refl, ap, sym, ◌∙◌, subst, inl, inr, arith}
 use Rattle.std.specs.Prelude.{if◌then◌else◌, nat_lt, nat_le, min}
 use Rattle.std.specs.List.{list_all, slice_get}
@@ -26,7 +26,7 @@ use Rattle.cx_rlog.specs.State.{LogState}
 use Rattle.cx_rlog.specs.Taken.{taken_at}
 use Rattle.cx_rlog.specs.declared.taken.Taken.TheVariants as taken
 
--- values that follow others are executed behind them
+-- values that follow others are executed after them
 machine_from-append : (n : ℕ) (m : Machine) (vs ws : List Value) → machine_from n m (vs ++ ws) ≡ machine_from (n + length vs) (machine_from n m vs) ws
 machine_from-append n m [] ws = let e : n + 0 ≡ n = omega arith in rw e refl
 machine_from-append n m (v ∷ vs) ws =
@@ -131,7 +131,7 @@ pub logged_own : (c : Cluster) (me : RoleId) (d : ReplicaDurable) (vs : List Val
 logged_own c me d vs fit own =
     own_both c vs (log_fits vs fit) ((and_parts (list_all (λ (v : Value). names_value c v) vs) (nat_le (length d.log + length vs) 1099511627776) own).0)
 
--- a replica is sound behind more values of the cluster, once they are executed
+-- a replica is sound after more values of the cluster, once they are executed
 pub sound_more : (c : Cluster) (me : RoleId) (log new : LogState) (m n : Machine) (reads left : List Deferred) (vs : List Value) → IsSound c me log m reads
     → new.list ≡ log.list ++ vs → are_own c vs ≡ true → are_own_early c new.early ≡ true → n ≡ machine_from (length log.list) m vs
     → are_reads left ≡ true → length left ≤ 64 → IsSound c me new n left

@@ -9,7 +9,7 @@ use Rattle.cx_msg.specs.Letter.{Letter, letter}
 use Rattle.cx_msg.specs.declared.message.Msg.TheVariants as msg
 use Rattle.cx_model.specs.declared.states.Deferred.{Deferred}
 
--- the key's text in a map, where so many slots are held
+-- the key's text in a map, where `held` slots are held
 abbrev pub answer_at : RoleId → ℕ → List Pair → Deferred → Letter
 answer_at me held pairs r = letter me (role Client r.token.client) (msg.ReadAnswer r.token.seq held (text_at r.key pairs))
 

@@ -1,2 +1,4 @@
 pub mod Answering
+pub mod Room
+pub mod Rows
 pub mod Sound

@@ -1,18 +1,15 @@
-//! The replica: it keeps the chosen values in the order of their slots, executes their commands, and answers commands and
-//! reads (VLDB 2021; reads that wait are this project's own).
+//! The replica: it keeps and executes chosen values in slot order, and answers (VLDB 2021).
 //!
-//! Stands on what a role is, on the map, the client table and the log of values; the world and the node stand on it,
-//! through the trait `Role` alone. Its theorem is `Role`'s contract at the replica's rules: each step is the row, over any
-//! keeper, and a replica is opened exactly from the records that it could have appended.
+//! The world and the node drive it through the trait `Role`. Its theorem is `Role`'s contract at
+//! `replica_rules`: each step is the model's row, over any keeper, and `open` names exactly the
+//! first record that isn't its own.
 #![tactic(auto)]
 
 mod apply;
 mod machine;
 mod reads;
 mod replica;
+mod rooms;
 mod sending;
 
 pub use replica::Replica;
-
-#[cfg(test)]
-mod tests;

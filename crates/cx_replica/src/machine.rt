@@ -1,6 +1,6 @@
 //! What executing values leaves: the map, and the last answer of each client.
 
-ghost use Rattle.std.specs.Prelude.{◌≡◌, ◌+◌, ◌^◌, ◌++◌, ◌≤◌, length, IfOk, OnOk, IsTrue};
+ghost use Rattle.std.specs.Prelude.{◌≡◌, ◌+◌, ◌*◌, ◌^◌, ◌++◌, ◌<◌, ◌≤◌, [], length, IfOk, OnOk, IsTrue, vec_capacity, vec_len};
 ghost use Rattle.std.specs.List.{list_all};
 ghost use Rattle.cx_base.specs.declared.command.Answered.{Answered};
 ghost use Rattle.cx_base.specs.declared.command.Command.{Command};
@@ -12,170 +12,178 @@ ghost use Rattle.cx_model.specs.Replica.{new_machine, acting, execute, execute_a
 ghost use Rattle.cx_table.specs.Judged.{judge_of};
 ghost use Rattle.cx_table.specs.declared.judge.Judge.TheVariants as judge;
 
+use crate::rooms::{COMMANDS, Rooms};
 use crate::sending::send_results;
-use cx_base::{Answered, Cluster, Command, Duplicate, Key, NoMemory, RoleId, Text, Value};
+use cx_base::{Answered, Cluster, Command, Key, NoMemory, RoleId, Text, Value};
 use cx_field::reply_fits;
-use cx_kv::Store;
+use cx_kv::Pairs;
 use cx_role::Outbox;
 use cx_table::{Judge, Table};
 use std::alloc::Global;
 use std::marker::Model;
 
-/// The map and the client table that values leave. Each noted answer is in its ranges.
+/// The map and the client table that values leave, with room that was taken beforehand. Each noted answer is in its ranges.
 #[derive(Drop)]
 pub struct Machine {
-    alloc: Global,
-    store: Store,
+    store: Pairs,
     table: Table,
 }
 
 impl Model for Machine {
-    ghost use Rattle.std.specs.Prelude.{IsTrue};
+    ghost use Rattle.std.specs.Prelude.{IsTrue, min};
     ghost use Rattle.std.specs.List.{list_all};
     ghost use Rattle.cx_base.specs.declared.command.Answered.{Answered};
-    ghost use Rattle.cx_model.specs.Replica.{Machine as Left};
     ghost use Rattle.cx_field.specs.Fields.{answered};
+    ghost use Rattle.cx_replica.specs.Room.{MachineState};
 
-    ghost Value = { Left };
+    ghost Value = { MachineState };
 
-    ghost view = { λ m. record { map = m.store; notes = m.table } };
+    ghost view = { λ m. record { left = record { map = m.store.pairs; notes = m.table.notes }; spare = min m.store.spare m.table.spare } };
 
-    ghost invariant = { λ m. IsTrue (list_all (λ (a : Answered). answered.fits a) m.table) };
-}
-
-impl Duplicate for Machine {
-    fn copy(&self, alloc: Global) -> Result<Self, NoMemory> {
-        Ok(Machine {
-            alloc: self.alloc,
-            store: self.store.copy(alloc)?,
-            table: self.table.copy(alloc)?,
-        })
-    }
+    ghost invariant = { λ m. IsTrue (list_all (λ (a : Answered). answered.fits a) m.table.notes) };
 }
 
 impl Machine {
-    /// Nothing executed.
-    pub fn new(alloc: Global) -> Result<Self, NoMemory>
-        ensures { IfOk result (λ machine. machine ≡ new_machine) }
+    /// Nothing executed. It takes no memory.
+    pub fn new(alloc: Global) -> Self
+        ensures { result.left ≡ new_machine }
     {
-        Ok(Machine {
-            alloc,
-            store: Store::new(alloc)?,
-            table: Table::new(alloc)?,
-        })
+        Machine {
+            store: Pairs::new(alloc),
+            table: Table::new(alloc),
+        }
     }
 
     /// The text of a key. It takes no memory.
     pub fn text_at(&self, key: &Key) -> Option<Text>
-        ensures { result ≡ text_at key.now self.now.map }
+        ensures { result ≡ text_at key.now self.now.left.map }
     {
         self.store.get(key).copied()
     }
 
+    /// Makes room for executing `values` values, of which each has at most eight commands.
+    pub fn make_room(&mut self, values: usize) -> Result<(), NoMemory>
+        requires { values ≤ 2 ^ 40 }
+        ensures left { self.new.left ≡ self.old.left }
+        ensures room { OnOk result (8 * values ≤ self.new.spare) }
+    {
+        let commands = COMMANDS * values;
+        self.store.make_room(commands)?;
+        self.table.make_room(commands)?;
+        Ok(())
+    }
+
     /// Executes a command that acts, and adds its answer; `at` is one more than its slot.
     #[tactic(auto, using(crate::proofs::Executing::reply_length))]
-    fn act(
-        &mut self,
-        at: u64,
-        command: &Command,
-        answers: &mut Vec<Answered>,
-    ) -> Result<(), NoMemory>
+    fn act(&mut self, at: u64, command: &Command, answers: &mut Vec<Answered>)
         requires at { IsTrue (field.at.fits at) }
         requires command { IsTrue (field.command.fits command.now) }
-        requires new { judge_of self.old.notes command.now.client command.now.seq ≡ judge.New }
+        requires new { judge_of self.old.left.notes command.now.client command.now.seq ≡ judge.New }
         requires fit { IsTrue (list_all (λ (a : Answered). field.answered.fits a) answers.old.items) }
-        ensures machine { OnOk result (self.new ≡ (acting at self.old command.now).machine) }
-        ensures answers { OnOk result (answers.new.items ≡ answers.old.items ++ (acting at self.old command.now).answers) }
-        ensures fit { OnOk result (IsTrue (list_all (λ (a : Answered). field.answered.fits a) answers.new.items)) }
+        requires spare { 0 < self.old.spare }
+        requires room { vec_len answers.old < vec_capacity answers.old }
+        ensures machine { self.new.left ≡ (acting at self.old.left command.now).machine }
+        ensures answers { answers.new.items ≡ answers.old.items ++ (acting at self.old.left command.now).answers }
+        ensures fit { IsTrue (list_all (λ (a : Answered). field.answered.fits a) answers.new.items) }
+        ensures spare { self.old.spare ≤ self.new.spare + 1 }
+        ensures len { vec_len answers.new ≤ vec_len answers.old + 1 }
+        ensures capacity { vec_capacity answers.new ≡ vec_capacity answers.old }
     {
-        let reply = self.store.apply(command)?;
+        let reply = self.store.apply(command);
         reply_fits(&reply);
-        answers.push(Answered {
+        answers.push_reserved(Answered {
             client: command.client,
             seq: command.seq,
             at,
             reply,
-        })?;
-        self.table.note(command.client, command.seq, at, &reply)?;
-        Ok(())
+        });
+        self.table.note(command.client, command.seq, at, &reply);
     }
 
     /// Executes a command as the table judges it, and adds its answer, if it has one; `at` is one more than its slot.
-    fn execute(
-        &mut self,
-        at: u64,
-        command: &Command,
-        answers: &mut Vec<Answered>,
-    ) -> Result<(), NoMemory>
+    fn execute(&mut self, at: u64, command: &Command, answers: &mut Vec<Answered>)
         requires at { IsTrue (field.at.fits at) }
         requires command { IsTrue (field.command.fits command.now) }
         requires fit { IsTrue (list_all (λ (a : Answered). field.answered.fits a) answers.old.items) }
-        ensures machine { OnOk result (self.new ≡ (execute at self.old command.now).machine) }
-        ensures answers { OnOk result (answers.new.items ≡ answers.old.items ++ (execute at self.old command.now).answers) }
-        ensures fit { OnOk result (IsTrue (list_all (λ (a : Answered). field.answered.fits a) answers.new.items)) }
+        requires spare { 0 < self.old.spare }
+        requires room { vec_len answers.old < vec_capacity answers.old }
+        ensures machine { self.new.left ≡ (execute at self.old.left command.now).machine }
+        ensures answers { answers.new.items ≡ answers.old.items ++ (execute at self.old.left command.now).answers }
+        ensures fit { IsTrue (list_all (λ (a : Answered). field.answered.fits a) answers.new.items) }
+        ensures spare { self.old.spare ≤ self.new.spare + 1 }
+        ensures len { vec_len answers.new ≤ vec_len answers.old + 1 }
+        ensures capacity { vec_capacity answers.new ≡ vec_capacity answers.old }
     {
         let client = command.client;
         let seq = command.seq;
         match self.table.judge(client, seq) {
             Judge::New => self.act(at, command, answers),
-            Judge::Last { at, reply } => {
-                answers.push(Answered {
-                    client,
-                    seq,
-                    at,
-                    reply,
-                })?;
-                Ok(())
-            }
-            Judge::Past => Ok(()),
+            Judge::Last { at, reply } => answers.push_reserved(Answered {
+                client,
+                seq,
+                at,
+                reply,
+            }),
+            Judge::Past => {}
         }
     }
 
-    /// Executes commands in order, and gives the answers of those that have one; `at` is one more than their slot.
-    fn execute_all(&mut self, at: u64, commands: &[Command]) -> Result<Vec<Answered>, NoMemory>
+    /// Executes commands in order, and adds the answers of those that have one; `at` is one more than their slot.
+    fn execute_all(&mut self, at: u64, commands: &[Command], answers: &mut Vec<Answered>)
         requires at { IsTrue (field.at.fits at) }
         requires commands { IsTrue (list_all (λ (c : Command). field.command.fits c) commands.now) }
-        ensures machine { OnOk result (self.new ≡ (execute_all at self.old commands.now).machine) }
-        ensures answers { IfOk result (λ answers. answers.items ≡ (execute_all at self.old commands.now).answers) }
-        ensures fit { IfOk result (λ answers. IsTrue (list_all (λ (a : Answered). field.answered.fits a) answers.items)) }
+        requires empty { answers.old.items ≡ [] }
+        requires spare { length commands.now ≤ self.old.spare }
+        requires room { length commands.now ≤ vec_capacity answers.old }
+        ensures machine { self.new.left ≡ (execute_all at self.old.left commands.now).machine }
+        ensures answers { answers.new.items ≡ (execute_all at self.old.left commands.now).answers }
+        ensures fit { IsTrue (list_all (λ (a : Answered). field.answered.fits a) answers.new.items) }
+        ensures spare { self.old.spare ≤ self.new.spare + length commands.now }
+        ensures capacity { vec_capacity answers.new ≡ vec_capacity answers.old }
     {
-        let mut answers = Vec::new(self.alloc);
         for command in commands {
-            self.execute(at, command, &mut answers)?;
+            self.execute(at, command, answers);
         }
-        Ok(answers)
     }
 
-    /// Executes the value of a slot, and gives the answers of its commands, which are at most eight.
-    pub fn execute_value(&mut self, slot: u64, value: &Value) -> Result<Vec<Answered>, NoMemory>
+    /// Executes the value of a slot, and adds the answers of its commands, which are at most eight.
+    pub fn execute_value(&mut self, slot: u64, value: &Value, answers: &mut Vec<Answered>)
         requires slot { IsTrue (field.slot.fits slot) }
         requires value { IsTrue (field.value.fits value.now) }
-        ensures machine { OnOk result (self.new ≡ (execute_value slot self.old value.now).machine) }
-        ensures answers { IfOk result (λ answers. answers.items ≡ (execute_value slot self.old value.now).answers) }
-        ensures fit { IfOk result (λ answers. IsTrue (list_all (λ (a : Answered). field.answered.fits a) answers.items)) }
-        ensures room { IfOk result (λ answers. length answers.items ≤ 8) }
+        requires empty { answers.old.items ≡ [] }
+        requires spare { 8 ≤ self.old.spare }
+        requires room { 8 ≤ vec_capacity answers.old }
+        ensures machine { self.new.left ≡ (execute_value slot self.old.left value.now).machine }
+        ensures answers { answers.new.items ≡ (execute_value slot self.old.left value.now).answers }
+        ensures fit { IsTrue (list_all (λ (a : Answered). field.answered.fits a) answers.new.items) }
+        ensures few { length answers.new.items ≤ 8 }
+        ensures spare { self.old.spare ≤ self.new.spare + 8 }
+        ensures capacity { vec_capacity answers.new ≡ vec_capacity answers.old }
     {
         match value {
-            Value::Noop => Ok(Vec::new(self.alloc)),
-            Value::Batch(commands) => self.execute_all(slot + 1, commands.as_slice()),
+            Value::Noop => {}
+            Value::Batch(commands) => self.execute_all(slot + 1, commands.as_slice(), answers),
         }
     }
 
     /// Executes the values of the slots from the first on, and sends nothing.
     #[tactic(auto, using(crate::proofs::Values::slot_fits))]
-    pub fn replay(&mut self, first: u64, values: &[Value]) -> Result<(), NoMemory>
+    pub fn replay(&mut self, alloc: Global, first: u64, values: &[Value]) -> Result<(), NoMemory>
         requires slots { first + length values.now ≤ 2 ^ 40 }
         requires values { IsTrue (list_all (λ (v : Value). field.value.fits v) values.now) }
-        ensures { OnOk result (self.new ≡ machine_from first self.old values.now) }
+        ensures { OnOk result (self.new.left ≡ machine_from first self.old.left values.now) }
     {
+        let mut answers = Vec::with_capacity(alloc, COMMANDS)?;
+        self.make_room(values.len())?;
         for (index, value) in values.iter().enumerate() {
-            self.execute_value(first + index as u64, value)?;
+            answers.clear();
+            self.execute_value(first + index as u64, value, &mut answers);
         }
         Ok(())
     }
 
-    /// Executes the values of the slots from the first on, and sends what they are answered. Room for the sends was taken
-    /// beforehand.
+    /// Executes the values of the slots from the first on, and sends what they are answered. It takes no memory: room was
+    /// taken beforehand.
     #[tactic(auto, using(crate::proofs::Values::slot_fits))]
     pub fn execute_values(
         &mut self,
@@ -183,21 +191,24 @@ impl Machine {
         me: RoleId,
         first: u64,
         values: &[Value],
+        mut rooms: Rooms,
         out: &mut Outbox,
-    ) -> Result<(), NoMemory>
+    )
         requires kind { me.kind ≡ kind.Replica }
         requires slots { first + length values.now ≤ 2 ^ 40 }
         requires values { IsTrue (list_all (λ (v : Value). field.value.fits v) values.now) }
+        requires room { 8 * length values.now ≤ self.old.spare }
+        requires rooms { length values.now ≤ rooms }
         requires spare { length values.now ≤ out.old.spare }
-        ensures machine { OnOk result (self.new ≡ machine_from first self.old values.now) }
-        ensures sends { OnOk result (out.new.list ≡ out.old.list ++ results_from cluster.now me first self.old values.now) }
-        ensures spare { OnOk result (out.old.spare ≤ out.new.spare + length values.now) }
+        ensures machine { self.new.left ≡ machine_from first self.old.left values.now }
+        ensures sends { out.new.list ≡ out.old.list ++ results_from cluster.now me first self.old.left values.now }
+        ensures spare { out.old.spare ≤ out.new.spare + length values.now }
     {
         for (index, value) in values.iter().enumerate() {
             let slot = first + index as u64;
-            let answers = self.execute_value(slot, value)?;
+            let mut answers = rooms.take();
+            self.execute_value(slot, value, &mut answers);
             send_results(cluster, me, slot, answers, out);
         }
-        Ok(())
     }
 }

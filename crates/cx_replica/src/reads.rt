@@ -1,4 +1,4 @@
-//! The rows of reads, and of the value that another replica wants.
+//! The rows of reads, and of the value that another replica asks for.
 
 ghost use Rattle.std.specs.Prelude.{◌≡◌, [], IfOk, OnErr, IsTrue, false};
 ghost use Rattle.std.specs.List.{list_any};
@@ -12,14 +12,11 @@ ghost use Rattle.cx_role.specs.Role.{Replies, takes_no_memory};
 
 use crate::replica::Replica;
 use crate::sending::answer;
-use cx_base::{NoMemory, RoleId, Why};
+use cx_base::{NoMemory, READS, RoleId, Why};
 use cx_field::Token;
 use cx_model::Deferred;
 use cx_msg::fetched;
 use cx_role::Outbox;
-
-/// The most reads that wait at once.
-const MOST: usize = 64;
 
 fn is_deferred(deferred: &[Deferred], token: Token) -> bool
     ensures { result ≡ list_any (λ (other : DeferredOf). same_read token other.token) deferred.now }
@@ -35,7 +32,7 @@ pub fn drop_answered(deferred: &mut Vec<Deferred>, held: u64)
 }
 
 impl Replica {
-    /// A reader asks for a key's text, once so many slots are held. It is answered at once where they are, and else waits.
+    /// A reader asks for a key's text, once the slots that it names are held. It is answered at once where they are, and else waits.
     #[tactic(auto, using(crate::proofs::Values::mark_fits))]
     pub(crate) fn read(&mut self, one: Deferred, out: &mut Outbox) -> Result<Why, NoMemory>
         requires token { IsTrue (field.token.fits one.token) }
@@ -54,7 +51,7 @@ impl Replica {
         if is_deferred(&self.deferred, one.token) {
             return Ok(Why::Same);
         }
-        if self.deferred.len() >= MOST {
+        if self.deferred.len() >= READS {
             return Ok(Why::Full);
         }
         self.deferred.push(one)?;

@@ -1,6 +1,6 @@
 //! A replica's state, and how it is opened.
 
-ghost use Rattle.std.specs.Prelude.{◌≡◌, ◌<◌, [], true, IfOk, IsTrue};
+ghost use Rattle.std.specs.Prelude.{◌≡◌, ◌<◌, [], true, length, IfOk, IsTrue};
 ghost use Rattle.std.specs.List.{list_all};
 ghost use Rattle.cx_base.specs.declared.command.Value.{Value};
 ghost use Rattle.cx_base.specs.declared.role.Kind.TheVariants as kind;
@@ -11,7 +11,7 @@ ghost use Rattle.cx_msg.specs.Records.{fits as record_fits};
 
 use crate::machine::Machine;
 use crate::sending::{ask_next, tell_held};
-use cx_base::{Cluster, NoMemory, Order, RoleId, Value, Why};
+use cx_base::{Cluster, NoMemory, Order, RoleId, SLOTS, Value, Why};
 use cx_keeper::Keeper;
 use cx_model::Deferred;
 use cx_msg::{Datagram, Msg, Record};
@@ -42,10 +42,17 @@ impl Model for Replica {
 
     ghost view = { λ r. record { cluster = r.cluster; me = r.me; live = r.live; durable = record { log = r.log.list }; volatile = record { early = r.log.early; deferred = r.deferred.items } } };
 
-    ghost invariant = { λ r. IsSound r.cluster r.me r.log r.machine r.deferred.items };
+    ghost invariant = { λ r. IsSound r.cluster r.me r.log r.machine.left r.deferred.items };
 }
 
 impl Replica {
+    /// How many slots it holds: all below it. It takes no memory.
+    pub fn held(&self) -> u64
+        ensures { result ≡ length self.now.durable.log }
+    {
+        self.log.held()
+    }
+
     /// A replica that has no records.
     fn new(alloc: Global, cluster: &Cluster, me: RoleId) -> Result<Self, NoMemory>
         requires kind { me.kind ≡ kind.Replica }
@@ -58,9 +65,20 @@ impl Replica {
             me,
             live: true,
             log: Log::new(alloc)?,
-            machine: Machine::new(alloc)?,
+            machine: Machine::new(alloc),
             deferred: Vec::new(alloc),
         })
+    }
+
+    /// What its records left, as in a replica that was just opened. It takes no memory.
+    fn stopped(self) -> Self
+        ensures { result ≡ record self { live = true; volatile = replica_rules.fresh self.cluster } }
+    {
+        let mut replica = self;
+        replica.live = true;
+        replica.log.forget_early();
+        replica.deferred.clear();
+        replica
     }
 
     /// Whether it could have appended this record. It takes no memory.
@@ -97,7 +115,7 @@ impl Replica {
             deferred,
         } = self;
         let values = values.as_slice();
-        machine.replay(log.held(), values)?;
+        machine.replay(alloc, log.held(), values)?;
         log.restore(alloc, values)?;
         Ok(Replica {
             alloc,
@@ -110,9 +128,6 @@ impl Replica {
         })
     }
 }
-
-/// How many slots there are.
-const SLOTS: u64 = 1 << 40;
 
 // Whether the clients of all commands of values are in the cluster.
 fn names_values(cluster: &Cluster, values: &[Value]) -> bool
@@ -136,7 +151,11 @@ impl Role for Replica {
         me: RoleId,
         records: &[Record],
     ) -> Result<Self, WakeFault> {
-        let mut replica = Replica::new(alloc, cluster, me)?;
+        Replica::new(alloc, cluster, me)?.reopen(records)
+    }
+
+    fn reopen(self, records: &[Record]) -> Result<Self, WakeFault> {
+        let mut replica = self.stopped();
         for (index, record) in records.iter().enumerate() {
             if !replica.fits(record) {
                 return Err(WakeFault::Record { index });

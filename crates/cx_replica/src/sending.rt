@@ -40,7 +40,7 @@ pub fn send_results(
     out.push(results(me.index, unbatcher, slot, Few::from_vec(answers)));
 }
 
-/// Tells every leader how many slots are held. It takes no memory.
+/// Reports to every leader how many slots are held. It takes no memory.
 pub fn tell_held(cluster: &Cluster, me: RoleId, mark: u64, out: &mut Outbox)
     requires kind { me.kind ≡ kind.Replica }
     requires mark { IsTrue (field.mark.fits mark) }
@@ -67,13 +67,13 @@ pub fn ask_next(cluster: &Cluster, me: RoleId, mark: u64, out: &mut Outbox)
     }
 }
 
-/// The answer to a read where so many slots are held: the key's text in the map. It takes no memory.
+/// The answer to a read where `held` slots are held: the key's text in the map. It takes no memory.
 #[tactic(auto, unfolding(cx_field::specs::Fields::token))]
 pub fn answer(me: RoleId, held: u64, machine: &Machine, one: &Deferred) -> Datagram
     requires kind { me.kind ≡ kind.Replica }
     requires held { IsTrue (field.mark.fits held) }
     requires token { IsTrue (field.token.fits one.now.token) }
-    ensures { result ≡ answer_at me held machine.now.map one.now }
+    ensures { result ≡ answer_at me held machine.now.left.map one.now }
 {
     let token = one.token;
     read_answer(
@@ -97,7 +97,7 @@ pub fn answer_reads(
     requires held { IsTrue (field.mark.fits held) }
     requires reads { IsTrue (are_reads deferred.now) }
     requires spare { length deferred.now ≤ out.old.spare }
-    ensures { out.new.list ≡ out.old.list ++ answers_at me held machine.now.map deferred.now }
+    ensures { out.new.list ≡ out.old.list ++ answers_at me held machine.now.left.map deferred.now }
 {
     for one in deferred {
         if one.mark <= held {

@@ -1,4 +1,4 @@
--- Values of a window, and the places where they stand.
+-- Values of a window, and the places where they are.
 use Rattle.std.proofs.Common.{◌≡◌, ◌≢◌, ℕ, zero, suc, ◌+◌, ◌%◌, ◌<◌, ◌≤◌, ◌⊎◌, inl, inr, true, false, ◌==◌, List, [], ◌∷◌, length, get_or, All, Option, Some, None, refl, ap, sym, ◌∙◌, arith, nat_le, slice_set}
 use Rattle.std.proofs.lemmas.Bool.{cases_Bool}
 use Rattle.std.proofs.lemmas.Bool.Decides.{nat_tests}
@@ -22,7 +22,7 @@ places_apart first a b h k n e = elim (order a b n) [
     order a b n = grind (arith, nat_tests)
 
 module _ {A : Type 0} (at : A → ℕ) where
-  -- no value stands outside of the window
+  -- no value is outside of the window
   pub outside : (first s : ℕ) (xs : List A) → All (λ x. IsNear first (at x)) xs → (s < first) ⊎ (first + 32 ≤ s) → value_at at s xs ≡ None
   outside first s [] h o = refl
   outside first s (x ∷ xs) h o =
@@ -77,7 +77,7 @@ module _ {A : Type 0} (at : A → ℕ) where
     | inr e ↦ rw e (near_from first more xs l (All-tail (λ y. IsNear first (at y)) x xs all))
   ]
 
--- what stands at a place once others are emptied
+-- what is at a place once others are emptied
 module _ {A : Type 0} where
   pub length-emptied : (first n : ℕ) (places : List (Option A)) → length (emptied first n places) ≡ length places
   length-emptied first zero places = refl

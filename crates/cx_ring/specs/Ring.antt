@@ -29,7 +29,7 @@ pub record IsNear (first s : ℕ) : Type 0 where
   pub low : first ≤ s
   pub high : s < first + 32
 
--- What stands where: no places, or 32, and each slot's value at the place of its number modulo 32.
+-- What is where: no places, or 32, and each slot's value at the place of its number modulo 32.
 pub record IsRing {A : Type 0} (at : A → ℕ) (first : ℕ) (places : List (Option A)) (items : List A) : Type 0 where
   pub limit : first ≤ 2 ^ 40
   pub size : (length places ≡ 0) ⊎ (length places ≡ 32)

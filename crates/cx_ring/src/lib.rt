@@ -1,8 +1,8 @@
-//! Windows of slots: at most one value for each of 32 slots, looked up at once.
+//! Windows of slots: at most one value for each of 32 slots, found at once.
 //!
-//! Stands on want of memory and copies alone; a replica's log, the first phase, the leader and the proxy leader stand on it. Its
-//! theorem: a ring is the list of its values in the order in which their slots came (`Ring::put`, `Ring::raise`), of which `Ring::get`
-//! gives the one of a slot. The list itself stands in proofs alone (`Told`) and takes no memory.
+//! A replica's log, the first phase, leaders and proxy leaders hold their slots in it. Its theorem
+//! is: a ring is the list of its values in the order in which their slots came (a list in proofs
+//! alone, `Told`), of which `Ring::get` gives the one of a slot.
 #![tactic(auto)]
 
 mod order;
@@ -12,6 +12,3 @@ mod told;
 pub use order::Slotted;
 pub use ring::Ring;
 pub use told::{Tells, Told};
-
-#[cfg(test)]
-mod tests;

@@ -6,7 +6,7 @@ ghost use Rattle.cx_ring.specs.Ring.{with_value, values_from};
 use crate::told::{Tells, Told};
 use std::marker::PhantomData;
 
-/// How the slot of a value is told: implemented by a type that stands for the way.
+/// Which slot a value has: implemented by a type that names the way.
 pub trait Slotted<T> {
     ghost at: { T → ℕ };
 

@@ -7,19 +7,16 @@ ghost use Rattle.cx_ring.specs.Places.{emptied};
 
 use crate::order::{Slotted, from, kept, none, with};
 use crate::told::Told;
-use cx_base::{Duplicate, NoMemory};
+use cx_base::{Duplicate, NoMemory, WINDOW};
 use std::alloc::Global;
 use std::marker::{Model, PhantomData};
-
-/// How many slots the window has.
-const SLOTS: u64 = 32;
 
 /// Values of the slots of a window of 32, at most one a slot: looked up at once, where contracts see the list of them in the
 /// order in which their slots came. The window moves up only.
 #[derive(Drop)]
 pub struct Ring<T: Drop, S: Slotted<T>> {
     first: u64,
-    // The value of a slot stands at the place of its number modulo 32.
+    // The value of a slot is at the place of its number modulo 32.
     places: Vec<Option<T>>,
     told: Told<T>,
     by: PhantomData<S>,
@@ -40,14 +37,14 @@ impl<T: Drop, S: Slotted<T>> Model for Ring<T, S> {
 fn place_of(slot: u64) -> usize
     ensures { result ≡ slot % 32 }
 {
-    (slot % SLOTS) as usize
+    (slot % WINDOW) as usize
 }
 
 fn no_places<T: Drop>(alloc: Global) -> Result<Vec<Option<T>>, NoMemory>
     ensures { IfOk result (λ places. places.items ≡ replicate 32 None) }
 {
-    let mut places = Vec::with_capacity(alloc, SLOTS as usize)?;
-    for _ in 0..SLOTS {
+    let mut places = Vec::with_capacity(alloc, WINDOW as usize)?;
+    for _ in 0..WINDOW {
         places.push(None)?;
     }
     Ok(places)
@@ -70,7 +67,7 @@ fn empty_place<T: Drop>(places: &mut Vec<Option<T>>, place: usize)
     }
 }
 
-// Empties the places of so many slots from the first on.
+// Empties the places of `count` slots from the first on.
 fn empty<T: Drop>(places: &mut Vec<Option<T>>, first: u64, count: u64)
     requires { first + count < 2 ^ 64 }
     ensures { places.new.items ≡ emptied first count places.old.items }
@@ -117,7 +114,7 @@ impl<T: Drop, S: Slotted<T>> Ring<T, S> {
     pub fn get(&self, slot: u64) -> Option<&T>
         ensures { option_copied result ≡ value_at S.at slot self.now.items }
     {
-        if slot < self.first || slot - self.first >= SLOTS {
+        if slot < self.first || slot - self.first >= WINDOW {
             return None;
         }
         value_of(&self.places, place_of(slot))
@@ -127,7 +124,7 @@ impl<T: Drop, S: Slotted<T>> Ring<T, S> {
     pub fn is_empty(&self) -> bool
         ensures { result ≡ (length self.now.items == 0) }
     {
-        for slot in self.first..self.first + SLOTS {
+        for slot in self.first..self.first + WINDOW {
             if self.get(slot).is_some() {
                 return false;
             }
@@ -154,7 +151,7 @@ impl<T: Drop, S: Slotted<T>> Ring<T, S> {
         ensures { self.new ≡ raised S.at first self.old }
     {
         let first = self.first.max(first);
-        let count = (first - self.first).min(SLOTS);
+        let count = (first - self.first).min(WINDOW);
         empty(&mut self.places, self.first, count);
         self.told = from::<T, S>(first, &self.told);
         self.first = first;
@@ -164,7 +161,7 @@ impl<T: Drop, S: Slotted<T>> Ring<T, S> {
     pub fn clear(&mut self)
         ensures { self.new ≡ record self.old { items = [] } }
     {
-        empty(&mut self.places, self.first, SLOTS);
+        empty(&mut self.places, self.first, WINDOW);
         self.told = none();
     }
 }

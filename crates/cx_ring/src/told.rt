@@ -21,13 +21,13 @@ impl<T> Drop for Told<T> {
     }
 }
 
-/// Which list a value tells.
+/// Which list a value shows to contracts.
 pub trait Tells<X, T> {
     ghost told: { X → List T };
 }
 
 impl<T> Told<T> {
-    /// The list that a value tells.
+    /// The list that a value shows.
     pub fn of<X, M: Tells<X, T>>(from: &X) -> Told<T>
         ensures { result.items ≡ M.told from.now }
     {

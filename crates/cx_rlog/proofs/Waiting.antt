@@ -57,7 +57,7 @@ following_stops : (early : List Placed) (slot most : ℕ)
 following_stops early slot zero = inl refl
 following_stops early slot (suc most) = following_step early slot most (value_for slot early) refl (following_stops early (slot + 1) most)
 
--- what still waits behind the values that were ready
+-- what still waits after the values that were ready
 pub ready_waiting : (s : LogState) (values : List Value) (held new : ℕ) → held ≡ length s.list → IsReady s values → AreEarly held s.early
     → new ≡ held + length values → new ≤ 2 ^ 40 → AreEarly new (still_early new s.early)
 ready_waiting s [] held new e h waiting n short = absurd h

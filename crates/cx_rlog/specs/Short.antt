@@ -13,7 +13,7 @@ op_of Put key text = op.Put key text
 op_of Del key text = op.Del key
 op_of App key text = op.App key text
 
--- the command whose key is so many of the bytes, and whose text is the others
+-- the command whose key is the first bytes, this many, and whose text is the others
 abbrev pub command_of : ℕ → ℕ → Verb → ℕ → List ℕ → Command
 command_of client seq verb middle bytes =
     record { client = client; seq = seq; op = op_of verb (take middle bytes) (drop middle bytes) }
@@ -24,7 +24,7 @@ HasText Put text = IsName 64 text
 HasText Del text = Unit {0}
 HasText App text = IsName 64 text
 
--- the bytes of a key stand in front, and those of a text behind them
+-- the bytes of a key come first, and those of a text after them
 pub record IsShort (verb : Verb) (middle end : ℕ) (bytes : List ℕ) : Type 0 where
   pub within : end ≤ length bytes
   pub front : middle ≤ end

@@ -25,7 +25,7 @@ abbrev pub IsReady : LogState → List Value → Type 0
 IsReady s [] = ⊥
 IsReady s (v ∷ later) = v ∷ later ≡ ready_values (length s.list) s.early v
 
--- there is the room that is told, slots end at 2^40, what waits is near, and its window begins at the slots held
+-- there is the room that was asked for, slots end at 2^40, what waits is near, and its window begins at the slots held
 pub record IsLog (held capacity spare first : ℕ) (early : List Placed) : Type 0 where
   pub room : held + spare ≤ capacity
   pub short : held ≤ 2 ^ 40

@@ -6,7 +6,7 @@ use Rattle.cx_base.specs.declared.command.Placed.{Placed}
 use Rattle.cx_rlog.specs.declared.taken.Taken.{Taken}
 use Rattle.cx_rlog.specs.declared.taken.Taken.TheVariants.{Past, Full, Early, Next}
 
--- how a slot stands to the number of slots held
+-- where a slot is, beside the number of slots held
 abbrev pub taken_at : ℕ → ℕ → Taken
 taken_at held slot =
     if nat_lt slot held then Past
@@ -19,7 +19,7 @@ abbrev pub waiting_with : Option Value → ℕ → Value → List Placed → Lis
 waiting_with None slot v early = early ++ record { slot = slot; value = v } ∷ []
 waiting_with (Some first) slot v early = early
 
--- the waiting values behind a value that came: one that came early waits
+-- the waiting values after a value that came: one that came early waits
 abbrev pub early_after : Taken → ℕ → Value → List Placed → List Placed
 early_after Past slot v early = early
 early_after Full slot v early = early

@@ -6,17 +6,14 @@ ghost use Rattle.cx_base.specs.Log.{ready_values, still_early, value_for};
 ghost use Rattle.cx_ring.specs.Ring.{IsNear};
 ghost use Rattle.cx_rlog.specs.Taken.{waiting_with};
 
-use cx_base::{Duplicate, NoMemory, Placed, Value};
+use cx_base::{Duplicate, NoMemory, Placed, SLOTS, Value, WINDOW};
 use cx_ring::{Ring, Slotted};
 use std::alloc::Global;
 
-/// The number of slots.
-const SLOTS: u64 = 1 << 40;
-
 /// The most values that may follow the next one at once.
-const FOLLOWING: u64 = 31;
+const FOLLOWING: u64 = WINDOW - 1;
 
-/// A value that waits stands at its slot.
+/// A value that waits is at its slot.
 pub struct Waiting;
 
 impl Slotted<Placed> for Waiting {

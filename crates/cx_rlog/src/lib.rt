@@ -1,7 +1,8 @@
 //! A replica's log: the chosen values in slot order, and those that came before their turn.
 //!
-//! Replicas stand on it. What is held never changes; a value for the next slot brings with it those waiting behind it:
-//! `Log::ready` makes room and copies, and `Log::put` then takes no memory.
+//! Its theorems are: the log is the list of its values; `Log::take` tells exactly whether a slot is
+//! past, next, early or beyond the window; a value for the next slot brings with it those that wait
+//! for it.
 #![tactic(auto)]
 
 mod early;
@@ -11,6 +12,3 @@ mod taken;
 
 pub use log::Log;
 pub use taken::Taken;
-
-#[cfg(test)]
-mod tests;

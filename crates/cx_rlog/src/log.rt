@@ -9,19 +9,16 @@ ghost use Rattle.cx_rlog.specs.declared.taken.Taken.TheVariants.{Early};
 use crate::early::{self, Early};
 use crate::packed::{Packed, hold_all, hold_copies};
 use crate::taken::Taken;
-use cx_base::{Duplicate, Few, NoMemory, Value, copy_all};
+use cx_base::{Duplicate, Few, NoMemory, Value, WINDOW, WINDOW_LENGTH, copy_all};
 use cx_ring::Ring;
 use std::alloc::Global;
 use std::marker::Model;
-
-/// How far above the slots held a value may wait.
-const AHEAD: u64 = 32;
 
 /// The chosen values in slot order, and those that came before their turn (VLDB 2021: replicas execute in slot order).
 /// Slots are below 2^40, and a value waits at most 31 slots ahead (this project's own limits).
 #[derive(Drop)]
 pub struct Log {
-    // A batch of one short command stands in place here.
+    // A batch of one short command is held in place here.
     list: Vec<Packed>,
     // Its window begins at the slots held.
     early: Early,
@@ -82,7 +79,7 @@ impl Log {
         if slot < held {
             return Ok(Taken::Past);
         }
-        if slot >= held + AHEAD {
+        if slot >= held + WINDOW {
             return Ok(Taken::Full);
         }
         if slot == held {
@@ -94,7 +91,11 @@ impl Log {
 
     /// All that can be held once there is a value for the next slot: the value, and those waiting that follow it. The log has
     /// room for them then, as `put` asks; it holds no more yet.
-    pub fn ready(&mut self, alloc: Global, value: &Value) -> Result<Few<Value, 1, 32>, NoMemory>
+    pub fn ready(
+        &mut self,
+        alloc: Global,
+        value: &Value,
+    ) -> Result<Few<Value, 1, WINDOW_LENGTH>, NoMemory>
         requires { length self.old.list < 2 ^ 40 }
         ensures values { IfOk result (λ values. values ≡ ready_values (length self.old.list) self.old.early value.now) }
         ensures ready { IfOk result (IsReady self.new) }
@@ -113,7 +114,7 @@ impl Log {
     }
 
     /// Holds the values that are ready, and drops those that wait no longer. It takes no memory.
-    pub fn put(&mut self, values: Few<Value, 1, 32>)
+    pub fn put(&mut self, values: Few<Value, 1, WINDOW_LENGTH>)
         requires ready { IsReady self.old values }
         requires room { length values ≤ self.old.spare }
         requires short { length self.old.list + length values ≤ 2 ^ 40 }
@@ -126,6 +127,13 @@ impl Log {
         hold_all(&mut self.list, values);
         let held = self.list.len() as u64;
         self.early.raise(held);
+    }
+
+    /// Drops the values that wait. It takes no memory.
+    pub fn forget_early(&mut self)
+        ensures { self.new ≡ record self.old { early = [] } }
+    {
+        self.early.clear();
     }
 
     /// Holds more values, while none waits: for a log that is opened from its records.

@@ -198,7 +198,7 @@ impl Duplicate for Packed {
     }
 }
 
-/// Holds values behind those that are held. It takes no memory.
+/// Holds values after those that are held. It takes no memory.
 pub fn hold_all(list: &mut Vec<Packed>, values: Vec<Value>)
     requires { vec_len list.old + vec_len values ≤ vec_capacity list.old }
     ensures items { list.new.items ≡ list.old.items ++ values.items }

@@ -1,3 +1,4 @@
 pub mod Outbox
+pub mod Own
 pub mod Role
 pub mod Wake

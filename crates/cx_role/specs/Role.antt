@@ -32,7 +32,7 @@ pub record Replies {D V : Type 0} (rules : Rules D V) (before : Running D V) (ou
   pub state : after ≡ running_after rules before outcome
   pub sends : sent ≡ outcome.sends
 
--- no append was asked for, or one was refused for want of memory
+-- no append was asked for, or one was refused when out of memory
 abbrev pub Refuses : {K : Type 0} → Appending K → K → K → Type 0
 Refuses append_gives old new = (new ≡ old) ⊎ ((r : Record) × append_gives old r (Err NoMemory) new)
 
@@ -48,7 +48,13 @@ pub record FailsAt {K D V : Type 0} (append_gives : Appending K) (outcome : Outc
   pub dead : after.live ≡ false
   pub sends : sent ≡ []
 
--- the words of the rows that take no memory, so that want of it is never their answer (this project's own)
+-- what the records of a role left stays, also where an append failed
+pub record KeepsDurable {D V : Type 0} (before after : Running D V) : Type 0 where
+  pub cluster : after.cluster ≡ before.cluster
+  pub me : after.me ≡ before.me
+  pub durable : after.durable ≡ before.durable
+
+-- the words of the rows that take no memory, so that out of memory is never their answer (this project's own)
 abbrev pub takes_no_memory : Why → Bool
 takes_no_memory why.Stranger = true
 takes_no_memory why.Old = true

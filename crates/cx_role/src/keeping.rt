@@ -1,12 +1,12 @@
 //! The one append of a step.
 
 ghost use Rattle.std.specs.Prelude.{◌≡◌, false, Ok, Err, IfOk, IsErrOf, IsTrue, OnOk};
-ghost use Rattle.cx_keeper.specs.declared.keeper.KeepFault.TheVariants as keep_fault;
+ghost use Rattle.cx_keeper.specs.declared.keeper.KeepFault.TheVariants as fault;
 ghost use Rattle.cx_msg.specs.Records.{fits};
 ghost use Rattle.cx_role.specs.Role.{Refuses};
 
 use crate::StepFault;
-use cx_keeper::{KeepFault, Keeper};
+use cx_keeper::Keeper;
 use cx_msg::Record;
 
 /// Keeps the record of a step. A role whose keeper failed lives no longer, and has to be opened again.
@@ -17,13 +17,13 @@ pub fn keep<K: Keeper>(keeper: &mut K, live: &mut bool, what: &Record) -> Result
     ensures refused { IsErrOf result StepFault.NoMemory → Refuses K.append_gives keeper.old keeper.new }
     ensures told { K.tells keeper.new ≡ K.tells keeper.old }
     ensures lives_on { IsErrOf result StepFault.NoMemory → live.new ≡ live.old }
-    ensures failed { IsErrOf result StepFault.Failed → K.append_gives keeper.old what.now (Err keep_fault.Failed) keeper.new }
+    ensures failed { IsErrOf result StepFault.Failed → K.append_gives keeper.old what.now (Err fault.Failed) keeper.new }
     ensures dead { IsErrOf result StepFault.Failed → live.new ≡ false }
 {
     match keeper.append(what) {
         Ok(()) => Ok(()),
-        Err(KeepFault::NoMemory) => Err(StepFault::NoMemory),
-        Err(KeepFault::Failed) => {
+        Err(StepFault::NoMemory) => Err(StepFault::NoMemory),
+        Err(StepFault::Failed) => {
             *live = false;
             Err(StepFault::Failed)
         }

@@ -1,16 +1,21 @@
-//! What a role is, and where it puts what it sends.
+//! What a role is: the trait `Role`, and the outbox that takes what a role sends.
 //!
-//! Stands on the model and the keepers; each role crate stands on it, and the world and the node drive roles through it
-//! alone. Its law is the contract of `Role`: a whole step is the row of the role's rules over any keeper, want of memory
-//! leaves everything as it was, and a failed append sends nothing.
+//! The world and the node drive every role through it. Its theorems are the contract of `Role`, which
+//! each role proves: a whole step is the row of its rules, over any keeper; a step that is out of
+//! memory leaves everything as it was, and one whose append fails sends nothing; and
+//! `own_records_open`: a role opens from what its own steps appended.
 #![tactic(auto)]
 
 mod keeping;
+mod law;
 mod names;
 mod outbox;
 mod role;
 
+/// Why a step was not made. After `Failed` nothing was sent, and the role has to be opened again from what the keeper recovers.
+pub use cx_keeper::KeepFault as StepFault;
 pub use keeping::keep;
-pub use names::{count_of, is_for, names_grid, names_role, names_round, names_value};
-pub use outbox::{MAX_SENDS, Outbox};
-pub use role::{Role, StepFault, WakeFault};
+pub use law::own_records_open;
+pub use names::{is_for, names_grid, names_role, names_round, names_value};
+pub use outbox::Outbox;
+pub use role::{Role, WakeFault};

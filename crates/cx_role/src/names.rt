@@ -5,30 +5,13 @@ ghost use Rattle.std.specs.List.{list_all};
 ghost use Rattle.cx_base.specs.declared.command.Answered.{Answered};
 ghost use Rattle.cx_base.specs.declared.command.Command.{Command};
 ghost use Rattle.cx_base.specs.Role.{same_role};
-ghost use Rattle.cx_model.specs.Names.{count_of, names_role, names_round, names_grid, names_command, names_value, names_entry, names_vote, names_answer, names_token, names_body, names};
+ghost use Rattle.cx_model.specs.Names.{names_role, names_round, names_grid, names_command, names_value, names_entry, names_vote, names_answer, names_token, names_body, names};
 ghost use Rattle.cx_field.specs.declared.parts.Entry.{Entry};
 ghost use Rattle.cx_field.specs.declared.parts.Vote.{Vote};
 
-use cx_base::{Answered, Cluster, Command, Grid, Kind, RoleId, Round, Value};
+use cx_base::{Answered, Cluster, Command, Grid, RoleId, Round, Value, count_of};
 use cx_field::{Entry, Token, Vote};
 use cx_msg::{Datagram, Msg};
-
-/// How many roles of a kind the cluster has. It takes no memory.
-pub fn count_of(cluster: &Cluster, kind: Kind) -> u16
-    ensures { result ≡ count_of cluster.now kind }
-{
-    match kind {
-        Kind::Client => cluster.clients,
-        Kind::Batcher => cluster.batchers,
-        Kind::Leader => cluster.leaders,
-        Kind::Proxy => cluster.proxies,
-        Kind::Acceptor => cluster.acceptors,
-        Kind::Matchmaker => 2 * cluster.f as u16 + 1,
-        Kind::Replica => cluster.replicas,
-        Kind::Unbatcher => cluster.unbatchers,
-        Kind::Reader => cluster.readers,
-    }
-}
 
 /// Whether a role is one of the cluster's. It takes no memory.
 pub fn names_role(cluster: &Cluster, role: RoleId) -> bool

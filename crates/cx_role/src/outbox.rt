@@ -2,13 +2,13 @@
 ghost use Rattle.std.specs.Prelude.{◌≡◌, ◌≤◌, ◌<◌, ◌+◌, ◌++◌, ◌∷◌, [], length, OnOk};
 ghost use Rattle.cx_role.specs.Outbox.{Outgoing};
 
-use cx_base::NoMemory;
+use cx_base::{MAX_SENDS, NoMemory};
 use cx_msg::Datagram;
 use std::alloc::Global;
 use std::marker::Model;
 
-/// The most datagrams that one step sends.
-pub const MAX_SENDS: usize = 512;
+// The clauses say the limit as a number.
+const _: () = prove!(MAX_SENDS == 512);
 
 /// The datagrams of a step, in the order of sending, with room that was taken beforehand.
 #[derive(Drop)]
@@ -39,7 +39,7 @@ impl Outbox {
         }
     }
 
-    /// Makes room for so many pushes, or nothing changes for want of memory. A step sends at most 512.
+    /// Makes room for n pushes, or nothing changes when out of memory. A step sends at most 512.
     pub fn room(&mut self, n: usize) -> Result<(), NoMemory>
         requires { length self.old.list + n ≤ 512 }
         ensures list { self.new.list ≡ self.old.list }

@@ -5,51 +5,16 @@ ghost use Rattle.cx_keeper.specs.Keeper.{all_fit};
 ghost use Rattle.cx_model.specs.Names.{names_role};
 ghost use Rattle.cx_model.specs.Rules.{Rules, Running, opened, refused, outcome_of, IsFit};
 ghost use Rattle.cx_msg.specs.declared.input.Input.TheVariants as input;
-ghost use Rattle.cx_role.specs.declared.role.StepFault.TheVariants as fault;
 ghost use Rattle.cx_role.specs.declared.role.WakeFault.TheVariants as wake;
-ghost use Rattle.cx_role.specs.Role.{Steps, Replies, StaysAt, FailsAt, takes_no_memory};
-ghost use Rattle.cx_role.specs.Wake.{IsWakeFault};
+ghost use Rattle.cx_role.specs.Role.{Steps, Replies, StaysAt, FailsAt, KeepsDurable, takes_no_memory};
+ghost use Rattle.cx_role.specs.Wake.{IsWakeFault, refused_behind, reopened};
 
-use crate::Outbox;
+use crate::{Outbox, StepFault};
 use cx_base::{Cluster, NoMemory, Order, RoleId, Why};
 use cx_keeper::Keeper;
 use cx_msg::{Datagram, Record};
-use std::alloc::{AllocError, AllocFailed, Global};
+use std::alloc::{AllocError, Global};
 use thiserror::Error;
-
-/// Why a step was not made.
-#[derive(Debug, Drop, Error)]
-pub enum StepFault {
-    /// The keeper failed. Nothing was sent, and the role has to be opened again from what the keeper recovers.
-    #[error("a record could not be kept")]
-    Failed,
-    #[error("no memory")]
-    NoMemory,
-}
-
-impl From<NoMemory> for StepFault {
-    ghost from_gives = { λ _ e. e ≡ fault.NoMemory };
-
-    fn from(_: NoMemory) -> Self {
-        StepFault::NoMemory
-    }
-}
-
-impl From<AllocError> for StepFault {
-    ghost from_gives = { λ _ e. e ≡ fault.NoMemory };
-
-    fn from(_: AllocError) -> Self {
-        StepFault::NoMemory
-    }
-}
-
-impl<T: Drop> From<AllocFailed<T>> for StepFault {
-    ghost from_gives = { λ _ e. e ≡ fault.NoMemory };
-
-    fn from(_: AllocFailed<T>) -> Self {
-        StepFault::NoMemory
-    }
-}
 
 /// Why a role could not be opened.
 #[derive(Debug, Drop, Error)]
@@ -78,7 +43,7 @@ impl From<AllocError> for WakeFault {
 }
 
 /// A kind of role: it takes one datagram, order or tick at a time, makes at most one append, and then changes its state and
-/// sends. Memory is taken first, so that want of it leaves everything as it was; the rows that are of no more use to anybody
+/// sends. Memory is taken first, so that out of memory everything is as it was. The rows that are of no more use
 /// (`takes_no_memory`: a stranger, what is old or past, and the like) take none.
 pub trait Role: Sized {
     /// The part of its state that its records leave.
@@ -108,6 +73,14 @@ pub trait Role: Sized {
         ensures whole { IfOk result (λ _. refused rules cluster.now me records.now ≡ None) }
         ensures fault { IfErr result (IsWakeFault (refused rules cluster.now me records.now)) };
 
+    /// The role as it is opened again, once it has stopped: what its records left stays, with these after them, and the rest is as
+    /// in a role that was just opened. The fault names exactly the first of them that the role could not have appended.
+    fn reopen(self, records: &[Record]) -> Result<Self, WakeFault>
+        requires records { IsTrue (all_fit records.now) }
+        ensures role { IfOk result (λ role. state role ≡ reopened rules (state self) records.now) }
+        ensures whole { IfOk result (λ _. refused_behind rules (state self) records.now ≡ None) }
+        ensures fault { IfErr result (IsWakeFault (refused_behind rules (state self) records.now)) };
+
     /// One datagram. It first answers `stranger`, and nothing changes, where the datagram isn't to this role, no row of this
     /// role names its kind, or a name in it lies outside the cluster.
     fn take<K: Keeper>(
@@ -123,6 +96,7 @@ pub trait Role: Sized {
         ensures spared { IsErrOf result StepFault.NoMemory → takes_no_memory (outcome_of rules (state self.old) (input.Take datagram.now)).why ≡ false }
         ensures told { K.tells keeper.new ≡ K.tells keeper.old }
         ensures failed { IsErrOf result StepFault.Failed → FailsAt K.append_gives (outcome_of rules (state self.old) (input.Take datagram.now)) keeper.old keeper.new (state self.new) out.new.list }
+        ensures keeps { IsErrOf result StepFault.Failed → KeepsDurable (state self.old) (state self.new) }
         ensures fits { IsFit rules (state self.old).cluster (state self.old).me (state self.old).durable (outcome_of rules (state self.old) (input.Take datagram.now)).kept };
 
     /// One order, by the same law; only leaders have rows for orders.
@@ -139,6 +113,7 @@ pub trait Role: Sized {
         ensures spared { IsErrOf result StepFault.NoMemory → takes_no_memory (outcome_of rules (state self.old) (input.Order order.now)).why ≡ false }
         ensures told { K.tells keeper.new ≡ K.tells keeper.old }
         ensures failed { IsErrOf result StepFault.Failed → FailsAt K.append_gives (outcome_of rules (state self.old) (input.Order order.now)) keeper.old keeper.new (state self.new) out.new.list }
+        ensures keeps { IsErrOf result StepFault.Failed → KeepsDurable (state self.old) (state self.new) }
         ensures fits { IsFit rules (state self.old).cluster (state self.old).me (state self.old).durable (outcome_of rules (state self.old) (input.Order order.now)).kept };
 
     /// One tick: what is waited for is sent again. A tick keeps nothing.

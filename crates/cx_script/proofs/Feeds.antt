@@ -1,4 +1,4 @@
--- Whole lines, a line that isn't ended, and the bytes behind them, as parts round the line feeds.
+-- Whole lines, a line that isn't ended, and the bytes after them, as parts round the line feeds.
 use Rattle.std.proofs.Common.{◌≡◌, ◌≤◌, ◌<◌, ◌+◌, ◌-◌, ◌==◌, ◌++◌, ℕ, Bool, true, false, cond, List, [], ◌∷◌, length, map, take, refl, sym, ap, ◌∙◌, append_assoc, append-nil, arith, length-append}
 use Rattle.std.specs.Cmp.Lexicographic.{bytes_decides}
 use Rattle.std.specs.List.{join_with_byte, list_any, onto_first, slice_index}
@@ -33,7 +33,7 @@ split_free (b ∷ part) free =
     let tests = or_parts (b == 10) (list_any (λ b. b == 10) part) free in
     slice_split-cons_no (λ b. b == 10) b part tests.0 ∙ ap (onto_first b) (split_free part tests.1)
 
--- a line that isn't ended goes on with the first of the parts behind it
+-- a line that isn't ended goes on with the first of the parts after it
 pub record Begins (last more : List ℕ) : Type 0 where
   pub first : List ℕ
   pub rest : List (List ℕ)
@@ -86,7 +86,7 @@ unended_free bytes = last_part_free (parts bytes) (parts_free bytes)
 pub bytes_cut : (bytes : List ℕ) → bytes ≡ lines_text (but_last (parts bytes)) ++ last_part (parts bytes)
 bytes_cut bytes = sym (join_with_byte-slice_split 10 bytes) ∙ joined_cut (parts bytes)
 
--- the lines of a text, and of what stands behind it
+-- the lines of a text, and of what comes after it
 map_append : (f : List ℕ → List ℕ) (xs ys : List (List ℕ)) → map f (xs ++ ys) ≡ map f xs ++ map f ys
 map_append f [] ys = refl
 map_append f (x ∷ xs) ys = ap (λ (l : List (List ℕ)). f x ∷ l) (map_append f xs ys)
@@ -129,7 +129,7 @@ pub lines_of_unended : (last : List ℕ) → IsFree last → 0 < length last →
 lines_of_unended [] free some = absurd (omega arith)
 lines_of_unended (b ∷ last) free some = ap (λ ps. map strip_carriage_return (lines_in ps)) (split_free (b ∷ last) free)
 
--- and the first line of it and what stands behind it
+-- and the first line of it and what comes after it
 pub record FirstLine (last more : List ℕ) : Type 0 where
   pub line : List ℕ
   pub lines : List (List ℕ)

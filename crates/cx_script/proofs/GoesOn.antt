@@ -1,4 +1,4 @@
--- What whole lines spell stays as other bytes come behind them.
+-- What whole lines spell stays as other bytes come after them.
 use Rattle.std.proofs.Common.{◌≡◌, ◌<◌, ◌+◌, ◌++◌, ℕ, Bool, true, false, List, [], ◌∷◌, length, map, refl, sym, ap, ◌∙◌, subst, append_assoc, append-nil, arith, nat_lt, if◌then◌else◌, Option, Some, None, option_map, option_to_list, Result, Ok, Err}
 use Rattle.std.specs.Str.Lines.{strip_carriage_return}
 use Rattle.std.proofs.lemmas.Bool.{cond_both}
@@ -54,7 +54,7 @@ spelled_long c n l ls long =
     let bad : Spelled = record { events = []; bad = Some n } in
     cond_both (nat_lt 65535 n) bad (with_line n (line_event c l) (spelled_from c (n + 1) ls)) (λ s. s ≡ bad) (λ e. refl) (λ e. rw (long_line c l long) refl)
 
--- the bytes of a line that isn't ended where it is longer than so many
+-- the bytes of a line that isn't ended where it is longer than `most`
 abbrev pub overlong : ℕ → List ℕ → List ℕ
 overlong most last = if nat_lt most (length (strip_carriage_return last)) then last else []
 
@@ -78,7 +78,7 @@ last_on spell n empty long_is_bad last more free =
     (λ e. subst (λ s. SpelledOn s (spell (lines_of (last ++ more)))) (sym empty)
     (record { bad = λ line h. cc; more = (spell (lines_of (last ++ more))).events; events = refl }))
 
--- what the lines behind a header spell goes on
+-- what the lines after a header spell goes on
 pub schedule_on : (c : Cluster) (ls : List (List ℕ)) (last more : List ℕ) → AreFree ls → IsFree last
     → SpelledOn (schedule_of c (lines_text ls ++ overlong 1024 last)) (schedule_of c (lines_text ls ++ (last ++ more)))
 unfolding schedule_of
@@ -87,7 +87,7 @@ schedule_on c ls last more free last_free =
     (on_lines c 1 (map strip_carriage_return ls) (lines_of (overlong 1024 last)) (lines_of (last ++ more))
     (λ m. last_on (spelled_from c m) m refl (spelled_long c m) last more last_free))
 
--- the header in whole lines, and what stands behind it as other bytes come behind
+-- the header in whole lines, and what comes after it as other bytes come after
 abbrev pub header_on : Option (List ℕ × List (List ℕ)) → List (List ℕ) → List ℕ → Option (List ℕ × List (List ℕ))
 header_on (Some (header, behind)) ls bytes = Some (header, parts (lines_text behind ++ bytes))
 header_on None ls bytes = option_map (λ (front, rest). (lines_text (map strip_carriage_return ls) ++ front, rest)) (header_in (parts bytes))

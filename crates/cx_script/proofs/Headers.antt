@@ -1,4 +1,4 @@
--- The header of whole lines, as other bytes come behind them, and how long it is.
+-- The header of whole lines, as other bytes come after them, and how long it is.
 use Rattle.std.proofs.Common.{◌≡◌, ◌≤◌, ◌<◌, ◌+◌, ◌++◌, ℕ, Bool, true, false, List, [], ◌∷◌, length, map, refl, sym, ap, ◌∙◌, append_assoc, arith, nat_lt, nat_le, if◌then◌else◌, Option, Some, None, IfSome, option_map, option_and_then, length-append}
 use Rattle.std.specs.Str.Lines.{strip_carriage_return}
 use Rattle.std.proofs.lemmas.Bool.{cond_both}
@@ -11,7 +11,7 @@ use Rattle.cx_script.proofs.Feeds.{IsFree, AreFree, split_free, split_more, line
 use Rattle.cx_script.proofs.GoesOn.{header_on, header_in_on, in_front, overlong}
 use Rattle.cx_script.proofs.WholeLines.{parts}
 
--- a header with the bytes behind it, where it isn't too long
+-- a header with the bytes after it, where it isn't too long
 abbrev pub sized : List ℕ → List ℕ → Option (List ℕ × List ℕ)
 sized header rest = if nat_le (length header) 16384 then Some (header, rest) else None
 
@@ -89,7 +89,7 @@ text_long : (found : Option (List ℕ × List (List ℕ))) (n : ℕ) → 16384 <
 text_long None n long = tt
 text_long (Some p) n long = omega (arith, long)
 
--- a header that is too long ends nowhere behind
+-- a header that is too long ends nowhere after it
 pub long_header_stays : (ls : List (List ℕ)) (last more : List ℕ) → AreFree ls → IsFree last → header_in ls ≡ None
     → is_long_header (lines_text ls ++ overlong 16384 last) ≡ true → header_of (lines_text ls ++ (last ++ more)) ≡ None
 unfolding is_long_header

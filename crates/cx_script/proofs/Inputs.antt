@@ -1,4 +1,4 @@
--- The header of an input and what stands behind it, in the bytes that count and as other bytes come behind them.
+-- The header of an input and what comes after it, in the bytes that count and as other bytes come after them.
 use Rattle.std.proofs.Common.{◌≡◌, ◌≤◌, ◌<◌, ◌+◌, ◌++◌, ℕ, Bool, true, false, List, [], length, refl, sym, ap, ◌∙◌, subst, append_assoc, append-nil, arith, nat_lt, nat_le, if◌then◌else◌, Option, Some, None, IfSome, length-append}
 use Rattle.std.specs.Str.Lines.{strip_carriage_return}
 use Rattle.std.proofs.lemmas.Bool.Decides.{nat_tests}
@@ -19,12 +19,12 @@ counted_is most bytes = by_test (nat_lt most (length (strip_carriage_return (une
     by_test true = bytes_cut bytes
     by_test false = sym (append-nil (whole_lines bytes))
 
--- a header of an input with the bytes behind it, if there is one
+-- a header of an input with the bytes after it, if there is one
 abbrev pub Cut : Type 0
 Cut = Option (List ℕ × List ℕ)
 
 -- What is to be shown of the header in the bytes that count, whether it is too long, and the header in all bytes: where it is found, the
--- same one with more bytes behind it; where it is too long, that there is none; where it hasn't ended, of whatever comes.
+-- same one with more bytes after it; where it is too long, that there is none; where it hasn't ended, of whatever comes.
 pub record OnHeader (P : Cut → Bool → Cut → Type 0) : Type 0 where
   pub found : (long : Bool) (header : List ℕ) (ls : List (List ℕ)) (last more : List ℕ) → AreFree ls → IsFree last
       → P (Some (header, lines_text ls ++ overlong 1024 last)) long (Some (header, lines_text ls ++ (last ++ more)))
@@ -65,7 +65,7 @@ header_goes_on P on bytes more =
     let all : bytes ++ more ≡ lines_text ls ++ (last ++ more) = ap (λ l. l ++ more) (bytes_cut bytes) ∙ append_assoc (lines_text ls) last more in
     rw (counted_is 1024 bytes, counted_is 16384 bytes, all) (header_on_lines P on ls last more (whole_free bytes) (unended_free bytes) (header_in ls) refl)
 
--- Good bytes behind a header are few, and a header that is too long is not good.
+-- Good bytes after a header are few, and a header that is too long is not good.
 pub record IsShort (Good : Cut → Bool → Type 0) : Type 0 where
   pub found : (long : Bool) (header : List ℕ) (ls : List (List ℕ)) (last : List ℕ) → AreFree ls → IsFree last
       → Good (Some (header, lines_text ls ++ overlong 1024 last)) long → length (lines_text ls) + length last ≤ 67239935

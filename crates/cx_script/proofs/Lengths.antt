@@ -14,7 +14,7 @@ use Rattle.cx_script.proofs.Feeds.{IsFree, AreFree, lines_of_text, lines_of_unen
 use Rattle.cx_script.proofs.GoesOn.{in_front, overlong, some_byte, spelled_long}
 use Rattle.cx_script.proofs.Headers.{open_length}
 
--- what stands behind a header has no line feed in its parts either
+-- what comes after a header has no line feed in its parts either
 pub free_behind : (ls : List (List ℕ)) → AreFree ls → IfSome (header_in ls) (λ p. AreFree p.1)
 free_behind [] free = tt
 free_behind (l ∷ ls) free = by_rule (is_rule (strip_carriage_return l)) (header_in ls) (free_behind ls free.1)
@@ -25,7 +25,7 @@ free_behind (l ∷ ls) free = by_rule (is_rule (strip_carriage_return l)) (heade
     by_rule false None behind = tt
     by_rule false (Some (header, rest)) behind = behind
 
--- the bytes of whole lines by those of a header and what stands behind it, and the header by its lines
+-- the bytes of whole lines by those of a header and what comes after it, and the header by its lines
 pub record HeaderLength (ls : List (List ℕ)) (p : List ℕ × List (List ℕ)) : Type 0 where
   pub whole : length (lines_text ls) ≤ 2 * length p.0 + 5 + length (lines_text p.1)
   pub header : length p.0 ≤ length (lines_text (map strip_carriage_return ls))

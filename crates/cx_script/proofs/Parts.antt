@@ -11,7 +11,8 @@ use Rattle.cx_base.specs.Role.{kind_text, role}
 use Rattle.cx_script.specs.declared.fault.LineFault.{LineFault}
 use Rattle.cx_script.specs.declared.fault.LineFault.TheVariants.{Number, Role, Grid}
 use Rattle.cx_script.specs.Grammar.{◌>>=◌, next, ended, grid_at}
-use Rattle.cx_script.specs.Names.{count_of, is_client, names_server, names_members}
+use Rattle.cx_base.specs.Cluster.{count_of}
+use Rattle.cx_script.specs.Names.{is_client, names_server, names_members}
 use Rattle.cx_script.specs.Places.{from_one, seq_word, below, index_below, kind_part, index_part, index_word, server_kinds, server_kind, server_in, server_word, sides_word, ids_of, grid_of, members_word}
 use Rattle.cx_script.specs.Words.{number_of}
 

@@ -1,4 +1,4 @@
--- What whole lines of requests spell stays as other bytes come behind them, and how long they can be where none is bad.
+-- What whole lines of requests spell stays as other bytes come after them, and how long they can be where none is bad.
 use Rattle.std.proofs.Common.{◌≡◌, ◌≤◌, ◌<◌, ◌+◌, ◌++◌, ℕ, Bool, true, false, List, [], ◌∷◌, length, map, refl, nat_lt, if◌then◌else◌, Option, Some, None, Result, Ok, Err}
 use Rattle.std.specs.Str.Lines.{strip_carriage_return}
 use Rattle.std.proofs.lemmas.Bool.{cond_both}
@@ -26,7 +26,7 @@ requests_long c n events l ls long =
     let bad : Spelled = record { events = []; bad = Some n } in
     cond_both (nat_lt 65535 n) bad (with_line n (request_behind events (line_event c l)) (requests_from c (n + 1) (with_event events (line_event c l)) ls)) (λ s. s ≡ bad) (λ e. refl) (λ e. rw (long_line c l long) refl)
 
--- what the lines behind a node's header spell goes on
+-- what the lines after a node's header spell goes on
 pub requests_on : (c : Cluster) (ls : List (List ℕ)) (last more : List ℕ) → AreFree ls → IsFree last
     → SpelledOn (requests_of c (lines_text ls ++ overlong 1024 last)) (requests_of c (lines_text ls ++ (last ++ more)))
 unfolding requests_of

@@ -69,7 +69,7 @@ is_taken before told e r client seq spelled is least tells above =
     let test : nat_lt (greatest client before) seq ≡ true = rw (tells client least) at above in
     rw (spelled, is, test) refl
 
--- and its number is told from then on
+-- and its number is known from then on
 pub tells_next : (before : List Event) (told : List ℕ) (e : Event) (client seq : ℕ) → asker e ≡ Some (client, seq)
     → client < 64 → client < length told → Tells before told → nat_lt (get_or told client 0) seq ≡ true → Tells (before ++ e ∷ []) (slice_set told client seq)
 tells_next before told e client seq is least inside tells above = λ other small_too.

@@ -26,7 +26,7 @@ not_empty : (part : List ℕ) → 0 < length part → is_empty part ≡ false
 not_empty [] some = absurd (omega arith)
 not_empty (b ∷ bs) some = refl
 
--- the first line, and those behind it
+-- the first line, and those after it
 pub line_first : (bytes part : List ℕ) (behind : Option (List ℕ)) → 0 < length bytes → slice_split (λ b. b == 10) bytes ≡ part ∷ parts_of 10 behind
     → lines_of bytes ≡ strip_carriage_return part ∷ lines_of (unwrap_or behind [])
 line_first bytes part None some parts =

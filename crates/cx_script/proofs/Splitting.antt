@@ -1,4 +1,4 @@
--- The words of a line, from the front on.
+-- The words of a line, from the first on.
 use Rattle.std.proofs.Common.{◌≡◌, ℕ, zero, suc, ◌<◌, ◌+◌, true, false, not, List, [], ◌∷◌, get_or, take, drop, length, None, Some, refl, sym, ap, ◌∙◌, arith, true≢false}
 use Rattle.std.specs.List.{position}
 use Rattle.std.proofs.lemmas.Bool.{not-false}
@@ -10,7 +10,7 @@ use Rattle.cx_script.proofs.Cuts.{none_passes, split_none, split_some}
 words_blank : (b : ℕ) (bs : List ℕ) → is_blank b ≡ true → words_of (b ∷ bs) ≡ words_of bs
 words_blank b bs h = rw h refl
 
--- blanks at the front are passed over
+-- blanks at the start are passed over
 skipped : (line : List ℕ) (i : ℕ) → ((k : ℕ) → k < i → is_blank (get_or line k 0) ≡ true) → words_of (drop i line) ≡ words_of line
 skipped line zero blank = refl
 skipped [] (suc i) blank = refl

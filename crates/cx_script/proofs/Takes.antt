@@ -2,7 +2,7 @@
 use Rattle.std.proofs.Common.{◌≡◌, ◌&&◌, ◌+◌, ℕ, Bool, true, false, nat_lt, List, [], ◌∷◌, length, codes, Option, None, Some, Result, Ok, Err, IfOk, IfSome, refl, subst, if◌then◌else◌}
 use Rattle.std.specs.List.{list_all}
 use Rattle.std.specs.Str.{bytes_eq}
-use Rattle.cx_base.specs.Asked.{takes_event}
+use Rattle.cx_base.specs.Asked.{is_valid_event}
 use Rattle.cx_base.specs.declared.cluster.Cluster.{Cluster}
 use Rattle.cx_base.specs.declared.event.Event.{Event}
 use Rattle.cx_base.specs.declared.event.Event.TheVariants as event
@@ -23,7 +23,7 @@ use Rattle.cx_script.proofs.Parts.{then_ok, either_ok, next_ok, ended_ok, whatev
 
 -- the world takes the event, and its names lie in the cluster
 pub record IsGood (c : Cluster) (e : Event) : Type 0 where
-  pub taken : takes_event e ≡ true
+  pub taken : is_valid_event e ≡ true
   pub named : names_event c e ≡ true
 
 all_three : (a b d : Bool) → a ≡ true → b ≡ true → d ≡ true → (a && b && d) ≡ true

@@ -22,7 +22,7 @@ pub last_part-cons : (part : List ℕ) (rest : List (List ℕ)) → 0 < length r
 last_part-cons part [] some = absurd (omega arith)
 last_part-cons part (next ∷ rest) some = refl
 
--- behind the next line feed
+-- after the next line feed
 pub record Feed (bytes : List ℕ) (start next : ℕ) : Type 0 where
   pub within : next ≤ length bytes
   pub whole : take next bytes ++ lines_text (but_last (parts (drop next bytes))) ≡ take start bytes ++ lines_text (but_last (parts (drop start bytes)))

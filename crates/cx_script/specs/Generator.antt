@@ -14,7 +14,7 @@ use Rattle.cx_base.specs.declared.role.RoleId.{RoleId}
 use Rattle.cx_base.specs.Grid.{Shape, make_grid}
 use Rattle.cx_base.specs.Lists.{below}
 use Rattle.cx_base.specs.Role.{role}
-use Rattle.cx_script.specs.Names.{count_of}
+use Rattle.cx_base.specs.Cluster.{count_of}
 use Rattle.cx_script.specs.Places.{server_kinds}
 
 -- the cluster of generated events
@@ -70,7 +70,7 @@ gen_grid c =
     else if c % 3 == 1 then make_grid 2 2 (2 ∷ 3 ∷ 4 ∷ 5 ∷ [])
     else make_grid 1 3 (0 ∷ 2 ∷ 4 ∷ [])
 
--- one of the last 24 datagrams of so many that were sent
+-- one of the last 24 datagrams that were sent
 abbrev pub gen_number : ℕ → ℕ → ℕ
 gen_number sent b = if sent == 0 then 0 else sent - 1 - b % min sent 24
 
@@ -103,7 +103,7 @@ later_event made sent a b c d =
     else if nat_le a 94 then Crash (gen_server b)
     else Restart (gen_server b)
 
--- the event after so many, when so many datagrams were sent, by its four draws
+-- the event after `made` others, when `sent` datagrams were sent, by its four draws
 unfoldable pub gen_event : ℕ → ℕ → ℕ → ℕ → ℕ → ℕ → Event
 gen_event made sent a b c d = if made == 0 then Order 0 (Lead first_grid) Whole else later_event made sent (a % 100) b c d
 

@@ -25,7 +25,7 @@ abbrev pub ◌>>=◌ : {A B : Type 0} → Result A LineFault → (A → Result B
 (Ok part) >>= next = next part
 (Err fault) >>= next = Err fault
 
--- a part of a line, and the words behind it
+-- a part of a line, and the words after it
 abbrev pub Part : Type 0 → Type 0
 Part A = Result (A × List (List ℕ)) LineFault
 
@@ -109,7 +109,7 @@ collect_event c words = next (index_word c Leader) words >>= (λ (leader, words)
 unfoldable pub server_of : Cluster → List (List ℕ) → Result RoleId LineFault
 server_of c words = next (server_word c) words >>= (λ (role, words). ended role words)
 
--- the event that a line's first word and the words behind it spell
+-- the event that a line's first word and the words after it spell
 unfoldable pub event_of : Cluster → List ℕ → List (List ℕ) → Result Event LineFault
 event_of c verb words =
     if bytes_eq verb (codes "write") then write_event c words

@@ -1,4 +1,4 @@
--- The lines of a schedule behind its header, and the events that they spell.
+-- The lines of a schedule after its header, and the events that they spell.
 use Rattle.std.specs.Prelude.{ℕ, ◌+◌, ◌==◌, nat_lt, List, [], ◌∷◌, ◌++◌, map, Option, None, Some, option_to_list, Result, Ok, Err, if◌then◌else◌}
 use Rattle.std.specs.List.{slice_split}
 use Rattle.std.specs.Str.Lines.{strip_carriage_return}
@@ -34,6 +34,6 @@ spelled_from c n [] = record { events = []; bad = None }
 spelled_from c n (line ∷ lines) =
     if nat_lt 65535 n then record { events = []; bad = Some n } else with_line n (line_event c line) (spelled_from c (n + 1) lines)
 
--- what the bytes behind a header spell; lines count from 1
+-- what the bytes after a header spell; lines count from 1
 unfoldable pub schedule_of : Cluster → List ℕ → Spelled
 schedule_of c bytes = spelled_from c 1 (lines_of bytes)

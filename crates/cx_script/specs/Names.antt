@@ -1,5 +1,5 @@
--- Which roles a cluster has, and which names of an event lie in it.
-use Rattle.std.specs.Prelude.{ℕ, ◌+◌, ◌*◌, Bool, true, false, ◌&&◌, not, nat_lt}
+-- Which names of an event lie in a cluster.
+use Rattle.std.specs.Prelude.{Bool, true, false, ◌&&◌, not, nat_lt}
 use Rattle.std.specs.List.{list_all}
 use Rattle.cx_base.specs.declared.cluster.Cluster.{Cluster}
 use Rattle.cx_base.specs.declared.event.Event.{Event}
@@ -10,19 +10,8 @@ use Rattle.cx_base.specs.declared.event.Order.TheVariants.{Lead, Change, Collect
 use Rattle.cx_base.specs.declared.role.Kind.{Kind}
 use Rattle.cx_base.specs.declared.role.Kind.TheVariants.{Client, Batcher, Leader, Proxy, Acceptor, Matchmaker, Replica, Unbatcher, Reader}
 use Rattle.cx_base.specs.declared.role.RoleId.{RoleId}
+use Rattle.cx_base.specs.Cluster.{count_of}
 use Rattle.cx_base.specs.Grid.{Shape}
-
--- how many roles of a kind there are
-abbrev pub count_of : Cluster → Kind → ℕ
-count_of c Client = c.clients
-count_of c Batcher = c.batchers
-count_of c Leader = c.leaders
-count_of c Proxy = c.proxies
-count_of c Acceptor = c.acceptors
-count_of c Matchmaker = 2 * c.f + 1
-count_of c Replica = c.replicas
-count_of c Unbatcher = c.unbatchers
-count_of c Reader = c.readers
 
 abbrev pub is_client : Kind → Bool
 is_client Client = true

@@ -11,7 +11,7 @@ use Rattle.cx_base.specs.Name.{name_of}
 use Rattle.cx_base.specs.Role.{kind_text, role}
 use Rattle.cx_script.specs.declared.fault.LineFault.{LineFault}
 use Rattle.cx_script.specs.declared.fault.LineFault.TheVariants.{Number, Role, Grid, Key}
-use Rattle.cx_script.specs.Names.{count_of}
+use Rattle.cx_base.specs.Cluster.{count_of}
 use Rattle.cx_script.specs.Words.{number_of}
 
 -- SEQ: a request's number, at least 1

@@ -42,7 +42,7 @@ abbrev pub greatest : ℕ → List Event → ℕ
 greatest client [] = 0
 greatest client (e ∷ es) = if asks client e then max (number_of e) (greatest client es) else greatest client es
 
--- a list tells the greatest number of each client
+-- a list has the greatest number of each client
 abbrev pub Tells : List Event → List ℕ → Type 0
 Tells before told = (client : ℕ) → client < 64 → get_or told client 0 ≡ greatest client before
 
@@ -54,7 +54,7 @@ is_above before (Some (client, seq)) = nat_lt (greatest client before) seq
 abbrev pub rises : List Event → Event → Bool
 rises before e = is_above before (asker e)
 
--- a line behind others, whose events are known: an event is a request whose number rises
+-- a line after others, whose events are known: an event is a request whose number rises
 abbrev pub request_behind : List Event → Result (Option Event) LineFault → Result (Option Event) LineFault
 request_behind before (Err fault) = Err fault
 request_behind before (Ok None) = Ok None
@@ -65,14 +65,14 @@ abbrev pub with_event : List Event → Result (Option Event) LineFault → List 
 with_event before (Err fault) = before
 with_event before (Ok event) = before ++ option_to_list event
 
--- what the lines from the n-th on spell behind these events; a line that isn't such a request is bad, as is the 65,536th
+-- what the lines from the n-th on spell after these events; a line that isn't such a request is bad, as is the 65,536th
 abbrev pub requests_from : Cluster → ℕ → List Event → List (List ℕ) → Spelled
 requests_from c n before [] = record { events = []; bad = None }
 requests_from c n before (line ∷ lines) =
     if nat_lt 65535 n then record { events = []; bad = Some n }
     else with_line n (request_behind before (line_event c line)) (requests_from c (n + 1) (with_event before (line_event c line)) lines)
 
--- what the bytes behind a node's header spell; lines count from 1
+-- what the bytes after a node's header spell; lines count from 1
 unfoldable pub requests_of : Cluster → List ℕ → Spelled
 requests_of c bytes = requests_from c 1 [] (lines_of bytes)
 

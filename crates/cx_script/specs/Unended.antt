@@ -1,4 +1,4 @@
--- What counts of bytes behind which others may come: their whole lines, and the last line too where it is too long already.
+-- What counts of bytes after which others may come: their whole lines, and the last line too where it is too long already.
 use Rattle.std.specs.Prelude.{ℕ, Bool, ◌==◌, nat_lt, List, [], ◌∷◌, ◌++◌, length, if◌then◌else◌}
 use Rattle.std.specs.List.{slice_split}
 use Rattle.std.specs.Str.Lines.{strip_carriage_return}
@@ -20,14 +20,14 @@ abbrev pub lines_text : List (List ℕ) → List ℕ
 lines_text [] = []
 lines_text (line ∷ lines) = line ++ 10 ∷ lines_text lines
 
--- the bytes up to the last line feed, and those behind it
+-- the bytes up to the last line feed, and those after it
 abbrev pub whole_lines : List ℕ → List ℕ
 whole_lines bytes = lines_text (but_last (slice_split (λ b. b == 10) bytes))
 
 abbrev pub unended : List ℕ → List ℕ
 unended bytes = last_part (slice_split (λ b. b == 10) bytes)
 
--- all bytes where the line that isn't ended has more than so many already, else the whole lines
+-- all bytes where the line that isn't ended has more than `most` already, else the whole lines
 unfoldable pub counted : ℕ → List ℕ → List ℕ
 counted most bytes = if nat_lt most (length (strip_carriage_return (unended bytes))) then bytes else whole_lines bytes
 

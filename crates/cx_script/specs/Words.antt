@@ -12,7 +12,7 @@ abbrev pub is_empty : List ℕ → Bool
 is_empty [] = true
 is_empty (b ∷ bs) = false
 
--- the words of a line: what stands between its blanks
+-- the words of a line: what is between its blanks
 abbrev pub words_of : List ℕ → List (List ℕ)
 words_of line = filter (λ word. not (is_empty word)) (slice_split is_blank line)
 

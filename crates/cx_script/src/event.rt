@@ -7,10 +7,7 @@ use crate::fault::LineFault;
 use crate::place::is;
 use crate::split::first_word;
 use crate::words::Words;
-use cx_base::{Cluster, Command, Cut, Event, Grid, Kind, Order, RoleId};
-
-/// The greatest length of a line, in bytes without its line feed and carriage return.
-pub const MAX_LINE_LENGTH: usize = 1024;
+use cx_base::{Cluster, Command, Cut, Event, Grid, Kind, MAX_LINE_LENGTH, Order, RoleId};
 
 #[tactic(auto, unfolding(crate::specs::Grammar::write_event))]
 fn write_event(cluster: &Cluster, mut words: Words) -> Result<Event, LineFault>
@@ -122,7 +119,7 @@ fn event(cluster: &Cluster, verb: &[u8], words: Words) -> Result<Event, LineFaul
 /// The event of a line without its line feed, or its first fault. None exactly for a comment, whose first word begins with
 /// `#`, and where there is no word. It takes no memory.
 ///
-/// Words are parted by spaces and tabs. The lines, in this project's own language:
+/// Words are separated by spaces and tabs. The lines, in this project's own language:
 ///
 /// - `write client:C SEQ batcher:B put K T`, the same with `app K T` and with `del K`
 /// - `read client:C SEQ reader:R replica:P K`

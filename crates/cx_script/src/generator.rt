@@ -165,7 +165,7 @@ fn event(made: u64, sent: u64, a: u64, b: u64, c: u64, d: u64) -> Event
 
 /// A generator of events: deliveries for two thirds, then requests, ticks, orders, crashes and restarts (this project's own
 /// mixture).
-#[derive(Debug, Drop)]
+#[derive(Drop)]
 pub struct Gen {
     x: u64,
     made: u64,
@@ -201,7 +201,7 @@ impl Gen {
         self.x >> 32
     }
 
-    /// The next event of a run in which so many datagrams were sent; a request's number is one more than the number of the
+    /// The next event of a run in which this many datagrams were sent; a request's number is one more than the number of the
     /// events before. It takes no memory.
     #[tactic(auto, unfolding(crate::specs::Generator::next_event, crate::specs::Generator::next_state))]
     pub fn next(&mut self, sent: u64) -> Event

@@ -6,11 +6,8 @@ ghost use Rattle.cx_script.specs.Header.{is_rule, header_of};
 use crate::lines::without_return;
 use crate::place::is;
 use crate::split::{first_part, or_empty};
-use cx_base::NoMemory;
+use cx_base::{MAX_HEADER_LENGTH, NoMemory};
 use std::alloc::Global;
-
-/// The greatest length of a header, in bytes, each line with its line feed.
-pub const MAX_HEADER_LENGTH: usize = 16384;
 
 const LINE_FEED: u8 = b'\n';
 
@@ -20,7 +17,7 @@ fn is_rule(line: &[u8]) -> bool
     is(line, "---")
 }
 
-/// The header's text and the bytes behind the line `---` that ends it, or None where there is no such line or the text is
+/// The header's text and the bytes after the line `---` that ends it, or None where there is no such line or the text is
 /// longer than 16,384 bytes. The text is the lines before that one, each without a carriage return at its end and with a line
 /// feed.
 #[tactic(auto, unfolding(crate::specs::Header::header_of))]

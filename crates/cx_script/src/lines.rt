@@ -1,22 +1,17 @@
-//! The lines behind a header, and their events.
+//! The lines after a header, and their events.
 
 ghost use Rattle.std.specs.Prelude.{◌≡◌, ◌∷◌, ◌++◌, ◌<◌, [], length, IfOk, IfNone, IfSome, OnOk, option_to_list};
 ghost use Rattle.std.specs.Str.Lines.{strip_carriage_return};
-ghost use Rattle.cx_script.specs.Lines.{lines_of, schedule_of};
+ghost use Rattle.cx_script.specs.Lines.{lines_of};
 
-use crate::event::line;
 use crate::split::{first_part, or_empty};
-use cx_base::{Cluster, Event, NoMemory};
-use std::alloc::Global;
+use cx_base::{Event, NoMemory};
 use std::marker::Model;
-
-/// The greatest number of lines behind the header.
-pub const MAX_LINES: u64 = 65535;
 
 const LINE_FEED: u8 = b'\n';
 
 /// What was read of a schedule: the events up to the first bad line and its number, or all events.
-#[derive(Debug, Drop)]
+#[derive(Drop)]
 pub struct Schedule {
     events: Vec<Event>,
     bad: Option<u64>,
@@ -63,7 +58,7 @@ pub fn without_return(part: &[u8]) -> &[u8]
     }
 }
 
-/// The first line of what is left, and what stands behind it, or None at the end.
+/// The first line of what is left, and what comes after it, or None at the end.
 pub fn first_line(bytes: &[u8]) -> Option<(&[u8], &[u8])>
     ensures none { IfNone result (lines_of bytes.now ≡ []) }
     ensures some { IfSome result (λ p. lines_of bytes.now ≡ p.0.now ∷ lines_of p.1.now) }
@@ -76,7 +71,7 @@ pub fn first_line(bytes: &[u8]) -> Option<(&[u8], &[u8])>
     Some((without_return(part), or_empty(behind)))
 }
 
-/// Puts a value behind a list, if there is one.
+/// Puts a value at the end of a list, if there is one.
 pub fn keep<T: Copy + Drop>(list: &mut Vec<T>, value: &Option<T>) -> Result<(), NoMemory>
     ensures { OnOk result (list.new.items ≡ list.old.items ++ option_to_list value.now) }
 {
@@ -84,28 +79,4 @@ pub fn keep<T: Copy + Drop>(list: &mut Vec<T>, value: &Option<T>) -> Result<(), 
         list.push(*value)?;
     }
     Ok(())
-}
-
-/// What the bytes behind a header spell. A line ends with a line feed, which the last may lack, and loses one carriage return
-/// at its end. Lines count from 1, comments and blank ones too, and the 65,536th is bad.
-#[tactic(auto, unfolding(crate::specs::Lines::schedule_of))]
-pub fn read_schedule(alloc: Global, cluster: &Cluster, bytes: &[u8]) -> Result<Schedule, NoMemory>
-    ensures { IfOk result (λ schedule. schedule ≡ schedule_of cluster.now bytes.now) }
-{
-    let mut events = Vec::new(alloc);
-    let mut rest = bytes;
-    let mut number = 0;
-    while let Some((text, behind)) = first_line(rest) {
-        number += 1;
-        let bad = Some(number);
-        if number > MAX_LINES {
-            return Ok(Schedule { events, bad });
-        }
-        let Ok(event) = line(cluster, text) else {
-            return Ok(Schedule { events, bad });
-        };
-        keep(&mut events, &event)?;
-        rest = behind;
-    }
-    Ok(Schedule { events, bad: None })
 }

@@ -4,11 +4,10 @@ ghost use Rattle.std.specs.Prelude.{◌≡◌};
 ghost use Rattle.std.specs.Str.{bytes_eq};
 ghost use Rattle.cx_script.specs.Places.{seq_word, number_word, key_word, text_word, index_below, index_word, server_kind, server_word};
 
-use crate::count::count_of;
 use crate::decimal::number;
 use crate::fault::LineFault;
 use crate::split::parted;
-use cx_base::{Cluster, Key, Kind, RoleId, Text};
+use cx_base::{Cluster, Key, Kind, RoleId, Text, count_of};
 
 /// Whether a word is a text.
 pub fn is(word: &[u8], text: &str) -> bool

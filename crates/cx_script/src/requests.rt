@@ -7,8 +7,8 @@ ghost use Rattle.cx_script.specs.Requests.{Tells, asker, asks, request_behind, r
 
 use crate::event::line;
 use crate::fault::LineFault;
-use crate::lines::{MAX_LINES, Schedule, first_line, keep};
-use cx_base::{Cluster, Event, Greatest, NoMemory};
+use crate::lines::{Schedule, first_line, keep};
+use cx_base::{Cluster, Event, Greatest, MAX_LINES, NoMemory};
 use std::alloc::Global;
 
 // The client and the number of a request.
@@ -34,7 +34,7 @@ fn rises(greatest: &mut Greatest, client: u16, seq: u64) -> bool
     above
 }
 
-// A line behind others, of which the greatest number of each client is known.
+// A line after others, of which the greatest number of each client is known.
 fn request(
     cluster: &Cluster,
     greatest: &mut Greatest,
@@ -52,8 +52,9 @@ fn request(
     }
 }
 
-/// What the bytes behind a node's header spell: requests, as `read_schedule` reads them. A line of another kind is bad, and one
-/// whose number isn't above its client's earlier ones.
+/// What the bytes after a node's header spell: requests. A line ends with a line feed, which the last may lack, and loses one
+/// carriage return at its end. Lines count from 1, comments and blank ones too. A line of another kind is bad, one whose number
+/// isn't above its client's earlier ones, and the 65,536th.
 #[tactic(auto, unfolding(crate::specs::Requests::requests_of))]
 pub fn read_requests(alloc: Global, cluster: &Cluster, bytes: &[u8]) -> Result<Schedule, NoMemory>
     ensures { IfOk result (λ schedule. schedule ≡ requests_of cluster.now bytes.now) }

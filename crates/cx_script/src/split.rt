@@ -34,7 +34,7 @@ fn trimmed(line: &[u8]) -> Option<&[u8]>
     Some(&line[start..])
 }
 
-/// The first word of a line, and what stands behind it, or None where the line has no word.
+/// The first word of a line, and what comes after it, or None where the line has no word.
 pub fn first_word(line: &[u8]) -> Option<(&[u8], &[u8])>
     ensures none { IfNone result (words_of line.now ≡ []) }
     ensures some { IfSome result (λ p. words_of line.now ≡ p.0.now ∷ words_of p.1.now) }
@@ -53,7 +53,7 @@ pub fn place_of(word: &[u8], at: u8) -> Option<usize>
     word.iter().position(|byte| *byte == at)
 }
 
-/// What stands before the first such byte of a word and what behind it: the whole word and nothing where there is none.
+/// What is before the first such byte of a word and what after it: the whole word and nothing where there is none.
 pub fn parted(word: &[u8], at: u8) -> (&[u8], &[u8])
     ensures front { result.0.now ≡ before_first (λ b. b == at) word.now }
     ensures back { result.1.now ≡ after_first (λ b. b == at) word.now }
@@ -64,7 +64,7 @@ pub fn parted(word: &[u8], at: u8) -> (&[u8], &[u8])
     }
 }
 
-/// The first of the parts round such bytes, and what stands behind it, or None where there is no such byte.
+/// The first of the parts round such bytes, and what comes after it, or None where there is no such byte.
 pub fn first_part(bytes: &[u8], at: u8) -> (&[u8], Option<&[u8]>)
     ensures parts { slice_split (λ b. b == at) bytes.now ≡ result.0.now ∷ parts_of at (option_copied result.1) }
     ensures shorter { IfSome result.1 (λ rest. length rest.now < length bytes.now) }

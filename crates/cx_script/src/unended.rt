@@ -1,15 +1,15 @@
-//! What counts of bytes behind which others may come.
+//! What counts of bytes after which others may come.
 
 ghost use Rattle.std.specs.Prelude.{◌≡◌, ◌≤◌, ◌==◌, drop, length, position, take};
 ghost use Rattle.cx_script.specs.Unended.{counted, is_long_header, unended, whole_lines};
 
-use crate::header::MAX_HEADER_LENGTH;
 use crate::lines::{first_line, without_return};
 use crate::split::place_of;
+use cx_base::MAX_HEADER_LENGTH;
 
 const LINE_FEED: u8 = b'\n';
 
-// How far behind the start the next line feed is.
+// How far after the start the next line feed is.
 fn feed_from(bytes: &[u8], start: usize) -> Option<usize>
     requires { start ≤ length bytes.now }
     ensures { result ≡ position (λ b. b == 10) (drop start bytes.now) }
@@ -30,7 +30,7 @@ fn whole_length(bytes: &[u8]) -> usize
     start
 }
 
-/// What counts of bytes behind which others may come, where a line has at most so many bytes: the whole lines, which are ended
+/// What counts of bytes after which others may come, where a line has at most `most` bytes: the whole lines, which are ended
 /// by a line feed, and the last one too where it is longer already. It takes no memory.
 #[tactic(auto, unfolding(crate::specs::Unended::counted))]
 pub fn counted(bytes: &[u8], most: usize) -> &[u8]

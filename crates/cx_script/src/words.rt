@@ -123,7 +123,7 @@ impl<'a> Words<'a> {
         }
     }
 
-    /// The end of the line, before which a word may stand: `torn` or `kept`.
+    /// The end of the line, before which a word may be: `torn` or `kept`.
     pub fn cut(self) -> Result<Cut, LineFault>
         ensures { result ≡ cut_at self.entry }
     {

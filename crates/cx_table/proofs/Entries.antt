@@ -36,25 +36,3 @@ still_by_client answer (e ∷ es) own = choose (nat_eq answer.client e.0) (same_
         → AreByClient (if b then (e.0, answer) ∷ es else e ∷ insert_entry nat_eq es answer.client answer)
     choose true same later = (grind (arith, nat_tests), own.1)
     choose false same later = (own.0, later)
-
-module _ {V : Type 0} where
-  keys_at : (P : ℕ → Type 0) (front later : List (ℕ × V)) (e : ℕ × V) → AllByRecursion P (keys_of (front ++ e ∷ later)) → P e.0
-  keys_at P [] later e all = all.0
-  keys_at P (f ∷ front) later e all = keys_at P front later e all.1
-
-  -- a key that stands nowhere in front of the others goes last
-  new_goes_last : (front later : List (ℕ × V)) (e : ℕ × V) → IsDistinct nat_eq (keys_of (front ++ e ∷ later)) → insert_entry nat_eq front e.0 e.1 ≡ front ++ e ∷ []
-  unfolding IsDistinct
-  new_goes_last [] later e distinct = refl
-  new_goes_last (f ∷ front) later e distinct =
-      let differs : nat_eq f.0 e.0 ≡ false = keys_at (λ y. nat_eq f.0 y ≡ false) front later e distinct.0 in
-      let other : nat_eq e.0 f.0 ≡ false = sym (same_test f.0 e.0) ∙ differs in
-      rw other (ap (λ l. f ∷ l) (new_goes_last front later e distinct.1))
-
-  -- pairs with distinct keys, put behind others one by one, stand there in their order
-  pub all_put : (front es : List (ℕ × V)) → IsDistinct nat_eq (keys_of (front ++ es)) → insert_all nat_eq front es ≡ front ++ es
-  all_put front [] distinct = sym (append-nil front)
-  all_put front (e ∷ es) distinct =
-      let moved : (front ++ e ∷ []) ++ es ≡ front ++ e ∷ es = append_assoc front (e ∷ []) es in
-      ap (λ l. insert_all nat_eq l es) (new_goes_last front es e distinct)
-      ∙ all_put (front ++ e ∷ []) es (subst (λ l. IsDistinct nat_eq (keys_of l)) (sym moved) distinct) ∙ moved

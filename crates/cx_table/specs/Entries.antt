@@ -7,7 +7,7 @@ abbrev pub answers_in : List (ℕ × Answered) → List Answered
 answers_in [] = []
 answers_in (e ∷ es) = e.1 ∷ answers_in es
 
--- each answer stands under its client
+-- each answer is under its client
 abbrev pub AreByClient : List (ℕ × Answered) → Type 0
 AreByClient [] = Unit {0}
 AreByClient (e ∷ es) = (e.1.client ≡ e.0) × AreByClient es

@@ -16,3 +16,7 @@ behind old more now new put begins = begins_more old more new (subst (λ l. take
 pub on_err : {T E : Type 0} (result : Result T E) {P : Type 0} → P → OnErr result P
 on_err (Ok x) p = tt
 on_err (Err e) p = p
+
+pub still_on_err : {T E : Type 0} (result : Result T E) {P Q : Type 0} → (P → Q) → OnErr result P → OnErr result Q
+still_on_err (Ok x) f p = tt
+still_on_err (Err e) f p = f p

@@ -17,16 +17,16 @@ op_text (Put key text) = codes "put " ++ key ++ codes " " ++ text
 op_text (Del key) = codes "del " ++ key
 op_text (App key text) = codes "app " ++ key ++ codes " " ++ text
 
--- whether a command acts behind these, in a word
+-- whether a command acts after these, in a word
 unfoldable pub acts_text : List Command → Command → List ℕ
 acts_text before c = if acts before c then codes "acts" else codes "past"
 
--- the line of a command in its slot, behind these
+-- the line of a command in its slot, after these
 unfoldable pub command_text : ℕ → List Command → Command → List ℕ
 command_text slot before c =
     decimal slot ++ codes " " ++ request_text c.client c.seq ++ codes " " ++ op_text c.op ++ codes " " ++ acts_text before c ++ codes "\n"
 
--- the lines of the commands of a slot, each behind all before it
+-- the lines of the commands of a slot, each after all before it
 abbrev pub commands_text : ℕ → List Command → List Command → List ℕ
 commands_text slot before [] = []
 commands_text slot before (c ∷ cs) = command_text slot before c ++ commands_text slot (before ++ c ∷ []) cs

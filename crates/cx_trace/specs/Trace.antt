@@ -1,5 +1,5 @@
 -- The lines of the trace: events, and the datagrams that they send.
-use Rattle.std.specs.Prelude.{ℕ, ◌+◌, List, [], ◌∷◌, ◌++◌, codes, decimal, Option, None, Some}
+use Rattle.std.specs.Prelude.{ℕ, Bool, ◌+◌, ◌==◌, ◌||◌, List, [], ◌∷◌, ◌++◌, codes, decimal, Option, None, Some}
 use Rattle.cx_base.specs.Role.{role, role_text}
 use Rattle.cx_base.specs.Why.{why_text}
 use Rattle.cx_base.specs.declared.event.Event.{Event}
@@ -40,7 +40,7 @@ happening_text (event.Order leader order cut) who = order_text order ++ role_tex
 happening_text (event.Crash r) who = codes "crash " ++ role_text r
 happening_text (event.Restart r) who = codes "restart " ++ role_text r
 
--- the line of an event, with its number and what it came to
+-- the line of an event, with its number and its result
 unfoldable pub event_text : Event → Effect → List ℕ
 event_text e effect =
     codes "@" ++ decimal effect.event ++ codes " " ++ happening_text e effect.who ++ codes " " ++ why_text effect.why ++ codes "\n"
@@ -87,14 +87,25 @@ told_text client (PreRead a b) = []
 told_text client (PreReadAck a b c) = []
 told_text client (Read a b c) = []
 
+-- what a datagram tells the client that gets it
+unfoldable pub told_of : Letter → List ℕ
+told_of d = told_text d.to.index d.msg
+
+-- whether messages of a kind tell the client that gets them something: answers, and what reads found
+abbrev pub tells : ℕ → Bool
+tells kind = kind == 16 || kind == 29
+
+-- a number, two roles and a name
+abbrev pub named_text : ℕ → RoleId → RoleId → List ℕ → List ℕ
+named_text n from to name = codes "+" ++ decimal n ++ codes " " ++ role_text from ++ codes " " ++ role_text to ++ codes " " ++ name ++ codes " "
+
 -- the line of a datagram up to its body: its number, who sends it, who gets it, and its name
 unfoldable pub head_text : ℕ → Letter → List ℕ
-head_text n d =
-    codes "+" ++ decimal n ++ codes " " ++ role_text d.from ++ codes " " ++ role_text d.to ++ codes " " ++ name_of_message d.msg ++ codes " "
+head_text n d = named_text n d.from d.to (name_of_message d.msg)
 
--- the line of a datagram, and behind it what it tells a client
+-- the line of a datagram, and after it what it tells a client
 unfoldable pub datagram_text : ℕ → Letter → List ℕ
-datagram_text n d = head_text n d ++ hex (body d) ++ codes "\n" ++ told_text d.to.index d.msg
+datagram_text n d = head_text n d ++ hex (body d) ++ codes "\n" ++ told_of d
 
 -- the lines of datagrams, whose numbers rise from n
 abbrev pub datagrams_text : ℕ → List Letter → List ℕ

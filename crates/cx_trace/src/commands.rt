@@ -32,7 +32,7 @@ fn put_op(text: &mut Vec<u8>, op: &Op) -> Result<(), NoMemory>
     }
 }
 
-// Whether a command acts behind those before it, in a word.
+// Whether a command acts after those before it, in a word.
 #[tactic(auto, unfolding(crate::specs::Summary::acts_text))]
 fn put_acts(text: &mut Vec<u8>, before: &Executed, command: &Command) -> Result<(), NoMemory>
     ensures ok { OnOk result (text.new.items ≡ text.old.items ++ acts_text before.now command.now) }
@@ -103,7 +103,7 @@ fn put_slot(
 }
 
 /// Appends the lines of a slot (this project's own format): its number, and `noop` or a command with `acts` or `past`, by the
-/// commands that stand before it. Those grow by the slot's. An `Err` appends nothing.
+/// commands that come before it. Those grow by the slot's. An `Err` appends nothing.
 pub fn slot_into(
     slot: u64,
     before: &mut Executed,

@@ -1,18 +1,20 @@
 //! The lines of datagrams.
 
-ghost use Rattle.std.specs.Prelude.{◌≡◌, ◌+◌, ◌<◌, ◌^◌, ◌++◌, length, OnErr, OnOk};
-ghost use Rattle.cx_trace.specs.Trace.{datagram_text, datagrams_text, head_text, told_text};
+ghost use Rattle.std.specs.Prelude.{◌≡◌, ◌++◌, codes, decimal, length, take, OnErr, OnOk};
+ghost use Rattle.cx_base.specs.Role.{role_text};
+ghost use Rattle.cx_trace.specs.Trace.{datagram_text, head_text, named_text, tells, told_of, told_text};
 
-use crate::put::{put, put_hex, put_number, put_role};
+use crate::put::{put, put_hex, put_number, put_role, undo_part};
 use crate::replies::{put_answer, put_read};
-use cx_base::NoMemory;
-use cx_msg::{Datagram, Msg, body_into};
+use cx_base::{NoMemory, RoleId};
+use cx_msg::{Datagram, Msg, Spelled};
 use std::alloc::Global;
 
 /// Appends what a message tells the client that gets it: the line of an answer, and nothing of another kind. An `Err` may
 /// append a part.
 pub fn put_told(text: &mut Vec<u8>, client: u16, msg: &Msg) -> Result<(), NoMemory>
-    ensures { OnOk result (text.new.items ≡ text.old.items ++ told_text client msg.now) }
+    ensures ok { OnOk result (text.new.items ≡ text.old.items ++ told_text client msg.now) }
+    ensures err { OnErr result (take (length text.old.items) text.new.items ≡ text.old.items) }
 {
     match msg {
         Msg::Answer { seq, at, reply } => put_answer(text, client, *seq, *at, reply),
@@ -21,20 +23,84 @@ pub fn put_told(text: &mut Vec<u8>, client: u16, msg: &Msg) -> Result<(), NoMemo
     }
 }
 
-// The line of a datagram up to its body.
-#[tactic(auto, unfolding(crate::specs::Trace::head_text))]
-fn put_head(text: &mut Vec<u8>, n: u64, datagram: &Datagram) -> Result<(), NoMemory>
-    ensures { OnOk result (text.new.items ≡ text.old.items ++ head_text n datagram.now) }
+// Whether messages of a kind tell the client that gets them something.
+fn tells(kind: u8) -> bool
+    ensures { result ≡ tells kind }
+{
+    kind == 16 || kind == 29
+}
+
+// What a datagram that was read tells the client that gets it.
+fn put_told_of(text: &mut Vec<u8>, datagram: &Datagram) -> Result<(), NoMemory>
+    ensures ok { OnOk result (text.new.items ≡ text.old.items ++ told_of datagram.now) }
+    ensures err { OnErr result (take (length text.old.items) text.new.items ≡ text.old.items) }
+{
+    put_told(text, datagram.to().index, datagram.msg())
+}
+
+// What a datagram tells the client that gets it. Only an answer's body is read.
+fn put_told_by(alloc: Global, text: &mut Vec<u8>, spelled: &Spelled<'_>) -> Result<(), NoMemory>
+    ensures ok { OnOk result (text.new.items ≡ text.old.items ++ told_of spelled.now) }
+    ensures err { OnErr result (take (length text.old.items) text.new.items ≡ text.old.items) }
+{
+    if !tells(spelled.kind()) {
+        return Ok(());
+    }
+    let datagram = spelled.datagram(alloc)?;
+    put_told_of(text, &datagram)
+}
+
+// A number, as the line of a datagram begins with it.
+fn put_numbered(text: &mut Vec<u8>, n: u64) -> Result<(), NoMemory>
+    ensures ok { OnOk result (text.new.items ≡ text.old.items ++ (codes "+" ++ decimal n ++ codes " ")) }
+    ensures err { OnErr result (take (length text.old.items) text.new.items ≡ text.old.items) }
 {
     put(text, b"+")?;
     put_number(text, n)?;
-    put(text, b" ")?;
-    put_role(text, datagram.from())?;
-    put(text, b" ")?;
-    put_role(text, datagram.to())?;
-    put(text, b" ")?;
-    put(text, datagram.msg().name().as_bytes())?;
     put(text, b" ")
+}
+
+// A role, and what separates it from the next word.
+fn put_party(text: &mut Vec<u8>, role: RoleId) -> Result<(), NoMemory>
+    ensures ok { OnOk result (text.new.items ≡ text.old.items ++ (role_text role ++ codes " ")) }
+    ensures err { OnErr result (take (length text.old.items) text.new.items ≡ text.old.items) }
+{
+    put_role(text, role)?;
+    put(text, b" ")
+}
+
+// A name, and what separates it from the next word.
+fn put_name(text: &mut Vec<u8>, name: &str) -> Result<(), NoMemory>
+    ensures ok { OnOk result (text.new.items ≡ text.old.items ++ (name.now ++ codes " ")) }
+    ensures err { OnErr result (take (length text.old.items) text.new.items ≡ text.old.items) }
+{
+    put(text, name.as_bytes())?;
+    put(text, b" ")
+}
+
+// A number, two roles and a name, as the line of a datagram begins with them.
+fn put_named(
+    text: &mut Vec<u8>,
+    n: u64,
+    from: RoleId,
+    to: RoleId,
+    name: &str,
+) -> Result<(), NoMemory>
+    ensures ok { OnOk result (text.new.items ≡ text.old.items ++ named_text n from to name.now) }
+    ensures err { OnErr result (take (length text.old.items) text.new.items ≡ text.old.items) }
+{
+    put_numbered(text, n)?;
+    put_party(text, from)?;
+    put_party(text, to)?;
+    put_name(text, name)
+}
+
+// The line of a datagram up to its body.
+fn put_head(text: &mut Vec<u8>, n: u64, spelled: &Spelled<'_>) -> Result<(), NoMemory>
+    ensures ok { OnOk result (text.new.items ≡ text.old.items ++ head_text n spelled.now) }
+    ensures err { OnErr result (take (length text.old.items) text.new.items ≡ text.old.items) }
+{
+    put_named(text, n, spelled.from(), spelled.to(), spelled.name())
 }
 
 #[tactic(auto, unfolding(crate::specs::Trace::datagram_text))]
@@ -42,64 +108,29 @@ fn put_datagram(
     alloc: Global,
     text: &mut Vec<u8>,
     n: u64,
-    datagram: &Datagram,
+    spelled: &Spelled<'_>,
 ) -> Result<(), NoMemory>
-    ensures { OnOk result (text.new.items ≡ text.old.items ++ datagram_text n datagram.now) }
+    ensures ok { OnOk result (text.new.items ≡ text.old.items ++ datagram_text n spelled.now) }
+    ensures err { OnErr result (take (length text.old.items) text.new.items ≡ text.old.items) }
 {
-    let mut body = Vec::new(alloc);
-    body_into(alloc, datagram, &mut body)?;
-    put_head(text, n, datagram)?;
-    put_hex(text, &body)?;
+    put_head(text, n, spelled)?;
+    put_hex(text, spelled.body())?;
     put(text, b"\n")?;
-    put_told(text, datagram.to().index, datagram.msg())
-}
-
-fn put_datagrams(
-    alloc: Global,
-    text: &mut Vec<u8>,
-    first: u64,
-    datagrams: &[Datagram],
-) -> Result<(), NoMemory>
-    requires { first + length datagrams.now < 2 ^ 64 }
-    ensures { OnOk result (text.new.items ≡ text.old.items ++ datagrams_text first datagrams.now) }
-{
-    let mut n = first;
-    for datagram in datagrams {
-        put_datagram(alloc, text, n, datagram)?;
-        n += 1;
-    }
-    Ok(())
+    put_told_by(alloc, text, spelled)
 }
 
 /// Appends the line of a datagram (this project's own format): its number, who sends it, who gets it, its name, and its
-/// body in lower hexadecimal; behind it, where it answers a client, the line of that answer. An `Err` appends nothing.
+/// body in lower hexadecimal; after it, where it answers a client, the line of that answer. An `Err` appends nothing.
 pub fn datagram_into(
     alloc: Global,
     n: u64,
-    datagram: &Datagram,
+    spelled: &Spelled<'_>,
     out: &mut Vec<u8>,
 ) -> Result<(), NoMemory>
-    ensures ok { OnOk result (out.new.items ≡ out.old.items ++ datagram_text n datagram.now) }
+    ensures ok { OnOk result (out.new.items ≡ out.old.items ++ datagram_text n spelled.now) }
     ensures err { OnErr result (out.new.items ≡ out.old.items) }
 {
-    let mut lines = Vec::new(alloc);
-    put_datagram(alloc, &mut lines, n, datagram)?;
-    put(out, &lines)
-}
-
-/// Appends the lines of datagrams, each as `datagram_into` does, with numbers that rise from the first one's. An `Err`
-/// appends nothing.
-pub fn datagrams_into(
-    alloc: Global,
-    first: u64,
-    datagrams: &[Datagram],
-    out: &mut Vec<u8>,
-) -> Result<(), NoMemory>
-    requires { first + length datagrams.now < 2 ^ 64 }
-    ensures ok { OnOk result (out.new.items ≡ out.old.items ++ datagrams_text first datagrams.now) }
-    ensures err { OnErr result (out.new.items ≡ out.old.items) }
-{
-    let mut lines = Vec::new(alloc);
-    put_datagrams(alloc, &mut lines, first, datagrams)?;
-    put(out, &lines)
+    let length = out.len();
+    let done = put_datagram(alloc, out, n, spelled);
+    undo_part(done, out, length)
 }

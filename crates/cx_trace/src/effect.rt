@@ -1,9 +1,9 @@
-//! What an event came to.
+//! The result of an event.
 
 use cx_base::{RoleId, Why};
 
-/// What an event came to.
-#[derive(Clone, Copy, Debug, PartialEq, Eq)]
+/// The result of an event.
+#[derive(Clone, Copy)]
 pub struct Effect {
     /// The event's number, counted from 1.
     pub event: u64,
@@ -12,6 +12,6 @@ pub struct Effect {
     pub why: Why,
     /// The number of the first datagram that it sent, counted from 0 over the whole run.
     pub first: u64,
-    /// The number behind that of the last datagram that it sent.
+    /// The number after that of the last datagram that it sent.
     pub end: u64,
 }

@@ -1,14 +1,15 @@
 //! The lines of events.
 
-ghost use Rattle.std.specs.Prelude.{◌≡◌, ◌++◌, OnErr, OnOk};
+ghost use Rattle.std.specs.Prelude.{◌≡◌, ◌++◌, length, take, OnErr, OnOk};
 ghost use Rattle.cx_trace.specs.Trace.{event_text, happening_text, order_text, reached_text};
 
 use crate::effect::Effect;
-use crate::put::{put, put_number, put_request, put_role, put_role_at};
+use crate::put::{put, put_number, put_request, put_role, put_role_at, undo_part};
 use cx_base::{Event, Kind, NoMemory, Order, RoleId};
 
 fn put_order(text: &mut Vec<u8>, order: &Order) -> Result<(), NoMemory>
-    ensures { OnOk result (text.new.items ≡ text.old.items ++ order_text order.now) }
+    ensures ok { OnOk result (text.new.items ≡ text.old.items ++ order_text order.now) }
+    ensures err { OnErr result (take (length text.old.items) text.new.items ≡ text.old.items) }
 {
     match order {
         Order::Lead(_) => put(text, b"lead "),
@@ -18,7 +19,8 @@ fn put_order(text: &mut Vec<u8>, order: &Order) -> Result<(), NoMemory>
 }
 
 fn put_reached(text: &mut Vec<u8>, who: Option<RoleId>) -> Result<(), NoMemory>
-    ensures { OnOk result (text.new.items ≡ text.old.items ++ reached_text who) }
+    ensures ok { OnOk result (text.new.items ≡ text.old.items ++ reached_text who) }
+    ensures err { OnErr result (take (length text.old.items) text.new.items ≡ text.old.items) }
 {
     match who {
         None => Ok(()),
@@ -30,7 +32,8 @@ fn put_reached(text: &mut Vec<u8>, who: Option<RoleId>) -> Result<(), NoMemory>
 }
 
 fn put_happening(text: &mut Vec<u8>, event: &Event, who: Option<RoleId>) -> Result<(), NoMemory>
-    ensures { OnOk result (text.new.items ≡ text.old.items ++ happening_text event.now who) }
+    ensures ok { OnOk result (text.new.items ≡ text.old.items ++ happening_text event.now who) }
+    ensures err { OnErr result (take (length text.old.items) text.new.items ≡ text.old.items) }
 {
     match event {
         Event::Write { command, .. } => {
@@ -67,7 +70,8 @@ fn put_happening(text: &mut Vec<u8>, event: &Event, who: Option<RoleId>) -> Resu
 
 #[tactic(auto, unfolding(crate::specs::Trace::event_text))]
 fn put_event(text: &mut Vec<u8>, event: &Event, effect: &Effect) -> Result<(), NoMemory>
-    ensures { OnOk result (text.new.items ≡ text.old.items ++ event_text event.now effect.now) }
+    ensures ok { OnOk result (text.new.items ≡ text.old.items ++ event_text event.now effect.now) }
+    ensures err { OnErr result (take (length text.old.items) text.new.items ≡ text.old.items) }
 {
     put(text, b"@")?;
     put_number(text, effect.event)?;
@@ -78,13 +82,13 @@ fn put_event(text: &mut Vec<u8>, event: &Event, effect: &Effect) -> Result<(), N
     put(text, b"\n")
 }
 
-/// Appends the line of an event (this project's own format): its number, what happened to whom, and what it came to. An
+/// Appends the line of an event (this project's own format): its number, what happened to whom, and its result. An
 /// `Err` appends nothing.
 pub fn event_into(event: &Event, effect: &Effect, out: &mut Vec<u8>) -> Result<(), NoMemory>
     ensures ok { OnOk result (out.new.items ≡ out.old.items ++ event_text event.now effect.now) }
     ensures err { OnErr result (out.new.items ≡ out.old.items) }
 {
-    let mut line = Vec::new(*out.allocator());
-    put_event(&mut line, event, effect)?;
-    put(out, &line)
+    let length = out.len();
+    let done = put_event(out, event, effect);
+    undo_part(done, out, length)
 }

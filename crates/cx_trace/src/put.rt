@@ -16,7 +16,7 @@ pub fn put(text: &mut Vec<u8>, piece: &[u8]) -> Result<(), NoMemory>
     Ok(())
 }
 
-// What was put behind so many bytes of a text goes again where memory was wanting.
+// What was put after this many bytes of a text is taken away again when out of memory.
 pub fn undo_part(
     put: Result<(), NoMemory>,
     text: &mut Vec<u8>,
@@ -52,7 +52,8 @@ pub fn put_role_at(text: &mut Vec<u8>, kind: Kind, index: u64) -> Result<(), NoM
 }
 
 pub fn put_role(text: &mut Vec<u8>, role: RoleId) -> Result<(), NoMemory>
-    ensures { OnOk result (text.new.items ≡ text.old.items ++ role_text role) }
+    ensures ok { OnOk result (text.new.items ≡ text.old.items ++ role_text role) }
+    ensures err { OnErr result (take (length text.old.items) text.new.items ≡ text.old.items) }
 {
     put_role_at(text, role.kind, u64::from(role.index))
 }
@@ -81,7 +82,8 @@ fn hex_digit(half: u8) -> u8
 
 // Two lower hexadecimal digits for each byte.
 pub fn put_hex(text: &mut Vec<u8>, bytes: &[u8]) -> Result<(), NoMemory>
-    ensures { OnOk result (text.new.items ≡ text.old.items ++ hex bytes.now) }
+    ensures ok { OnOk result (text.new.items ≡ text.old.items ++ hex bytes.now) }
+    ensures err { OnErr result (take (length text.old.items) text.new.items ≡ text.old.items) }
 {
     for byte in bytes {
         text.push(hex_digit(*byte / 16))?;

@@ -1,6 +1,6 @@
 //! What commands and reads are answered, as text.
 
-ghost use Rattle.std.specs.Prelude.{◌≡◌, ◌++◌, OnOk};
+ghost use Rattle.std.specs.Prelude.{◌≡◌, ◌++◌, length, take, OnErr, OnOk};
 ghost use Rattle.cx_trace.specs.Reply.{reply_text, found_text};
 ghost use Rattle.cx_trace.specs.Trace.{answer_line, read_line};
 
@@ -8,7 +8,8 @@ use crate::put::{put, put_number, put_request};
 use cx_base::{NoMemory, Reply, Text};
 
 fn put_reply(text: &mut Vec<u8>, reply: &Reply) -> Result<(), NoMemory>
-    ensures { OnOk result (text.new.items ≡ text.old.items ++ reply_text reply.now) }
+    ensures ok { OnOk result (text.new.items ≡ text.old.items ++ reply_text reply.now) }
+    ensures err { OnErr result (take (length text.old.items) text.new.items ≡ text.old.items) }
 {
     match reply {
         Reply::Okay => put(text, b"ok"),
@@ -26,7 +27,8 @@ fn put_reply(text: &mut Vec<u8>, reply: &Reply) -> Result<(), NoMemory>
 }
 
 fn put_found(text: &mut Vec<u8>, found: &Option<Text>) -> Result<(), NoMemory>
-    ensures { OnOk result (text.new.items ≡ text.old.items ++ found_text found.now) }
+    ensures ok { OnOk result (text.new.items ≡ text.old.items ++ found_text found.now) }
+    ensures err { OnErr result (take (length text.old.items) text.new.items ≡ text.old.items) }
 {
     match found {
         None => put(text, b"none"),
@@ -46,7 +48,8 @@ pub fn put_answer(
     at: u64,
     reply: &Reply,
 ) -> Result<(), NoMemory>
-    ensures { OnOk result (text.new.items ≡ text.old.items ++ answer_line client seq at (reply_text reply.now)) }
+    ensures ok { OnOk result (text.new.items ≡ text.old.items ++ answer_line client seq at (reply_text reply.now)) }
+    ensures err { OnErr result (take (length text.old.items) text.new.items ≡ text.old.items) }
 {
     put(text, b"answer ")?;
     put_request(text, client, seq)?;
@@ -66,7 +69,8 @@ pub fn put_read(
     mark: u64,
     found: &Option<Text>,
 ) -> Result<(), NoMemory>
-    ensures { OnOk result (text.new.items ≡ text.old.items ++ read_line client seq mark (found_text found.now)) }
+    ensures ok { OnOk result (text.new.items ≡ text.old.items ++ read_line client seq mark (found_text found.now)) }
+    ensures err { OnErr result (take (length text.old.items) text.new.items ≡ text.old.items) }
 {
     put(text, b"read ")?;
     put_request(text, client, seq)?;

@@ -8,7 +8,7 @@ use cx_base::{Kind, NoMemory};
 use cx_kv::Store;
 
 /// What a replica kept: how many slots it holds, and the map that they leave.
-#[derive(Debug, Drop)]
+#[derive(Drop)]
 pub struct Folded {
     pub held: u64,
     pub store: Store,

@@ -1,8 +1,8 @@
-//! Numbers on the wire, and what a format is.
+//! Numbers on the wire, and what a format is: which values fit, how they are spelled and read.
 //!
-//! The formats of datagrams, records and journals stand on this crate. A format says which values fit, how each is spelled
-//! as bytes, and how bytes are read, in definitions alone. Its theorem: a format that is put together from exact ones is
-//! exact, which means that what it reads is spelled so, and what it spells is read again, whatever follows.
+//! Formats of datagrams, records and journals are put together from it. Its theorem is: a format
+//! made of exact ones is exact, so what it reads is spelled so, and what it spells is read again,
+//! whatever follows.
 #![tactic(auto)]
 
 mod put;
@@ -17,6 +17,3 @@ pub struct Short {
     pub need: usize,
     pub have: usize,
 }
-
-#[cfg(test)]
-mod tests;

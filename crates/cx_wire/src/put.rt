@@ -1,4 +1,4 @@
-//! Numbers appended to bytes, the highest byte first. The one error is want of memory, which appends nothing.
+//! Numbers appended to bytes, the highest byte first. The one error is out of memory, which appends nothing.
 
 ghost use Rattle.std.specs.Prelude.{◌≡◌, ◌++◌, OnOk, OnErr};
 ghost use Rattle.byteorder.specs.Endian.{big_bytes};

@@ -1,4 +1,4 @@
--- What an event does, told of every world.
+-- What an event does, said of every world.
 use Rattle.std.proofs.Common.{◌≡◌, true, false, List, [], Option, None, Some, sym, subst, append-nil, refl}
 use Rattle.cx_base.specs.declared.event.Event.{Event}
 use Rattle.cx_base.specs.declared.event.Happened.{Happened}

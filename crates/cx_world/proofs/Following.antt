@@ -16,15 +16,15 @@ use Rattle.cx_model.specs.World.{log_of, records_of}
 use Rattle.cx_msg.specs.declared.kept.Record.{Record}
 use Rattle.cx_msg.specs.declared.kept.Record.TheVariants as kept
 use Rattle.cx_msg.specs.declared.input.KeptRecord.{KeptRecord}
-use Rattle.cx_world.proofs.Numbered.{next_kept}
+use Rattle.cx_choice.proofs.Numbered.{next_kept}
 use Rattle.cx_world.specs.Folded.{values_by, values_in, values_kept}
 
--- the commands of values behind others
+-- the commands of values after others
 pub commands_both : (vs more : List Value) → command_list (vs ++ more) ≡ command_list vs ++ command_list more
 commands_both [] more = refl
 commands_both (v ∷ vs) more = ap (λ l. commands_of v ++ l) (commands_both vs more) ∙ sym (append_assoc (commands_of v) (command_list vs) (command_list more))
 
--- the map behind values and then others
+-- the map after values and then others
 pub map_both : (before : List Command) (map : List Pair) (vs more : List Value)
     → map_behind before map (command_list (vs ++ more)) ≡ map_behind (before ++ command_list vs) (map_behind before map (command_list vs)) (command_list more)
 map_both before map vs more = rw (commands_both vs more) (behind_both before map (command_list vs) (command_list more))
@@ -42,7 +42,7 @@ value_next values i v before new_before map new_map commands all there is leaves
     sym (behind_both before map (commands_of v) (command_list rest)) ∙ (rw next at so_far) in
     rw (begins, leaves) (told, left)
 
--- the values behind a record's
+-- the values after a record's
 pub values_next : (me : RoleId) (history : List KeptRecord) (n : ℕ) (one : KeptRecord) → slice_get history n ≡ Some one
     → values_kept me (drop n history) ≡ values_by me one ++ values_kept me (drop (n + 1) history)
 values_next me history n one at = ap (values_kept me) (next_kept history n one at)

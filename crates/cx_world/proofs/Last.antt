@@ -26,14 +26,14 @@ last_fits o (x ∷ xs) fit all =
     last_fits (Some x) xs (rw parts.0 refl) parts.1
 
 module _ (records : List Record) (held : ℕ) (one : Option Record) (is : IsLast records held one) where
-  -- it is what is left behind all the others
+  -- it is what is left after all the others
   pub last_since : (n : ℕ) → length records ≤ n + 1 → n < held → option_to_list one ≡ drop n records
   last_since n most below = rw is.last (last_left None records n (let count = is.count in omega (arith, count, most, below)))
 
   pub one_fits : all_fit (option_to_list one) ≡ true
   one_fits = rw is.last (last_fits None records refl is.fit)
 
-  -- one more record behind the others
+  -- one more record after the others
   pub last_more : (r : Record) → fits r ≡ true → IsLast (records ++ r ∷ []) (held + 1) (Some r)
   last_more r fit =
       record {

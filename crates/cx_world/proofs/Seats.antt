@@ -135,7 +135,7 @@ apart who k l is e p =
 
 module _ (w : World) (act : Act) (who : RoleId) (olds : SeatLists) (u v : Why) (at : Option RoleId) (r : Option Record) (more : Option KeptRecord) (sent : List Letter)
     (same_who : at ≡ Some who) (same_why : v ≡ u) (same_kept : option_to_list more ≡ kept_by who r) (has : HasSeats w.cluster w.roles w.kept olds) where
-  -- seats of another kind stand over their parts of the longer history
+  -- seats of another kind are opened from their parts of the longer history
   stay : {S : Type 0} (k l : Kind) (seats : List (Seat S)) (kept : List KeptRecord) → who.kind ≡ k → (code_of k == code_of l) ≡ false → kept_by who r ≡ kept → AreSeats w.cluster l w.kept seats → AreSeats w.cluster l (w.kept ++ kept) seats
   stay k l seats kept is differs same are =
       subst (λ ks. AreSeats w.cluster l (w.kept ++ ks) seats) same (others_stay w.cluster l w.kept who r seats (apart who k l is differs) are)

@@ -21,4 +21,4 @@ pub record IsLast (records : List Record) (held : ℕ) (one : Option Record) : T
 pub last_append_is : (old : MemKeeperState) (r : Record) (answer : Result (Unit {0}) KeepFault) (new : MemKeeperState) → mem_append_gives old r answer new → IsAppend tells_nothing kept_of faults_of old r answer new
 last_append_is old r answer new h =
     let is = mem_append_is old r answer new h in
-    record { ok = λ _ e. cc; failed = is.failed; cause = is.cause; no_memory = is.no_memory; told = refl; later = is.later }
+    record { ok = λ _ e. cc; failed = is.failed; cause = is.cause; no_memory = is.no_memory; told = refl; still = is.still; later = is.later }

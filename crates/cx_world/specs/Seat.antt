@@ -1,6 +1,8 @@
 -- A role with its records, running or not.
-use Rattle.std.specs.Prelude.{◌≡◌, ℕ, true, IsTrue, List, [], ◌∷◌, ◌++◌, Option, None, Some, option_to_list, slice_get, slice_index_or, slice_set}
+use Rattle.std.specs.Prelude.{◌≡◌, ℕ, Bool, true, IsTrue, List, [], ◌∷◌, ◌++◌, Option, None, Some, option_to_list, slice_get, slice_index_or, slice_set}
+use Rattle.std.specs.Option.{ForSome}
 use Rattle.cx_base.specs.declared.cluster.Cluster.{Cluster}
+use Rattle.cx_keeper.specs.Keeper.{all_fit}
 use Rattle.cx_msg.specs.Letter.{Letter}
 use Rattle.cx_msg.specs.declared.kept.Record.{Record}
 use Rattle.cx_msg.specs.declared.input.KeptRecord.{KeptRecord}
@@ -13,7 +15,7 @@ use Rattle.cx_base.specs.declared.event.Cut.TheVariants.{Whole, Torn, Kept}
 use Rattle.cx_base.specs.declared.role.RoleId.{RoleId}
 use Rattle.cx_base.specs.declared.why.Why.{Why}
 use Rattle.cx_base.specs.declared.why.Why.TheVariants as why
-use Rattle.cx_model.specs.Rules.{Rules, Running, folded}
+use Rattle.cx_model.specs.Rules.{Rules, Running, IsFit, folded, with_kept}
 use Rattle.cx_model.specs.Turn.{Turn, turn}
 
 -- the word of a step that was cut in its append
@@ -34,12 +36,23 @@ pub record Seat (S : Type 0) : Type 0 where
   pub role : Option S
   pub records : List Record
 
--- a running role as its records leave it
-pub record Stands {D V : Type 0} (rules : Rules D V) (c : Cluster) (who : RoleId) (rs : List Record) (s : Running D V) : Type 0 where
+-- a role, running or stopped, as its records leave it: it may not know the last one, which a cut append kept
+pub record Stands {D V : Type 0} (rules : Rules D V) (c : Cluster) (who : RoleId) (rs : List Record) (behind : Option Record) (s : Running D V) : Type 0 where
   pub cluster : s.cluster ≡ c
   pub me : s.me ≡ who
-  pub live : s.live ≡ true
-  pub folded : s.durable ≡ folded rules rs
+  pub fits : IsFit rules s.cluster s.me s.durable behind
+  pub folded : with_kept rules s.durable behind ≡ folded rules rs
+
+-- who runs is there, is live, and knows all its records
+pub record IsUp {S D V : Type 0} (state : S → Running D V) (role : Option S) (behind : Option Record) : Type 0 where
+  pub there : (s : S) × (role ≡ Some s) × ((state s).live ≡ true)
+  pub knows : behind ≡ None
+
+-- a seat's role, whether it runs, and the record after what it knows, over the records of its keeper
+pub record Sits {S D V : Type 0} (rules : Rules D V) (state : S → Running D V) (c : Cluster) (who : RoleId) (rs : List Record) (role : Option S) (runs : Bool) (behind : Option Record) : Type 0 where
+  pub stands : ForSome role (λ s. Stands rules c who rs behind (state s))
+  pub fits : all_fit (option_to_list behind) ≡ true
+  pub up : runs ≡ true → IsUp state role behind
 
 -- the volatile part of the role, where it runs
 abbrev pub volatile_of : {S D V : Type 0} → (S → Running D V) → Option S → Option V
@@ -81,7 +94,3 @@ pub record IsSeat {S : Type 0} (c : Cluster) (who : RoleId) (kept : List KeptRec
 
 abbrev pub AreSeats : {S : Type 0} → Cluster → Kind → List KeptRecord → List (Seat S) → Type 0
 AreSeats {S} c k kept seats = (i : ℕ) (seat : Seat S) → slice_get seats i ≡ Some seat → IsSeat c (record { kind = k; index = i }) kept seat
-
--- each seat has its role's records of the history
-abbrev pub HaveRecords : {S : Type 0} → List KeptRecord → List (Seat S) → Type 0
-HaveRecords {S} kept seats = (i : ℕ) (seat : Seat S) → slice_get seats i ≡ Some seat → seat.records ≡ records_of seat.me kept

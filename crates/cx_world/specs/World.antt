@@ -19,7 +19,7 @@ use Rattle.cx_model.specs.World.{World, Roles, Change, change, step, run, event_
 use Rattle.cx_msg.specs.Letter.{Letter}
 use Rattle.cx_msg.specs.declared.input.KeptRecord.{KeptRecord}
 use Rattle.cx_trace.specs.declared.effect.Effect.{Effect}
-use Rattle.cx_world.specs.Seat.{Seat, AreSeats, HaveRecords, roles_in}
+use Rattle.cx_world.specs.Seat.{Seat, AreSeats, roles_in}
 use Rattle.cx_world.specs.declared.turned.Changed.{Changed}
 use Rattle.cx_world.specs.declared.change.Seats.{Seats}
 
@@ -95,17 +95,6 @@ pub record HasSeats (c : Cluster) (r : Roles) (kept : List KeptRecord) (seats : 
   pub replicas : AreSeats c kind.Replica kept seats.replicas
   pub unbatchers : AreSeats c kind.Unbatcher kept seats.unbatchers
   pub readers : AreSeats c kind.Reader kept seats.readers
-
--- each seat of each kind has its role's records of the history
-pub record AllHaveRecords (kept : List KeptRecord) (seats : SeatLists) : Type 0 where
-  pub batchers : HaveRecords kept seats.batchers
-  pub leaders : HaveRecords kept seats.leaders
-  pub proxies : HaveRecords kept seats.proxies
-  pub acceptors : HaveRecords kept seats.acceptors
-  pub matchmakers : HaveRecords kept seats.matchmakers
-  pub replicas : HaveRecords kept seats.replicas
-  pub unbatchers : HaveRecords kept seats.unbatchers
-  pub readers : HaveRecords kept seats.readers
 
 -- a change was made to the seats
 pub record IsChange (w : World) (ch : Change) (who : Option RoleId) (u : Why) (r : Option KeptRecord) (new : SeatLists) (sent : List Letter) : Type 0 where

@@ -1,7 +1,7 @@
 //! What an event does to the roles.
 
 ghost use Rattle.std.specs.Prelude.{◌≡◌, ◌≤◌, ◌∷◌, [], IfOk, OnOk, IsTrue, None, Some, option_to_list};
-ghost use Rattle.cx_base.specs.Asked.{takes_event};
+ghost use Rattle.cx_base.specs.Asked.{is_valid_event};
 ghost use Rattle.cx_model.specs.Request.{request};
 ghost use Rattle.cx_model.specs.World.{act_at, ask, change, come, kept_by};
 ghost use Rattle.cx_base.specs.Role.{role};
@@ -9,7 +9,7 @@ ghost use Rattle.cx_base.specs.declared.role.Kind.{Kind};
 ghost use Rattle.cx_msg.specs.Letter.{letter};
 ghost use Rattle.cx_msg.specs.declared.message.Msg.{Msg};
 ghost use Rattle.cx_msg.specs.declared.input.Act.TheVariants.{Give};
-ghost use Rattle.cx_world.specs.World.{AllHaveRecords, AsksAfter, Changes, ChangesAfter, lists_of};
+ghost use Rattle.cx_world.specs.World.{AsksAfter, Changes, ChangesAfter, lists_of};
 
 use crate::seat::{Seat, act_at};
 use crate::turned::{Changed, Turned};
@@ -17,7 +17,7 @@ use cx_acceptor::Acceptor;
 use cx_base::{Command, Cut, Event, Kind, NoMemory, Op, RoleId, Why};
 use cx_batch::{Batcher, Unbatcher};
 use cx_field::Token;
-use cx_history::{Events, Kept, Sent};
+use cx_history::{Events, Sent};
 use cx_leader::Leader;
 use cx_match::Matchmaker;
 use cx_msg::{Act, Datagram, Input, KeptRecord, read_req, submit};
@@ -25,7 +25,6 @@ use cx_proxy::Proxy;
 use cx_reader::Reader;
 use cx_replica::Replica;
 use cx_role::Outbox;
-use std::alloc::Global;
 
 /// The roles with their keepers, by kind.
 #[derive(Drop)]
@@ -65,50 +64,42 @@ fn nothing(who: Option<RoleId>, why: Why) -> Changed
 }
 
 // An act at a role. A client hears whatever it is given.
-fn act(
-    alloc: Global,
-    seats: &mut Seats,
-    kept: &Kept,
-    who: RoleId,
-    act: &Act,
-    out: &mut Outbox,
-) -> Result<Changed, NoMemory>
-    requires records { AllHaveRecords kept.now (lists_of seats.old) }
+fn act(seats: &mut Seats, who: RoleId, act: &Act, out: &mut Outbox) -> Result<Changed, NoMemory>
     requires empty { out.old.list ≡ [] }
     ensures { IfOk result (λ changed. Changes (λ w. act_at w act.now who) seats.old changed seats.new out.new.list) }
 {
     match who.kind {
         Kind::Client => Ok(nothing(Some(who), Why::Heard)),
         Kind::Batcher => {
-            let turned = act_at(alloc, &mut seats.batchers, kept, who.index, act, out)?;
+            let turned = act_at(&mut seats.batchers, who.index, act, out)?;
             Ok(of_role(who, turned))
         }
         Kind::Leader => {
-            let turned = act_at(alloc, &mut seats.leaders, kept, who.index, act, out)?;
+            let turned = act_at(&mut seats.leaders, who.index, act, out)?;
             Ok(of_role(who, turned))
         }
         Kind::Proxy => {
-            let turned = act_at(alloc, &mut seats.proxies, kept, who.index, act, out)?;
+            let turned = act_at(&mut seats.proxies, who.index, act, out)?;
             Ok(of_role(who, turned))
         }
         Kind::Acceptor => {
-            let turned = act_at(alloc, &mut seats.acceptors, kept, who.index, act, out)?;
+            let turned = act_at(&mut seats.acceptors, who.index, act, out)?;
             Ok(of_role(who, turned))
         }
         Kind::Matchmaker => {
-            let turned = act_at(alloc, &mut seats.matchmakers, kept, who.index, act, out)?;
+            let turned = act_at(&mut seats.matchmakers, who.index, act, out)?;
             Ok(of_role(who, turned))
         }
         Kind::Replica => {
-            let turned = act_at(alloc, &mut seats.replicas, kept, who.index, act, out)?;
+            let turned = act_at(&mut seats.replicas, who.index, act, out)?;
             Ok(of_role(who, turned))
         }
         Kind::Unbatcher => {
-            let turned = act_at(alloc, &mut seats.unbatchers, kept, who.index, act, out)?;
+            let turned = act_at(&mut seats.unbatchers, who.index, act, out)?;
             Ok(of_role(who, turned))
         }
         Kind::Reader => {
-            let turned = act_at(alloc, &mut seats.readers, kept, who.index, act, out)?;
+            let turned = act_at(&mut seats.readers, who.index, act, out)?;
             Ok(of_role(who, turned))
         }
     }
@@ -127,7 +118,7 @@ fn submission(client: u16, seq: u64, op: Op, batcher: u16) -> Datagram
 #[tactic(auto, unfolding(cx_field::specs::Fields::seq, cx_wire::specs::Format::u64))]
 fn send(event: &Event, out: &mut Outbox) -> Result<(), NoMemory>
     requires empty { out.old.list ≡ [] }
-    requires taken { IsTrue (takes_event event.now) }
+    requires taken { IsTrue (is_valid_event event.now) }
     ensures { OnOk result (out.new.list ≡ request event.now) }
 {
     match event {
@@ -153,7 +144,7 @@ fn send(event: &Event, out: &mut Outbox) -> Result<(), NoMemory>
 // A client asks.
 fn ask(token: Token, event: &Event, events: &Events, out: &mut Outbox) -> Result<Changed, NoMemory>
     requires empty { out.old.list ≡ [] }
-    requires taken { IsTrue (takes_event event.now) }
+    requires taken { IsTrue (is_valid_event event.now) }
     ensures { IfOk result (λ changed. AsksAfter (λ w. ask w event.now (Some token)) events.now changed out.new.list) }
 {
     let who = RoleId::new(Kind::Client, token.client);
@@ -165,14 +156,11 @@ fn ask(token: Token, event: &Event, events: &Events, out: &mut Outbox) -> Result
 }
 
 fn deliver(
-    alloc: Global,
     seats: &mut Seats,
-    kept: &Kept,
     datagram: Datagram,
     cut: Cut,
     out: &mut Outbox,
 ) -> Result<Changed, NoMemory>
-    requires records { AllHaveRecords kept.now (lists_of seats.old) }
     requires empty { out.old.list ≡ [] }
     ensures { IfOk result (λ changed. Changes (λ w. come w cut (Some datagram)) seats.old changed seats.new out.new.list) }
 {
@@ -181,7 +169,7 @@ fn deliver(
         input: Input::Take { datagram },
         cut,
     };
-    act(alloc, seats, kept, who, &take, out)
+    act(seats, who, &take, out)
 }
 
 fn give(input: Input, cut: Cut) -> Act
@@ -190,19 +178,16 @@ fn give(input: Input, cut: Cut) -> Act
     Act::Give { input, cut }
 }
 
-/// One event, which the world takes: what it does to the roles, told of every world that has these seats and histories.
+/// One event, which the world takes: what it does to the roles, said of every world that has these seats and histories.
 pub fn change(
-    alloc: Global,
     seats: &mut Seats,
-    kept: &Kept,
     sent: &Sent,
     events: &Events,
     event: &Event,
     out: &mut Outbox,
 ) -> Result<Changed, NoMemory>
-    requires records { AllHaveRecords kept.now (lists_of seats.old) }
     requires empty { out.old.list ≡ [] }
-    requires taken { IsTrue (takes_event event.now) }
+    requires taken { IsTrue (is_valid_event event.now) }
     ensures { IfOk result (λ changed. ChangesAfter (λ w. change w event.now) sent.now events.now seats.old changed seats.new out.new.list) }
 {
     match event {
@@ -222,18 +207,18 @@ pub fn change(
         }
         Event::Deliver { number, cut } => match sent.get(*number)? {
             None => Ok(nothing(None, Why::Absent)),
-            Some(datagram) => deliver(alloc, seats, kept, datagram, *cut, out),
+            Some(datagram) => deliver(seats, datagram, *cut, out),
         },
         Event::Tick(role) => {
             let tick = give(Input::Tick, Cut::Whole);
-            act(alloc, seats, kept, *role, &tick, out)
+            act(seats, *role, &tick, out)
         }
         Event::Order { leader, order, cut } => {
             let who = RoleId::new(Kind::Leader, *leader);
             let order = give(Input::Order { order: *order }, *cut);
-            act(alloc, seats, kept, who, &order, out)
+            act(seats, who, &order, out)
         }
-        Event::Crash(role) => act(alloc, seats, kept, *role, &Act::Stop, out),
-        Event::Restart(role) => act(alloc, seats, kept, *role, &Act::Wake, out),
+        Event::Crash(role) => act(seats, *role, &Act::Stop, out),
+        Event::Restart(role) => act(seats, *role, &Act::Wake, out),
     }
 }

@@ -25,7 +25,7 @@ impl<'a> Tells<(&'a Told<Record>, &'a Record), Record> for OneMore {
     ghost told = { λ x. x.0.now.items ++ x.1.now ∷ [] };
 }
 
-/// Lets an append fail where it is told to, and holds the last record alone: whoever has it notes the others elsewhere.
+/// Lets an append fail where `cut` says so, and holds the last record alone: whoever has it notes the others elsewhere.
 #[derive(Drop)]
 pub struct LastKeeper {
     alloc: Global,
@@ -78,7 +78,7 @@ impl LastKeeper {
         self.count
     }
 
-    /// The record that was kept since there were so many, if one was.
+    /// The record that was kept since there were this many, if one was.
     pub fn kept_since(&self, count: usize) -> Result<Option<Record>, NoMemory>
         requires least { count ≤ length self.now.kept }
         requires most { length self.now.kept ≤ count + 1 }
@@ -99,7 +99,7 @@ impl LastKeeper {
         self.cut = cut;
     }
 
-    // The record is the last one. Want of memory changes nothing.
+    // The record is the last one. Out of memory, it changes nothing.
     fn note(&mut self, what: &Record) -> Result<(), NoMemory>
         requires { IsTrue (fits what.now) }
         ensures ok { OnOk result (self.new ≡ record self.old { kept = self.old.kept ++ what.now ∷ [] }) }
@@ -145,7 +145,7 @@ impl Keeper for LastKeeper {
         }
     }
 
-    /// It fails: the records stand in the world's history, from which the world itself opens a role.
+    /// It fails: the records are in the world's history, and a role that stopped still knows its own.
     fn recover(&mut self) -> Result<Vec<Record>, OpenFault> {
         self.faults.add();
         Err(OpenFault::Failed)

@@ -1,22 +1,17 @@
-//! The run of events over all roles.
+//! The world: all roles of a cluster in one process, run event by event.
 //!
-//! Stands on the role crates, on the text of runs and on what every run is promised; replaying and generating stand on it. Its
-//! theorem is the contract of `World::step`: the new world is the model's step of the old one, so each world that isn't spent is
-//! the run of its events, and that run is lawful: agreement, one command list, fresh reads, safe retirement (`World::law`).
+//! Its theorem is the contract of `World::step`: the new world is the model's step of the old one,
+//! so a world that isn't spent is the run of its events, and lawful (`World::law`); `chosen_prefix`
+//! gives the one command list.
 #![tactic(auto)]
 
-mod chains;
 mod change;
-mod choice;
 mod counts;
 mod folded;
 mod last_keeper;
-mod prefix;
 mod seat;
-mod sorted;
 mod turned;
 mod world;
 
 pub use counts::Counts;
-pub use prefix::Chosen;
 pub use world::World;

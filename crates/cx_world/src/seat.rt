@@ -1,44 +1,48 @@
 //! A role with its keeper, running or not.
 
-ghost use Rattle.std.specs.Prelude.{◌≡◌, [], IfOk, IsErrOf, None, Some, true};
+ghost use Rattle.std.specs.Prelude.{◌≡◌, [], IfErr, IfOk, IsErrOf, IsTrue, None, Some, option_to_list, true};
+ghost use Rattle.cx_keeper.specs.Keeper.{all_fit};
 ghost use Rattle.cx_keeper.specs.MemKeeper.{mem_append_gives};
-ghost use Rattle.cx_model.specs.Names.{count_of};
+ghost use Rattle.cx_base.specs.Cluster.{count_of};
 ghost use Rattle.cx_model.specs.Rules.{Rules, Running, outcome_of, IsFit};
-ghost use Rattle.cx_model.specs.World.{fresh_roles, records_of};
+ghost use Rattle.cx_model.specs.World.{fresh_roles};
 ghost use Rattle.cx_msg.specs.declared.input.Act.TheVariants.{Give, Stop, Wake};
-ghost use Rattle.cx_role.specs.declared.role.StepFault.TheVariants as fault;
-ghost use Rattle.cx_role.specs.Role.{Steps, StaysAt, FailsAt};
-ghost use Rattle.cx_world.specs.Seat.{AreSeats, HaveRecords, roles_in, Seat, IsPlace, IsTurned, TurnsAt, seat_turn, volatile_of, why_of_cut};
+ghost use Rattle.cx_keeper.specs.declared.keeper.KeepFault.TheVariants as fault;
+ghost use Rattle.cx_role.specs.Role.{Steps, StaysAt, FailsAt, KeepsDurable};
+ghost use Rattle.cx_role.specs.Wake.{IsWakeFault, refused_behind, reopened};
+ghost use Rattle.cx_world.specs.Seat.{AreSeats, roles_in, Seat, IsPlace, IsTurned, TurnsAt, seat_turn, volatile_of, why_of_cut};
 
 use crate::last_keeper::LastKeeper;
 use crate::turned::Turned;
 use cx_base::{Cluster, Cut, Kind, NoMemory, RoleId, Why};
-use cx_history::Kept;
-use cx_msg::{Act, Input};
+use cx_msg::{Act, Input, Record};
 use cx_role::{Outbox, Role, StepFault, WakeFault};
 use std::alloc::Global;
+use std::array::from_ref;
 use std::marker::Model;
 
-/// A role's place in the world: its keeper, and the role where it runs.
+/// A role's place in the world: its keeper, and the role, which stays here while it doesn't run.
 #[derive(Drop)]
 pub struct Seat<R: Role> {
     cluster: Cluster,
     me: RoleId,
+    // None after it ran out of memory alone.
     role: Option<R>,
+    runs: bool,
+    // The record that a cut append kept, of which the role doesn't know yet.
+    behind: Option<Record>,
     keeper: LastKeeper,
 }
 
 impl<R: Role> Model for Seat<R> {
-    ghost use Rattle.std.specs.Prelude.{◌≡◌, None};
-    ghost use Rattle.std.specs.Option.{ForSome};
-    ghost use Rattle.cx_model.specs.Rules.{refused};
-    ghost use Rattle.cx_world.specs.Seat.{Seat, Stands, IsPlace};
+    ghost use Rattle.std.specs.Prelude.{if◌then◌else◌, None};
+    ghost use Rattle.cx_world.specs.Seat.{Seat, Sits};
 
     ghost Value = { Seat R };
 
-    ghost view = { λ seat. record { cluster = seat.cluster; me = seat.me; role = seat.role; records = seat.keeper.kept } };
+    ghost view = { λ seat. record { cluster = seat.cluster; me = seat.me; role = if seat.runs then seat.role else None; records = seat.keeper.kept } };
 
-    ghost invariant = { λ seat. IsPlace R.rules seat.cluster seat.me × (refused R.rules seat.cluster seat.me seat.keeper.kept ≡ None) × ForSome seat.role (λ r. Stands R.rules seat.cluster seat.me seat.keeper.kept (R.state r)) };
+    ghost invariant = { λ seat. Sits R.rules R.state seat.cluster seat.me seat.keeper.kept seat.role seat.runs seat.behind };
 }
 
 fn why_of_cut(cut: Cut) -> Why
@@ -70,13 +74,25 @@ fn step<R: Role>(
     ensures ok { IfOk result (λ why. Steps mem_append_gives R.rules (R.state role.old) (outcome_of R.rules (R.state role.old) input.now) why keeper.old keeper.new (R.state role.new) out.new.list) }
     ensures no_memory { IsErrOf result StepFault.NoMemory → StaysAt mem_append_gives (R.state role.old) (R.state role.new) keeper.old keeper.new out.new.list }
     ensures failed { IsErrOf result StepFault.Failed → FailsAt mem_append_gives (outcome_of R.rules (R.state role.old) input.now) keeper.old keeper.new (R.state role.new) out.new.list }
-    ensures fits_ok { IfOk result (λ _. IsFit R.rules (R.state role.old).cluster (R.state role.old).me (R.state role.old).durable (outcome_of R.rules (R.state role.old) input.now).kept) }
-    ensures fits_failed { IsErrOf result StepFault.Failed → IsFit R.rules (R.state role.old).cluster (R.state role.old).me (R.state role.old).durable (outcome_of R.rules (R.state role.old) input.now).kept }
+    ensures keeps { IsErrOf result StepFault.Failed → KeepsDurable (R.state role.old) (R.state role.new) }
+    ensures fits { IsErrOf result StepFault.Failed → IsFit R.rules (R.state role.old).cluster (R.state role.old).me (R.state role.old).durable (outcome_of R.rules (R.state role.old) input.now).kept }
 {
     match input {
         Input::Take { datagram } => role.take(keeper, datagram, out),
         Input::Order { order } => role.order(keeper, order, out),
         Input::Tick => Ok(role.tick(out)?),
+    }
+}
+
+// The role as it is opened again, with the record after what it knows.
+fn reopened<R: Role>(role: R, behind: &Option<Record>) -> Result<R, WakeFault>
+    requires { IsTrue (all_fit (option_to_list behind.now)) }
+    ensures role { IfOk result (λ opened. R.state opened ≡ reopened R.rules (R.state role) (option_to_list behind.now)) }
+    ensures fault { IfErr result (IsWakeFault (refused_behind R.rules (R.state role) (option_to_list behind.now))) }
+{
+    match behind {
+        Some(one) => role.reopen(from_ref(one)),
+        None => role.reopen(&[]),
     }
 }
 
@@ -94,6 +110,8 @@ impl<R: Role + Drop> Seat<R> {
                 cluster: *cluster,
                 me,
                 role: Some(role),
+                runs: true,
+                behind: None,
                 keeper: LastKeeper::new(alloc),
             }),
             Err(WakeFault::NoMemory) => Err(NoMemory),
@@ -105,8 +123,11 @@ impl<R: Role + Drop> Seat<R> {
         requires { out.old.list ≡ [] }
         ensures { IfOk result (λ turned. IsTurned R.state (seat_turn R.rules R.state (Give input.now cut) self.old) self.old self.new turned.why turned.kept out.new.list) }
     {
-        let Some(role) = &mut self.role else {
+        if !self.runs {
             return Ok(still(Why::Down));
+        }
+        let Some(role) = &mut self.role else {
+            unreachable!();
         };
         self.keeper.cut(cut);
         let before = self.keeper.len();
@@ -117,8 +138,11 @@ impl<R: Role + Drop> Seat<R> {
             }
             Err(StepFault::NoMemory) => Err(NoMemory),
             Err(StepFault::Failed) => {
-                self.role = None;
+                self.runs = false;
+                let stopped = self.role.take();
+                self.behind = self.keeper.kept_since(before)?;
                 let kept = self.keeper.kept_since(before)?;
+                self.role = stopped;
                 Ok(Turned {
                     why: why_of_cut(cut),
                     kept,
@@ -130,24 +154,27 @@ impl<R: Role + Drop> Seat<R> {
     fn stop(&mut self) -> Why
         ensures { IsTurned R.state (seat_turn R.rules R.state Stop self.old) self.old self.new result None [] }
     {
-        if self.role.is_none() {
+        if !self.runs {
             return Why::Down;
         }
-        self.role = None;
+        self.runs = false;
         Why::Crashed
     }
 
-    fn wake(&mut self, alloc: Global, kept: &Kept) -> Result<Why, NoMemory>
-        requires { self.old.records ≡ records_of self.old.me kept.now }
+    fn wake(&mut self) -> Result<Why, NoMemory>
         ensures { IfOk result (λ why. IsTurned R.state (seat_turn R.rules R.state Wake self.old) self.old self.new why None []) }
     {
-        if self.role.is_some() {
+        if self.runs {
             return Ok(Why::Up);
         }
-        let records = kept.records_of(self.me)?;
-        match R::open(alloc, &self.cluster, self.me, &records) {
+        let Some(role) = self.role.take() else {
+            return Err(NoMemory);
+        };
+        let behind = self.behind.take();
+        match reopened(role, &behind) {
             Ok(role) => {
                 self.role = Some(role);
+                self.runs = true;
                 Ok(Why::Opened)
             }
             Err(WakeFault::NoMemory) => Err(NoMemory),
@@ -155,36 +182,26 @@ impl<R: Role + Drop> Seat<R> {
         }
     }
 
-    /// What is done to the role, whose records stand in this history.
-    pub fn act(
-        &mut self,
-        alloc: Global,
-        kept: &Kept,
-        act: &Act,
-        out: &mut Outbox,
-    ) -> Result<Turned, NoMemory>
-        requires records { self.old.records ≡ records_of self.old.me kept.now }
+    /// What is done to the role.
+    pub fn act(&mut self, act: &Act, out: &mut Outbox) -> Result<Turned, NoMemory>
         requires empty { out.old.list ≡ [] }
         ensures { IfOk result (λ turned. IsTurned R.state (seat_turn R.rules R.state act.now self.old) self.old self.new turned.why turned.kept out.new.list) }
     {
         match act {
             Act::Give { input, cut } => self.give(input, *cut, out),
             Act::Stop => Ok(still(self.stop())),
-            Act::Wake => Ok(still(self.wake(alloc, kept)?)),
+            Act::Wake => Ok(still(self.wake()?)),
         }
     }
 }
 
-/// What is done to the role at this place; the records of each role stand in this history.
+/// What is done to the role at this place.
 pub fn act_at<R: Role + Drop>(
-    alloc: Global,
     seats: &mut Vec<Seat<R>>,
-    kept: &Kept,
     index: u16,
     act: &Act,
     out: &mut Outbox,
 ) -> Result<Turned, NoMemory>
-    requires records { HaveRecords kept.now seats.old.items }
     requires empty { out.old.list ≡ [] }
     ensures { IfOk result (λ turned. TurnsAt R.rules R.state act.now index seats.old.items seats.new.items turned.why turned.kept out.new.list) }
 {
@@ -193,7 +210,7 @@ pub fn act_at<R: Role + Drop>(
         return Ok(still(Why::Down));
     }
     let seat = &mut seats[index];
-    seat.act(alloc, kept, act, out)
+    seat.act(act, out)
 }
 
 /// A running role at each place below this count.

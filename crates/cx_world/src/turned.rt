@@ -1,4 +1,4 @@
-//! What a turn came to, of one role and of the world.
+//! The result of a turn, of one role and of the world.
 
 ghost use Rattle.std.specs.Prelude.{◌≡◌, true, option_to_list};
 ghost use Rattle.cx_keeper.specs.Keeper.{all_fit};
@@ -7,7 +7,7 @@ ghost use Rattle.cx_history.specs.Kept.{records_kept};
 use cx_base::{RoleId, Why};
 use cx_msg::{KeptRecord, Record};
 
-/// What a turn of a role came to, beside the seat and the outbox: in which word, and which record was kept.
+/// The result of a turn of a role, beside the seat and the outbox: in which word, and which record was kept.
 #[derive(Drop)]
 pub struct Turned {
     pub why: Why,
@@ -15,7 +15,7 @@ pub struct Turned {
     ghost fits: { all_fit (option_to_list kept) ≡ true },
 }
 
-/// What an event came to, beside the roles and the outbox: at which role, in which word, and which record was kept.
+/// The result of an event, beside the roles and the outbox: at which role, in which word, and which record was kept.
 #[derive(Drop)]
 pub struct Changed {
     pub who: Option<RoleId>,

@@ -1,7 +1,7 @@
 //! The world: all roles, and the histories of what happened.
 
 ghost use Rattle.std.specs.Prelude.{◌≡◌, ◌++◌, ◌∷◌, [], true, false, IfOk, OnOk, OnErr, IsTrue, option_to_list, slice_get};
-ghost use Rattle.cx_base.specs.Asked.{takes_event};
+ghost use Rattle.cx_base.specs.Asked.{is_valid_event};
 ghost use Rattle.cx_model.specs.Chosen.{chosen_prefix};
 ghost use Rattle.cx_model.specs.World.{step, start, run, event_list};
 ghost use Rattle.cx_promises.specs.Lawful.{IsLawful, IsCommandList};
@@ -13,13 +13,12 @@ ghost use Rattle.cx_keeper.specs.Keeper.{all_fit};
 ghost use Rattle.cx_world.specs.World.{BeginWith, effect_of};
 
 use crate::change::{Seats, change};
-use crate::choice::chosen_prefix;
 use crate::counts::{Counts, count};
 use crate::folded::folded;
-use crate::prefix::Chosen;
 use crate::seat::open_all;
 use crate::turned::Changed;
 use cx_base::{Cluster, Event, Happened, Kind, NoMemory, Why};
+use cx_choice::{Chosen, chosen_prefix};
 use cx_history::{Events, Kept, Sent};
 use cx_msg::{Datagram, KeptRecord};
 use cx_role::Outbox;
@@ -27,7 +26,7 @@ use cx_trace::{Effect, Folded};
 use std::alloc::Global;
 use std::marker::Model;
 
-/// All roles of a cluster with their keepers, and the histories: events with what they came to, records that were kept, and
+/// All roles of a cluster with their keepers, and the histories: events with their results, records that were kept, and
 /// datagrams that were sent, numbered from 0.
 #[derive(Drop)]
 pub struct World {
@@ -121,11 +120,11 @@ impl World {
     }
 
     /// One event: the new world is the model's step of the old one, and the effect tells what the step did. What is promised of
-    /// runs holds of the events so far. After want of memory the world is spent, and its histories begin with those from before.
-    #[tactic(auto, using(cx_promises::proofs::Lawful::lawful), unfolding(cx_model::specs::World::step))]
+    /// runs holds of the events so far. After it ran out of memory the world is spent, and its histories begin with those from before.
+    #[tactic(auto, unfolding(cx_model::specs::World::step))]
     pub fn step(&mut self, event: &Event) -> Result<Effect, NoMemory>
         requires fresh { self.old.spent ≡ false }
-        requires taken { IsTrue (takes_event event.now) }
+        requires taken { IsTrue (is_valid_event event.now) }
         ensures ok { OnOk result (self.new ≡ record { world = step self.old.world event.now; spent = false }) }
         ensures effect { IfOk result (λ effect. effect ≡ effect_of self.old.world event.now) }
         ensures lawful { OnOk result (IsLawful self.new.world.cluster (event_list self.new.world.events)) }
@@ -135,9 +134,7 @@ impl World {
         self.spent = true;
         let first = self.sent.len();
         let Changed { who, why, kept } = change(
-            self.alloc,
             &mut self.seats,
-            &self.kept,
             &self.sent,
             &self.events,
             event,
@@ -162,7 +159,7 @@ impl World {
         })
     }
 
-    /// Whether a step was cut off for want of memory. It takes no memory.
+    /// Whether a step was cut off when out of memory. It takes no memory.
     pub fn spent(&self) -> bool
         ensures { result ≡ self.now.spent }
     {
@@ -215,7 +212,6 @@ impl World {
 
     /// What is true of every world that isn't spent: it is the run of its events, and what is promised of runs holds of it. It takes
     /// no memory.
-    #[tactic(auto, using(cx_promises::proofs::Lawful::lawful))]
     pub fn law(&self)
         requires { self.now.spent ≡ false }
         ensures run { self.now.world ≡ run self.now.world.cluster (event_list self.now.world.events) }

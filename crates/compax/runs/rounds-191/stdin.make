@@ -1,1 +1,1 @@
-changes 12000
+changes 11260

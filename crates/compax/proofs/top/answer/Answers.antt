@@ -7,5 +7,5 @@ use Rattle.compax.proofs.top.answer.Goals as goal
 
 pub returns-in-Ok-Some-Node-clause-answered : goal.returns-in-Ok-Some-Node-clause-answered
 returns-in-Ok-Some-Node-clause-answered g c =
-    let asked : said (map string_bytes c.args.words.now) ≡ Some (Node c.in-Ok-Some-Node.turns c.as_slice.result.now) = search rules in
-    answered_node _ _ _ _ _ _ asked c.serve.ensures.answered c.serve.ensures.complete c.serve.ensures.tells_bad
+    let asked : said (map string_bytes c.args.words.now) ≡ Some (Node c.in-Ok-Some-Node.turns c.in-Ok-Some-Node.tend c.as_slice.result.now) = search rules in
+    answered_node _ _ _ _ _ _ _ asked c.serve.ensures.answered c.serve.ensures.complete c.serve.ensures.tells_bad

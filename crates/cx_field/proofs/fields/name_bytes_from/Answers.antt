@@ -1,11 +1,13 @@
-use Rattle.std.proofs.Common.{◌≡◌, [], List, take, ℕ, refl, arith, ◌∙◌, ap, Result, Ok}
+use Rattle.std.proofs.Common.{◌≡◌, ◌≤◌, [], List, length, take, ℕ, true, refl, rules, arith, ◌∙◌, ap, Result, Ok}
+use Rattle.std.specs.List.{list_all}
+use Rattle.cx_base.specs.Name.{is_name_byte}
 use Rattle.std.proofs.lemmas.Result.{err_from_is_err_and}
 use Rattle.std.proofs.lemmas.List.Folds.{list_all-append}
 use Rattle.cx_wire.specs.Format.{Miss, each_read}
 use Rattle.cx_wire.proofs.Loops.{goes_on, is_done}
 use Rattle.cx_field.specs.Fields.{name_byte}
 use Rattle.cx_field.proofs.Exits.{list_ends}
-use Rattle.cx_field.proofs.NameBytes.{next}
+use Rattle.cx_field.proofs.NameBytes.{all_read, next}
 use Rattle.cx_field.proofs.fields.name_bytes_from.Goals as goal
 
 pub returns-in_err-name_byte_from-clause-read : goal.returns-in_err-name_byte_from-clause-read
@@ -30,3 +32,10 @@ returns-clause-read c =
     let k : c.loop.counter ≡ c.args.count = omega arith in
     let done = is_done (λ (_ : List ℕ). name_byte) (take c.loop.counter c.bytes-bytes.result.now) c.args.count c.loop.counter c.loop.reader (each_read (λ _. name_byte) [] c.args.count c.args.reader.now) c.loop-test.false c.loop.invariant.so_far in
     done ∙ (let pack : ℕ → Result (List ℕ × List ℕ) Miss = λ n. Ok (take n c.bytes-bytes.result.now, c.loop.reader) in ap pack k)
+
+pub returns-then-are_name_bytes-clause-read : goal.returns-then-are_name_bytes-clause-read
+returns-then-are_name_bytes-clause-read c =
+    let bytes = c.bytes-bytes.result.now in
+    let long : c.args.count ≤ length bytes = search rules in
+    let all : list_all is_name_byte (take c.args.count bytes) ≡ true = search rules in
+    rw (c.skip.ensures, ← c.bytes-bytes.ensures) (all_read c.args.count bytes long all)

@@ -9,7 +9,7 @@ use Rattle.cx_field.proofs.items.items_from.Goals as goal
 pub returns-in_err-item-clause-read : goal.returns-in_err-item-clause-read
 returns-in_err-item-clause-read g c =
     let f = g.I.Items.format c.args.items.now in
-    let p = err_from_is_err_and c.from_residual.result c.from_residual.ensures.1 in
+    let p = err_from_is_err_and c.from_residual-in_err-item.result c.from_residual-in_err-item.ensures.1 in
     let here : Fails c.in_err-item.field-0.0 ((f c.loop.list.items).read c.loop.reader) = rw (← c.as_slice.ensures.value) c.in_err-item.ensures in
     rw (p.1, p.2) (list_ends f c.in_err-item.field-0.0 c.loop.list.items c.args.count c.loop.counter c.loop.reader (each_read f [] c.args.count c.args.reader.now) c.loop-test.true here c.loop.invariant.so_far)
 

@@ -53,3 +53,11 @@ returns-in_err-guest-clause-bad g c = λ role at e tells.
     first_bad g.D.Store.Disk.seen g.D.Store.Disk.faults c.args.cluster.now c.args.events.now (g.D.Depot.tells c.args.depot.now) (g.D.Depot.held c.args.depot.now) c.args.roles.now c.loop-role.seats.items
     before.opened tells role at next
     (subst (λ (file : List ℕ). IsBadAs c.args.cluster.now role file at role.kind) (before.held role) (c.in_err-guest.ensures.bad role at (ap Err is) (before.told ∙ tells)))
+
+pub returns-in_err-guest-clause-apart : goal.returns-in_err-guest-clause-apart
+returns-in_err-guest-clause-apart g c = λ who none.
+    let before = c.loop-role.invariant in
+    let me : RoleId = slice_index_or c.args.roles.now c.loop-role.role-index (a_role kind.Client 0) in
+    let here : slice_get c.args.roles.now c.loop-role.role-index ≡ Some me = slice_get-get_or c.args.roles.now c.loop-role.role-index (a_role kind.Client 0) c.loop-role-test.true in
+    let stays = c.open_guest.ensures.apart who (λ e. none c.loop-role.role-index (here ∙ ap Some (sym e))) in
+    (stays.0 ∙ before.held who, stays.1 ∙ before.still who)

@@ -4,7 +4,7 @@ use Rattle.cx_node.specs.Hosting.{GivesBack, HostAnswered}
 use Rattle.cx_node.specs.Serving.{outside}
 use Rattle.cx_node.specs.declared.opening.OpenStop.{OpenStop}
 use Rattle.cx_node.specs.declared.opening.OpenStop.TheVariants as open_stop
-use Rattle.cx_node.proofs.ClosedStores.{opened_stays, opened_still}
+use Rattle.cx_node.proofs.ClosedStores.{opened_stays, opened_still, opened_unhosted}
 use Rattle.cx_node.proofs.Lent.{ok_is_err}
 use Rattle.cx_node.proofs.HostedRuns.{host_early, host_ran, host_unopened}
 use Rattle.cx_node.proofs.OpenedRoles.{all_named, distinct_opened, ready_opened}
@@ -21,7 +21,7 @@ returns-then-not-bind_all-clause-answered g c = λ left left_after reads reads_a
     let new = outside left_after reads_after (g.L.Link.told c.bind_all.new.link) (g.L.Link.faults c.bind_all.new.link) (g.W.Sink.taken c.args.out.now) (g.W.Sink.faults c.args.out.now)
     (g.D.Depot.tells c.args.depot.now) (g.D.Depot.held c.args.depot.now) (g.D.Depot.faults c.args.depot.now) in
     record {
-      did = (host_early c.args.cluster.now c.args.events.now c.args.roles.now old new c.bind_all.ensures.part.0 c.bind_all.ensures.part.1 refl (λ t i me here durable. refl), c.bind_all.ensures.failed c.if-not-bind_all.true);
+      did = (host_early c.args.tend c.args.cluster.now c.args.events.now c.args.turns c.args.roles.now old new c.bind_all.ensures.part.0 c.bind_all.ensures.part.1 refl (λ t i me here durable. refl) (λ me none. (refl, refl)) refl, c.bind_all.ensures.failed c.if-not-bind_all.true);
       written = λ no. refl;
       linked = λ no. absurd (no refl);
       good = λ run. absurd run;
@@ -50,10 +50,11 @@ returns-in-Ok-clause-answered g c = λ left left_after reads reads_after.
     let new = outside left_after reads_after (g.L.Link.told c.run_seats.new.link) (g.L.Link.faults c.run_seats.new.link) (g.W.Sink.taken c.run_seats.new.out) (g.W.Sink.faults c.run_seats.new.out)
     (depot.tells c.run_seats.new.depot) (depot.held c.run_seats.new.depot) (depot.faults c.run_seats.new.depot) in
     let run = c.run_seats.ensures.ran in
-    subst (λ s. HostAnswered c.args.roles.now c.args.cluster.now c.args.events.now c.args.turns old new s) (sym run.2)
-    (host_ran disk.seen disk.may_leave disk.moment disk.left_since disk.faults c.args.cluster.now c.args.events.now c.args.turns c.args.roles.now old new
+    subst (λ s. HostAnswered c.args.roles.now c.args.tend c.args.cluster.now c.args.events.now c.args.turns old new s) (sym run.2)
+    (host_ran disk.seen disk.may_leave disk.moment disk.left_since disk.faults c.args.tend c.args.cluster.now c.args.events.now c.args.turns c.args.roles.now old new
     (g.L.Link.told c.bind_all.new.link) (g.L.Link.faults c.bind_all.new.link) (depot.held c.open_seats.new.depot) (depot.faults c.open_seats.new.depot) c.open_seats.new.seats.items run.0 run.1
-    c.requires.distinct c.open_seats.ensures.opened c.in-Ok.ensures.all (c.bind_all.ensures.all c.if-not-bind_all.false) (c.bind_all.ensures.still c.if-not-bind_all.false) (λ role. c.in-Ok.ensures.others role (ok_is_err tt (open_stop.StoreFault role))) run.3
+    c.requires.distinct c.open_seats.ensures.opened c.in-Ok.ensures.all (c.bind_all.ensures.all c.if-not-bind_all.false) (c.bind_all.ensures.still c.if-not-bind_all.false) (λ role. c.in-Ok.ensures.others role (ok_is_err tt (open_stop.StoreFault role)))
+    (λ me none. (c.open_seats.ensures.apart me none).0) (c.run_seats.ensures.told ∙ c.open_seats.ensures.told) run.3
     (subst (λ t. GivesBack disk.seen disk.faults run.0 t (depot.held c.open_seats.new.depot) (depot.held c.run_seats.new.depot) (depot.faults c.open_seats.new.depot) (depot.faults c.run_seats.new.depot))
     c.open_seats.ensures.told run.4))
 
@@ -75,9 +76,12 @@ returns-in-Err-clause-answered g c = λ left left_after reads reads_after.
     let stands = opened_still disk.seen disk.may_leave disk.moment disk.left_since disk.faults c.args.cluster.now c.args.events.now (depot.tells c.args.depot.now) (depot.held c.args.depot.now)
     (depot.held c.open_seats.new.depot) (depot.held c.close_seats.new.depot) (depot.faults c.open_seats.new.depot) (depot.faults c.close_seats.new.depot) c.args.roles.now c.open_seats.new.seats.items
     opening.opened back in
-    let early = host_early c.args.cluster.now c.args.events.now c.args.roles.now old new c.bind_all.ensures.part.0 c.bind_all.ensures.part.1 refl stays in
-    subst (λ s. HostAnswered c.args.roles.now c.args.cluster.now c.args.events.now c.args.turns old new s) (sym c.unopened.ensures)
-    (host_unopened c.args.cluster.now c.args.events.now c.args.roles.now old new c.args.turns c.in-Err.stop early
+    let apart = opened_unhosted disk.seen disk.may_leave disk.moment disk.left_since disk.faults c.args.cluster.now c.args.events.now (depot.tells c.args.depot.now) (depot.held c.args.depot.now)
+    (depot.held c.open_seats.new.depot) (depot.held c.close_seats.new.depot) (depot.faults c.open_seats.new.depot) (depot.faults c.close_seats.new.depot) c.args.roles.now c.open_seats.new.seats.items opening.opened back in
+    let early = host_early c.args.tend c.args.cluster.now c.args.events.now c.args.turns c.args.roles.now old new c.bind_all.ensures.part.0 c.bind_all.ensures.part.1 refl stays
+    (λ me none. ((apart me none).0 ∙ (opening.apart me none).0, (apart me none).1 ∙ (opening.apart me none).1)) (close.told ∙ opening.told) in
+    subst (λ s. HostAnswered c.args.roles.now c.args.tend c.args.cluster.now c.args.events.now c.args.turns old new s) (sym c.unopened.ensures)
+    (host_unopened c.args.tend c.args.cluster.now c.args.events.now c.args.turns c.args.roles.now old new c.in-Err.stop early
     (λ role e. rises_still (depot.faults c.args.depot.now role) (depot.faults c.open_seats.new.depot role) (depot.faults c.close_seats.new.depot role) (opening.failed role (c.in-Err.is ∙ ap Err e)) (close.later role))
     (λ role at e t. opening.bad role at (c.in-Err.is ∙ ap Err e) t)
     (λ role no. stands role ∙ opening.others role (λ e. no (same_stop c.in-Err.stop (open_stop.StoreFault role) (sym c.in-Err.is ∙ e)))) refl (c.bind_all.ensures.still c.if-not-bind_all.false))

@@ -1,8 +1,6 @@
 use Rattle.std.proofs.Common.{◌∙◌, Err, refl, sym, ap, subst}
 use Rattle.cx_journal.specs.Appends.{IsJournalAppend}
-use Rattle.cx_node.specs.declared.node.RunEnd.{RunEnd}
 use Rattle.cx_node.specs.declared.node.Stop.TheVariants as stop
-use Rattle.cx_node.specs.Acts.{fails_by}
 use Rattle.cx_node.specs.Doing.{scene}
 use Rattle.cx_node.specs.Guest.{AreDistinct, hosted_in}
 use Rattle.cx_node.specs.Hosting.{GivesBack, Ran}
@@ -15,8 +13,8 @@ close_seats-requires-clause-out g c =
     let disk = g.D.Store.Disk in
     let run = c.run-end.ensures in
     let steady = steady_run (IsJournalAppend disk.seen disk.may_leave disk.moment disk.left_since disk.faults)
-    c.in-Ok.node.cluster c.args.turns c.run-end.result (scene c.in-Ok.node.guests (g.L.Link.told c.args.link.now) (g.W.Sink.taken c.args.out.now))
-    (scene c.run-end.new.self.guests (g.L.Link.told c.run-end.new.link) (g.W.Sink.taken c.run-end.new.out)) run.done run.names run.part in
+    c.args.tend c.in-Ok.node.cluster c.args.turns c.run-end.result (scene c.in-Ok.node.guests (g.L.Link.told c.args.link.now) (g.W.Sink.taken c.args.out.now))
+    (scene c.run-end.new.self.guests (g.L.Link.told c.run-end.new.link) (g.W.Sink.taken c.run-end.new.out)) run.done run.part in
     c.requires.lent ∙ ap (λ n. lent_to n.guests) (sym c.in-Ok.ensures.node) ∙ sym (lent_steady c.in-Ok.node.guests c.run-end.new.self.guests steady) ∙ ap lent_to (sym c.into_seats.ensures)
 
 pub close_seats-requires-clause-distinct : goal.close_seats-requires-clause-distinct
@@ -24,8 +22,8 @@ close_seats-requires-clause-distinct g c =
     let disk = g.D.Store.Disk in
     let run = c.run-end.ensures in
     let steady = steady_run (IsJournalAppend disk.seen disk.may_leave disk.moment disk.left_since disk.faults)
-    c.in-Ok.node.cluster c.args.turns c.run-end.result (scene c.in-Ok.node.guests (g.L.Link.told c.args.link.now) (g.W.Sink.taken c.args.out.now))
-    (scene c.run-end.new.self.guests (g.L.Link.told c.run-end.new.link) (g.W.Sink.taken c.run-end.new.out)) run.done run.names run.part in
+    c.args.tend c.in-Ok.node.cluster c.args.turns c.run-end.result (scene c.in-Ok.node.guests (g.L.Link.told c.args.link.now) (g.W.Sink.taken c.args.out.now))
+    (scene c.run-end.new.self.guests (g.L.Link.told c.run-end.new.link) (g.W.Sink.taken c.run-end.new.out)) run.done run.part in
     subst (λ hs. AreDistinct (hosted_in hs)) (sym c.into_seats.ensures)
     (distinct_steady c.in-Ok.node.guests c.run-end.new.self.guests steady (subst (λ n. AreDistinct (hosted_in n.guests)) (sym c.in-Ok.ensures.node) c.requires.ready.distinct))
 
@@ -40,13 +38,13 @@ returns-in-Ok-clause-ran g c =
       c.into_seats.result.items,
       c.run-end.result,
       c.ended.ensures,
-      subst (λ hs. Ran (IsJournalAppend disk.seen disk.may_leave disk.moment disk.left_since disk.faults) c.args.cluster.now c.args.turns c.run-end.result
+      subst (λ hs. Ran (IsJournalAppend disk.seen disk.may_leave disk.moment disk.left_since disk.faults) c.args.tend c.args.cluster.now c.args.turns c.run-end.result
           (scene c.args.seats.items (g.L.Link.told c.args.link.now) (g.W.Sink.taken c.args.out.now)) (scene hs (g.L.Link.told c.run-end.new.link) (g.W.Sink.taken c.run-end.new.out))
           (g.L.Link.faults c.args.link.now) (g.L.Link.faults c.run-end.new.link) (g.W.Sink.faults c.args.out.now) (g.W.Sink.faults c.run-end.new.out)) (sym c.into_seats.ensures)
-          (subst (λ n. Ran (IsJournalAppend disk.seen disk.may_leave disk.moment disk.left_since disk.faults) n.cluster c.args.turns c.run-end.result
+          (subst (λ n. Ran (IsJournalAppend disk.seen disk.may_leave disk.moment disk.left_since disk.faults) c.args.tend n.cluster c.args.turns c.run-end.result
           (scene n.guests (g.L.Link.told c.args.link.now) (g.W.Sink.taken c.args.out.now)) (scene c.run-end.new.self.guests (g.L.Link.told c.run-end.new.link) (g.W.Sink.taken c.run-end.new.out))
           (g.L.Link.faults c.args.link.now) (g.L.Link.faults c.run-end.new.link) (g.W.Sink.faults c.args.out.now) (g.W.Sink.faults c.run-end.new.out)) c.in-Ok.ensures.node
-          (record { done = run.done; names = run.names; part = run.part; store = run.store; written = run.written; unwritten = run.unwritten; linked = run.linked; unlinked = run.unlinked })),
+          (record { done = run.done; part = run.part; written = run.written; unwritten = run.unwritten; linked = run.linked; unlinked = run.unlinked })),
       record { holds = close.held; others = close.others; failed = close.failed; still = close.still; others_still = close.others_still; later = close.later },
     )
 
@@ -59,10 +57,7 @@ returns-in-Err-clause-ran g c =
       refl,
       record {
         done = tt;
-        names = tt;
-        part = runs_none (IsJournalAppend disk.seen disk.may_leave disk.moment disk.left_since disk.faults) (fails_by {T = RunEnd} (Err stop.NoMemory))
-            c.args.cluster.now c.args.turns (scene c.args.seats.items (g.L.Link.told c.args.link.now) (g.W.Sink.taken c.args.out.now));
-        store = λ role e. cc;
+        part = runs_none (IsJournalAppend disk.seen disk.may_leave disk.moment disk.left_since disk.faults) c.args.tend c.args.cluster.now c.args.turns (scene c.args.seats.items (g.L.Link.told c.args.link.now) (g.W.Sink.taken c.args.out.now));
         written = λ e. cc;
         unwritten = λ e. refl;
         linked = λ e. cc;

@@ -1,8 +1,9 @@
 use Rattle.std.proofs.Common.{◌≡◌, ◌+◌, ◌∷◌, ◌++◌, ◌∙◌, [], ℕ, List, length, length-append, ap, sym, arith}
 use Rattle.std.proofs.lemmas.List.{length-map}
 use Rattle.cx_msg.specs.Letter.{Letter}
+use Rattle.cx_msg.specs.Spelled.{letter_of}
 use Rattle.cx_history.specs.Answers.{is_answer, is_read_answer}
-use Rattle.cx_history.specs.Short.{letter_of, letters_of}
+use Rattle.cx_history.specs.Short.{letters_of}
 use Rattle.cx_history.proofs.Counting.{filtered_least}
 use Rattle.cx_history.proofs.sent.Sent.push.Goals as goal
 

@@ -30,10 +30,10 @@ loop-slot-preserved c =
     let send = propose_to c.args.cluster.now (role Leader c.args.leader) c.args.own.now p.cw in
     let slots : AreSlots p = subst AreSlots c.self.view_is c.self.invariant.proposing.slots in
     record {
-      list = rw c.in_ok-propose.ensures.list (sent_to send p (p.next - p.cw) c.loop-slot.slot c.loop-slot.out.list _ slots c.loop-slot.invariant.low c.loop-slot.invariant.list);
+      list = rw c.in_ok-propose_if_open.ensures.list (sent_to send p (p.next - p.cw) c.loop-slot.slot c.loop-slot.out.list _ slots c.loop-slot.invariant.low c.loop-slot.invariant.list);
       low = omega (arith, c.loop-slot.invariant.low);
-      room = omega (arith, c.loop-slot.invariant.room, c.in_ok-propose.ensures.spare);
-      spare = omega (arith, c.loop-slot.invariant.spare, c.in_ok-propose.ensures.spare);
+      room = omega (arith, c.loop-slot.invariant.room, c.in_ok-propose_if_open.ensures.spare);
+      spare = omega (arith, c.loop-slot.invariant.spare, c.in_ok-propose_if_open.ensures.spare);
     }
 
 pub returns-clause-list : goal.returns-clause-list

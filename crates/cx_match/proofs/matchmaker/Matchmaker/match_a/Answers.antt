@@ -11,10 +11,10 @@ match_nack-requires-then-has_later-clause-other g c =
     let later = rw (c.has_later.ensures, c.deref.ensures.value) at c.if-has_later.true in
     rw (c.last_round-last.ensures, c.deref-then-has_later.ensures.value) (greatest_fits c.self.inside.entries.items (some_later c.args.round c.self.inside.entries.items later) c.self.invariant.entries)
 
-pub match_nack-requires-then-len-ge16-clause-other : goal.match_nack-requires-then-len-ge16-clause-other
-match_nack-requires-then-len-ge16-clause-other g c =
+pub match_nack-requires-then-len-ge-ROUNDS-clause-other : goal.match_nack-requires-then-len-ge-ROUNDS-clause-other
+match_nack-requires-then-len-ge-ROUNDS-clause-other g c =
     let some : 0 < length c.self.inside.entries.items = omega arith in
-    rw (c.last_round-last-then-len-ge16.ensures, c.deref-then-len-ge16.ensures.value) (greatest_fits c.self.inside.entries.items some c.self.invariant.entries)
+    rw (c.last_round-last-then-len-ge-ROUNDS.ensures, c.deref-then-len-ge-ROUNDS.ensures.value) (greatest_fits c.self.inside.entries.items some c.self.invariant.entries)
 
 pub keep-requires : goal.keep-requires
 keep-requires g c = match_fits c.args.round c.args.grid c.requires.round c.requires.grid

@@ -1,15 +1,9 @@
-use Rattle.std.proofs.Common.{◌≡◌, [], length, get_or, Some, Err, slice_get, refl, ap, ◌∙◌}
+use Rattle.std.proofs.Common.{◌≡◌, length, get_or, Some, Err, slice_get, refl, ap, ◌∙◌}
 use Rattle.std.proofs.lemmas.Option.{slice_get_read}
 use Rattle.std.proofs.lemmas.Result.{err_from_is_err_and}
 use Rattle.cx_node.specs.declared.node.Stop.TheVariants as stop
-use Rattle.cx_node.specs.Acts.{fails_by}
-use Rattle.cx_node.specs.Guest.{hosted_of, who}
-use Rattle.cx_node.specs.Hosted.{does}
 use Rattle.cx_node.specs.Node.{NodeState}
-use Rattle.cx_node.proofs.Actions.{no_memory_of_store, no_write_of_store}
-use Rattle.cx_node.proofs.Asked.{asks_nothing, part_all, part_none, text_none}
-use Rattle.cx_node.proofs.Grown.{guest_whole}
-use Rattle.cx_node.proofs.Seated.{acts_seated, acts_seated_part}
+use Rattle.cx_node.proofs.Seated.{acts_seated, acts_unasked, acts_unsent, acts_unwritten}
 use Rattle.cx_node.proofs.node.Node.act.Goals as goal
 
 pub returns-in_err-ask-clause-acts : goal.returns-in_err-ask-clause-acts
@@ -23,11 +17,10 @@ returns-in_err-ask-clause-acts g c =
     let is : c.from_residual.result ≡ Err c.in_err-ask.field-0.0 = p.1 ∙ ap Err p.2 in
     let link = g.L.Link.told c.args.link.now in
     let out = g.W.Sink.taken c.args.out.now in
-    let m = does (hosted_of h) c.args.what.now in
     rw (is, same)
-    (acts_seated_part g.K.Keeper.append_gives c.args.self.now.cluster gs i c.args.what.now h c.ask.new.seat here c.requires.ready c.in_err-ask.ensures.name
-    link link out out c.in_err-ask.field-0.0 c.in_err-ask.ensures.part (part_none c.args.self.now.cluster [] m.sends link link (asks_nothing c.args.self.now.cluster link)) (text_none m.text out)
-    (λ role e. c.in_err-ask.ensures.failed role (ap Err e)))
+    (acts_unasked g.K.Keeper.append_gives c.args.self.now.cluster gs i c.args.what.now h c.ask.new.seat here c.requires.ready c.in_err-ask.ensures.name
+    link out c.in_err-ask.field-0.0 (λ e. c.in_err-ask.ensures.rests (ap Err e)) (λ role e. c.in_err-ask.ensures.failed role (ap Err e))
+    (λ e. c.in_err-ask.ensures.no_write (ap Err e)) (λ e. c.in_err-ask.ensures.no_link (ap Err e)))
 
 pub returns-in_err-send_all-clause-acts : goal.returns-in_err-send_all-clause-acts
 returns-in_err-send_all-clause-acts g c =
@@ -38,16 +31,13 @@ returns-in_err-send_all-clause-acts g c =
     let h = c.index_mut.result.now in
     let i = c.args.place in
     let here : slice_get gs i ≡ Some h = slice_get_read gs (length gs) i h refl c.requires.place (c.index_mut.ensures.value ∙ ap (λ xs. get_or xs i h) same) in
-    let m = does (hosted_of h) c.args.what.now in
     let p = err_from_is_err_and c.from_residual-in_err-send_all.result c.from_residual-in_err-send_all.ensures.1 in
     let is : c.from_residual-in_err-send_all.result ≡ Err stop.NoMemory = p.1 ∙ ap Err p.2 in
     let out = g.W.Sink.taken c.args.out.now in
     rw (is, same)
-    (acts_seated_part g.K.Keeper.append_gives cl gs i c.args.what.now h c.ask.new.seat here c.requires.ready c.in_ok-ask.ensures.name
-    (g.L.Link.told c.args.link.now) (g.L.Link.told c.send_all.new.link) out out stop.NoMemory
-    (guest_whole g.K.Keeper.append_gives (fails_by {T = Unit {0}} (Err stop.NoMemory) (who h)) m.kept h c.ask.new.seat c.in_ok-ask.ensures.name c.in_ok-ask.ensures.kept)
-    (rw (same_cluster, c.as_slice.ensures, c.in_ok-ask.ensures.sends) at c.in_err-send_all.ensures.part) (text_none m.text out)
-    (λ role e. absurd (no_memory_of_store role e)))
+    (acts_unsent g.K.Keeper.append_gives cl gs i c.args.what.now h c.ask.new.seat here c.requires.ready c.in_ok-ask.ensures.name
+    (g.L.Link.told c.args.link.now) (g.L.Link.told c.send_all.new.link) out c.in_ok-ask.ensures.kept
+    (rw (same_cluster, c.as_slice.ensures, c.in_ok-ask.ensures.sends) at c.in_err-send_all.ensures.part))
 
 pub returns-then-not-write_all-clause-acts : goal.returns-then-not-write_all-clause-acts
 returns-then-not-write_all-clause-acts g c =
@@ -58,14 +48,11 @@ returns-then-not-write_all-clause-acts g c =
     let h = c.index_mut.result.now in
     let i = c.args.place in
     let here : slice_get gs i ≡ Some h = slice_get_read gs (length gs) i h refl c.requires.place (c.index_mut.ensures.value ∙ ap (λ xs. get_or xs i h) same) in
-    let m = does (hosted_of h) c.args.what.now in
     rw same
-    (acts_seated_part g.K.Keeper.append_gives cl gs i c.args.what.now h c.ask.new.seat here c.requires.ready c.in_ok-ask.ensures.name
-    (g.L.Link.told c.args.link.now) (g.L.Link.told c.send_all.new.link) (g.W.Sink.taken c.args.out.now) (g.W.Sink.taken c.write_all.new.sink) stop.WriteFault
-    (guest_whole g.K.Keeper.append_gives (fails_by {T = Unit {0}} (Err stop.WriteFault) (who h)) m.kept h c.ask.new.seat c.in_ok-ask.ensures.name c.in_ok-ask.ensures.kept)
-    (part_all cl [] m.sends (g.L.Link.told c.args.link.now) (g.L.Link.told c.send_all.new.link) (rw (same_cluster, c.as_slice.ensures, c.in_ok-ask.ensures.sends) at c.in_ok-send_all.ensures.sent))
-    (rw (c.deref.ensures.value, c.in_ok-ask.ensures.text) at c.if-not-write_all.ensures.bytes)
-    (λ role e. absurd (no_write_of_store role e)))
+    (acts_unwritten g.K.Keeper.append_gives cl gs i c.args.what.now h c.ask.new.seat here c.requires.ready c.in_ok-ask.ensures.name
+    (g.L.Link.told c.args.link.now) (g.L.Link.told c.send_all.new.link) (g.W.Sink.taken c.args.out.now) (g.W.Sink.taken c.write_all.new.sink) c.in_ok-ask.ensures.kept
+    (rw (same_cluster, c.as_slice.ensures, c.in_ok-ask.ensures.sends) at c.in_ok-send_all.ensures.sent)
+    (rw (c.deref.ensures.value, c.in_ok-ask.ensures.text) at c.if-not-write_all.ensures.bytes))
 
 pub returns-clause-acts : goal.returns-clause-acts
 returns-clause-acts g c =

@@ -7,5 +7,5 @@ use Rattle.cx_node.proofs.node.Node.run.Goals as goal
 pub returns-in_err-all_turns-clause-part : goal.returns-in_err-all_turns-clause-part
 returns-in_err-all_turns-clause-part g c =
     let p = err_from_is_err_and c.from_residual.result c.from_residual.ensures.1 in
-    run_stops g.K.Keeper.append_gives c.args.self.now.cluster c.args.turns c.in_err-all_turns.field-0.0 c.from_residual.result (scene c.args.self.now.guests (g.L.Link.told c.args.link.now) (g.W.Sink.taken c.args.out.now))
+    run_stops g.K.Keeper.append_gives c.args.tend c.args.self.now.cluster c.args.turns c.in_err-all_turns.field-0.0 c.from_residual.result (scene c.args.self.now.guests (g.L.Link.told c.args.link.now) (g.W.Sink.taken c.args.out.now))
     (scene c.all_turns.new.self.guests (g.L.Link.told c.all_turns.new.link) (g.W.Sink.taken c.all_turns.new.out)) (p.1 ∙ ap Err p.2) c.in_err-all_turns.ensures.acts

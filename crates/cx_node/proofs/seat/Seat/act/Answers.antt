@@ -1,20 +1,12 @@
-use Rattle.std.proofs.Common.{ap, sym, ◌∙◌, rules, subst, refl}
-use Rattle.std.specs.Prelude.{IsErrOf, slice_get}
+use Rattle.std.proofs.Common.{Option, ap, sym, ◌∙◌, rules, subst}
+use Rattle.std.specs.Prelude.{slice_get}
 use Rattle.cx_model.specs.World.{records_of}
-use Rattle.cx_role.specs.declared.role.StepFault.TheVariants as fault
 use Rattle.cx_node.specs.declared.guest.Guest.{Guest}
-use Rattle.cx_node.specs.Guest.{hosted_of, keeper_of, who}
-use Rattle.cx_node.specs.Hosted.{Hosted, Moved, does, given}
-use Rattle.cx_node.specs.Seat.{FailsIn, named}
-use Rattle.cx_node.proofs.Acted.{fails_first, given_is, sends_are, stays_part, text_is}
+use Rattle.cx_node.specs.Guest.{FailsIn, hosted_of, keeper_of, who}
+use Rattle.cx_node.specs.Hosted.{Step, does, given}
+use Rattle.cx_node.proofs.Acted.{given_is, sends_are, text_is}
 use Rattle.cx_node.proofs.Named.{is_shown, keeper_named, named_itself, own_name}
 use Rattle.cx_node.proofs.seat.Seat.act.Goals as goal
-
-pub returns-in_err-begin-in-Begin-clause-part : goal.returns-in_err-begin-in-Begin-clause-part
-returns-in_err-begin-in-Begin-clause-part g c =
-    let same = ap (λ (h : Guest _). named c.self.inside.me h) c.begin.ensures.state ∙ c.self.view_is in
-    let part = stays_part g.K.Keeper.append_gives (IsErrOf c.from_residual.result fault.Failed) (does (hosted_of c.args.self.now) c.args.what.now).kept c.args.self.now (named c.self.inside.me c.begin.new.guest) same in
-    search (rules, part)
 
 pub returns-in_err-give-in-Give-clause-failed : goal.returns-in_err-give-in-Give-clause-failed
 returns-in_err-give-in-Give-clause-failed g c failed =
@@ -22,9 +14,9 @@ returns-in_err-give-in-Give-clause-failed g c failed =
     let shown = is_shown c.self.inside.me c.self.inside.guest c.args.self.now own c.self.view_is in
     let moved = given_is c.self.inside.guest c.args.self.now c.args.what.now c.in-Give.input shown c.in-Give.is in
     let fails : FailsIn g.K.Keeper.append_gives (slice_get (records_of (who c.self.inside.guest) (given (hosted_of c.self.inside.guest) c.in-Give.input).kept) 0) (keeper_of c.self.inside.guest) (keeper_of c.give.new.guest) = c.in_err-give-in-Give.ensures.failed (search (rules, failed)) in
-    let here = subst (λ (m : Moved Hosted). FailsIn g.K.Keeper.append_gives (slice_get (records_of (who c.self.inside.guest) m.kept) 0) (keeper_of c.self.inside.guest) (keeper_of c.give.new.guest)) moved fails in
+    let here = subst (λ (m : Step). FailsIn g.K.Keeper.append_gives (slice_get (records_of (who c.self.inside.guest) m.kept) 0) (keeper_of c.self.inside.guest) (keeper_of c.give.new.guest)) moved fails in
     let there = subst (λ (h : Guest _). FailsIn g.K.Keeper.append_gives (slice_get (records_of (who h) (does (hosted_of c.args.self.now) c.args.what.now).kept) 0) (keeper_of h) (keeper_of c.give.new.guest)) shown here in
-    fails_first g.K.Keeper.append_gives (does (hosted_of c.args.self.now) c.args.what.now).kept c.args.self.now (named c.self.inside.me c.give.new.guest) (keeper_of c.args.self.now) (keeper_of c.give.new.guest) refl (keeper_named c.self.inside.me c.give.new.guest) there
+    subst (λ (o : Option _). FailsIn g.K.Keeper.append_gives (slice_get (records_of (who c.args.self.now) (does (hosted_of c.args.self.now) c.args.what.now).kept) 0) (keeper_of c.args.self.now) o) (sym (keeper_named c.self.inside.me c.give.new.guest)) there
 
 pub returns-in_ok-give-in-Give-clause-role : goal.returns-in_ok-give-in-Give-clause-role
 returns-in_ok-give-in-Give-clause-role g c =
@@ -32,7 +24,7 @@ returns-in_ok-give-in-Give-clause-role g c =
     let shown = is_shown c.self.inside.me c.self.inside.guest c.args.self.now own c.self.view_is in
     let moved = given_is c.self.inside.guest c.args.self.now c.args.what.now c.in-Give.input shown c.in-Give.is in
     let after = named_itself c.self.inside.me c.give.new.guest (own ∙ sym c.in_ok-give-in-Give.ensures.name) in
-    ap (λ (h : Guest _). hosted_of h) after ∙ c.in_ok-give-in-Give.ensures.role ∙ ap (λ (m : Moved Hosted). m.next) moved
+    ap (λ (h : Guest _). hosted_of h) after ∙ c.in_ok-give-in-Give.ensures.role ∙ ap (λ (m : Step). m.next) moved
 
 pub returns-in_ok-give-in-Give-clause-sends : goal.returns-in_ok-give-in-Give-clause-sends
 returns-in_ok-give-in-Give-clause-sends g c =

@@ -1,18 +1,32 @@
-use Rattle.std.proofs.Common.{◌≡◌, ◌+◌, ◌++◌, ◌∷◌, ◌∙◌, [], length, length-append, ap, sym, arith}
-use Rattle.cx_pieces.proofs.Cuts.{cut_more, ends_more}
+use Rattle.std.proofs.Common.{◌≡◌, ◌++◌, ◌∷◌, ◌∙◌, [], List, ℕ, ap}
+use Rattle.cx_pieces.proofs.Holding.{held_closed, held_more}
 use Rattle.cx_pieces.proofs.pieces.Pieces.push.Goals as goal
+
+pub invariant_of-self : goal.invariant_of-self
+invariant_of-self c =
+    let old = c.self.inside in
+    held_closed old.count old.chunks.items c.close.new.chunks.items old.last.items c.close.new.last.items old.room.items c.self.invariant c.close.ensures.same c.close.ensures.full
+
+pub invariant_of-self-in_err-reserve : goal.invariant_of-self-in_err-reserve
+invariant_of-self-in_err-reserve c =
+    let old = c.self.inside in
+    let closed = held_closed old.count old.chunks.items c.close.new.chunks.items old.last.items c.close.new.last.items old.room.items c.self.invariant c.close.ensures.same c.close.ensures.full in
+    rw c.reserve.ensures.items closed
+
+pub invariant_of-self-in_err-held : goal.invariant_of-self-in_err-held
+invariant_of-self-in_err-held c =
+    let old = c.self.inside in
+    let closed = held_closed old.count old.chunks.items c.close.new.chunks.items old.last.items c.close.new.last.items old.room.items c.self.invariant c.close.ensures.same c.close.ensures.full in
+    record {
+      count_is = rw c.reserve.ensures.items closed.count_is;
+      are_full = closed.are_full;
+      room_is = c.put_piece.ensures.room;
+    }
 
 pub invariant_of-self-2 : goal.invariant_of-self-2
 invariant_of-self-2 c =
     let old = c.self.inside in
-    let ends : c.push_reserved.new.self.items ≡ old.ends.items ++ c.in_ok-end.end ∷ [] = c.push_reserved.ensures.items ∙ ap (λ es. es ++ c.in_ok-end.end ∷ []) c.in_ok-reserve.ensures.items in
-    let end : c.in_ok-end.end ≡ length old.bytes.items + length c.args.piece.now = c.in_ok-end.ensures ∙ ap (λ n. n + length c.args.piece.now) (c.len.ensures ∙ old.bytes.ok.0) in
-    let all : length c.extend_from_slice.new.self.items ≡ c.in_ok-end.end = ap length c.in_ok-extend_from_slice.ensures.items ∙ length-append old.bytes.items c.args.piece.now ∙ sym end in
-    rw (ends, all) (ends_more 0 old.ends.items (length old.bytes.items) c.in_ok-end.end c.self.invariant (omega (arith, end)))
-
-pub returns-clause-ok : goal.returns-clause-ok
-returns-clause-ok c =
-    let old = c.self.inside in
-    let ends : c.push_reserved.new.self.items ≡ old.ends.items ++ c.in_ok-end.end ∷ [] = c.push_reserved.ensures.items ∙ ap (λ es. es ++ c.in_ok-end.end ∷ []) c.in_ok-reserve.ensures.items in
-    let end : c.in_ok-end.end ≡ length old.bytes.items + length c.args.piece.now = c.in_ok-end.ensures ∙ ap (λ n. n + length c.args.piece.now) (c.len.ensures ∙ old.bytes.ok.0) in
-    rw (← c.self.view_is) (rw (ends, c.in_ok-extend_from_slice.ensures.items) (cut_more 0 old.ends.items old.bytes.items c.args.piece.now c.in_ok-end.end c.self.invariant end))
+    let chunks = c.close.new.chunks.items in
+    let closed = held_closed old.count old.chunks.items chunks old.last.items c.close.new.last.items old.room.items c.self.invariant c.close.ensures.same c.close.ensures.full in
+    let last : c.push_reserved.new.self.items ≡ c.close.new.last.items ++ c.in_ok-held.held ∷ [] = c.push_reserved.ensures.items ∙ ap (λ (l : List (List ℕ)). l ++ c.in_ok-held.held ∷ []) c.reserve.ensures.items in
+    rw last (held_more old.count c.in_ok-count.count chunks c.close.new.last.items old.room.items c.put_piece.new.room.items c.in_ok-held.held closed c.in_ok-count.ensures c.put_piece.ensures.room)

@@ -1,9 +1,12 @@
-use Rattle.std.proofs.Common.{◌≡◌, ◌≤◌, true, sym, subst, length, List, ◌++◌, refl}
+use Rattle.std.proofs.Common.{◌≡◌, ◌+◌, ◌≤◌, true, rules, sym, subst, length, List, ◌++◌, refl, ◌∙◌}
 use Rattle.cx_base.specs.declared.command.Value.{Value}
 use Rattle.cx_replica.specs.Sound.{are_own, are_own_early, are_reads}
-use Rattle.cx_model.specs.Replica.{machine_from, still_deferred}
+use Rattle.cx_base.specs.Log.{ready_values}
+use Rattle.cx_model.specs.Replica.{ReplicaDurable, ReplicaVolatile, apply, machine_from, replica_rules, still_deferred}
+use Rattle.cx_model.specs.Rules.{Running, running_after}
+use Rattle.cx_replica.proofs.Reading.{sent_behind, state_behind}
 use Rattle.cx_replica.proofs.Rows.{own_fits, ready_own, sound_more, still_few, still_own, still_reads}
-use Rattle.cx_replica.proofs.Values.{values_fit}
+use Rattle.cx_replica.proofs.Values.{mark_fits, values_fit}
 use Rattle.cx_replica.proofs.replica.Replica.apply.Given.{Over}
 use Rattle.cx_replica.proofs.replica.Replica.apply.Goals as goal
 use Rattle.cx_replica.proofs.replica.Replica.apply.Goals.{In_ok-values}
@@ -13,32 +16,70 @@ own g c =
     subst (λ (vs : List Value). are_own c.self.inside.cluster vs ≡ true) (sym c.in_ok-values.ensures.values)
     (ready_own c.self.inside.cluster (length c.self.inside.log.list) c.self.inside.log.early c.args.value.now (rw (← c.self.view_is) at c.requires.value) c.self.invariant.waiting)
 
-pub executed-requires-clause-slots : goal.executed-requires-clause-slots
-executed-requires-clause-slots g c = rw c.as_slice.ensures.items c.in_ok-values.ensures.short
+pub keep-requires : goal.keep-requires
+keep-requires g c =
+    let all = own g (goal.at.keep-requires g c).In_ok-values in
+    values_fit c.in_ok-values.values c.as_slice-count.ensures.some c.as_slice-count.ensures.room (own_fits c.self.inside.cluster c.in_ok-values.values all)
 
-pub executed-requires-clause-values : goal.executed-requires-clause-values
-executed-requires-clause-values g c = rw c.as_slice.ensures.items (own_fits c.self.inside.cluster c.in_ok-values.values (own g (goal.at.executed-requires-clause-values g c).In_ok-values))
+pub execute_values-requires-clause-slots : goal.execute_values-requires-clause-slots
+execute_values-requires-clause-slots g c = rw (c.held-held.ensures.held, c.as_slice.ensures.items, c.into_values-values.ensures) c.in_ok-values.ensures.short
 
-pub append-requires : goal.append-requires
-append-requires g c =
-    let all = own g (goal.at.append-requires g c).In_ok-values in
-    rw c.in_ok-copy.ensures (values_fit c.in_ok-values.values c.as_slice.ensures.some c.as_slice.ensures.room (own_fits c.self.inside.cluster c.in_ok-values.values all))
+pub execute_values-requires-clause-values : goal.execute_values-requires-clause-values
+execute_values-requires-clause-values g c =
+    let all = own g (goal.at.execute_values-requires-clause-values g c).In_ok-values in
+    rw (c.as_slice.ensures.items, c.into_values-values.ensures) (own_fits c.self.inside.cluster c.in_ok-values.values all)
+
+pub answer_reads-requires-clause-held : goal.answer_reads-requires-clause-held
+answer_reads-requires-clause-held g c = mark_fits _ (rw (c.held-held.ensures.held, c.as_slice-count.ensures.items) c.in_ok-values.ensures.short)
 
 pub put-requires-clause-short : goal.put-requires-clause-short
-put-requires-clause-short g c = c.in_ok-values.ensures.short
+put-requires-clause-short g c = rw c.into_values-values.ensures c.in_ok-values.ensures.short
 
-pub invariant_of-self-3 : goal.invariant_of-self-3
-invariant_of-self-3 g c =
+pub put-requires-clause-ready : goal.put-requires-clause-ready
+put-requires-clause-ready g c = rw c.into_values-values.ensures c.in_ok-values.ensures.ready
+
+pub put-requires-clause-room : goal.put-requires-clause-room
+put-requires-clause-room g c = rw c.into_values-values.ensures c.in_ok-values.ensures.room
+
+pub invariant_of-self-2 : goal.invariant_of-self-2
+invariant_of-self-2 g c =
     let log = c.self.inside.log in
-    let all = own g (goal.at.invariant_of-self-3 g c).In_ok-values in
-    let list : c.put.new.self.list ≡ log.list ++ c.in_ok-values.values = rw (c.put.ensures.list, c.ready.ensures.list) refl in
+    let vs = c.in_ok-values.values in
+    let all = own g (goal.at.invariant_of-self-2 g c).In_ok-values in
+    let list : c.put.new.self.list ≡ log.list ++ vs = rw (c.put.ensures.list, c.ready.ensures.list, c.into_values-values.ensures) refl in
     let early : are_own_early c.self.inside.cluster c.put.new.self.early ≡ true =
     rw (c.put.ensures.early, c.ready.ensures.early) (still_own c.self.inside.cluster (length c.put.new.self.list) log.early c.self.invariant.waiting) in
-    let ran : c.in_ok-machine.machine ≡ machine_from (length log.list) c.self.inside.machine c.in_ok-values.values =
-    rw (c.in_ok-machine.ensures.machine, c.ready.ensures.list, c.as_slice.ensures.items, c.self.invariant.machine) refl in
+    let ran : c.execute_values.new.self.left ≡ machine_from (length log.list) c.self.inside.machine.left vs =
+    rw (c.execute_values.ensures.machine, c.make_room.ensures.left, c.held-held.ensures.held, c.ready.ensures.list, c.as_slice.ensures.items, c.into_values-values.ensures) refl in
     let held = c.held.result in
     let reads = c.self.inside.deferred.items in
     let left : c.drop_answered.new.deferred.items ≡ still_deferred held reads = c.drop_answered.ensures in
     let fit : are_reads c.drop_answered.new.deferred.items ≡ true = rw left (still_reads held reads c.self.invariant.reads) in
     let few : length c.drop_answered.new.deferred.items ≤ 64 = rw left (still_few held reads 64 c.self.invariant.few) in
-    sound_more c.self.inside.cluster c.self.inside.me log c.put.new.self c.self.inside.machine c.in_ok-machine.machine reads c.drop_answered.new.deferred.items c.in_ok-values.values c.self.invariant list all early ran fit few
+    sound_more c.self.inside.cluster c.self.inside.me log c.put.new.self c.self.inside.machine.left c.execute_values.new.self.left reads c.drop_answered.new.deferred.items vs c.self.invariant list all early ran fit few
+
+pub returns-clause-ok : goal.returns-clause-ok
+returns-clause-ok g c =
+    let i = c.self.inside in
+    let log = i.log.list in
+    let vs = c.in_ok-values.values in
+    let at : c.held-held.result ≡ length log = rw (c.held-held.ensures.held, c.ready.ensures.list) refl in
+    let count : c.held-held.result + length c.as_slice-count.result.now ≡ length log + length vs = rw (at, c.as_slice-count.ensures.items) refl in
+    let ready : vs ≡ ready_values (length log) i.log.early c.args.value.now = c.in_ok-values.ensures.values in
+    let new : c.put.new.self.list ≡ log ++ c.into_values-values.result = rw (c.put.ensures.list, c.ready.ensures.list) refl in
+    record {
+      why = refl;
+      kept = search rules;
+      state = subst (λ (s : Running ReplicaDurable ReplicaVolatile).
+          record { cluster = i.cluster; me = i.me; live = c.keep.new.live; durable = record { log = c.put.new.self.list }; volatile = record { early = c.put.new.self.early; deferred = c.drop_answered.new.deferred.items } }
+          ≡ running_after replica_rules s (apply s.cluster s.me s.durable s.volatile (ready_values (length s.durable.log) s.volatile.early c.args.value.now))) c.self.view_is
+          (rw c.in_ok-keep.ensures.lives
+          (state_behind i.cluster i.me i.live log c.put.new.self.list _ vs c.into_values-values.result i.log.early c.ready.new.self.early c.put.new.self.early i.deferred.items
+          c.drop_answered.new.deferred.items c.held.result new c.into_values-values.ensures ready c.put.ensures.early c.ready.ensures.early c.drop_answered.ensures c.held.ensures.held));
+      sends = subst (λ (s : Running ReplicaDurable ReplicaVolatile). c.answer_reads.new.out.list
+          ≡ (apply s.cluster s.me s.durable s.volatile (ready_values (length s.durable.log) s.volatile.early c.args.value.now)).sends) c.self.view_is
+          (sent_behind i.cluster i.me log _ vs c.as_slice.result.now i.machine.left c.make_room.new.self.left c.execute_values.new.self.left c.held-held.result
+          (c.held-held.result + length c.as_slice-count.result.now) i.deferred.items c.deref.result.now c.room.new.self.list c.execute_values.new.out.list c.answer_reads.new.out.list
+          c.self.invariant.machine c.make_room.ensures.left at (c.as_slice.ensures.items ∙ c.into_values-values.ensures) ready c.deref.ensures.value c.execute_values.ensures.machine count
+          (c.room.ensures.list ∙ c.requires.empty) c.execute_values.ensures.sends c.answer_reads.ensures);
+    }

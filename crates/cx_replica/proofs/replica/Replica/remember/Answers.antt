@@ -13,6 +13,6 @@ invariant_of-result c =
     let own = logged_own c.self.inside.cluster c.self.inside.me (record { log = log.list }) c.in-Log.values (rw c.in-Log.is at c.requires.ranges) (rw (← c.self.view_is, c.in-Log.is) at c.requires.own) in
     let list : c.restore.new.self.list ≡ log.list ++ c.in-Log.values = rw (ap (λ (l : LogState). l.list) c.in_ok-restore.ensures.ok, c.as_slice-values.ensures.items) refl in
     let early = none_own c.self.inside.cluster c.restore.new.self (log.list ++ c.as_slice-values.result.now) 0 c.in_ok-restore.ensures.ok in
-    let ran : c.replay.new.self ≡ machine_from (length log.list) c.self.inside.machine c.in-Log.values = rw (c.in_ok-replay.ensures, c.held.ensures.held, c.as_slice-values.ensures.items) refl in
+    let ran : c.replay.new.self.left ≡ machine_from (length log.list) c.self.inside.machine.left c.in-Log.values = rw (c.in_ok-replay.ensures, c.held.ensures.held, c.as_slice-values.ensures.items) refl in
     let reads = c.self.inside.deferred.items in
-    sound_more c.self.inside.cluster c.self.inside.me log c.restore.new.self c.self.inside.machine c.replay.new.self reads reads c.in-Log.values c.self.invariant list own early ran c.self.invariant.reads c.self.invariant.few
+    sound_more c.self.inside.cluster c.self.inside.me log c.restore.new.self c.self.inside.machine.left c.replay.new.self.left reads reads c.in-Log.values c.self.invariant list own early ran c.self.invariant.reads c.self.invariant.few

@@ -1,5 +1,6 @@
 use Rattle.std.proofs.Common.{◌≡◌, false, ap, refl, ◌∙◌}
-use Rattle.cx_model.specs.World.{World}
+use Rattle.cx_model.specs.World.{World, event_list}
+use Rattle.cx_promises.proofs.Lawful.{lawful}
 use Rattle.cx_world.specs.World.{WorldState, roles_of, lists_of}
 use Rattle.cx_world.proofs.Steps.{held_after}
 use Rattle.cx_world.proofs.world.World.step.Goals as goal
@@ -15,3 +16,6 @@ invariant_of-self-2 c =
     (c.in_ok-who.ensures w refl refl holds.seats) holds.ran
     c.note.new.events c.note.new.kept c.note.new.sent c.note.new.out.list
     c.in_ok-note.ensures.events c.in_ok-note.ensures.kept c.in_ok-note.ensures.sent c.in_ok-note.ensures.out
+
+pub returns-clause-lawful : goal.returns-clause-lawful
+returns-clause-lawful c = lawful c.self.inside.cluster (event_list c.note.new.events)

@@ -1,0 +1,87 @@
+-- The values that are chosen, vote by vote.
+use Rattle.std.proofs.Common.{◌≡◌, ◌&&◌, ◌||◌, ◌==◌, ◌∷◌, ◌++◌, ◌∙◌, [], ℕ, Bool, true, false, Bor, List, refl, inl, inr, ap, sym}
+use Rattle.std.proofs.lemmas.Bool.{cases_Bool}
+use Rattle.std.proofs.lemmas.List.Folds.{list_any-append}
+use Rattle.std.specs.List.{list_any}
+use Rattle.cx_base.specs.Grid.{Shape}
+use Rattle.cx_base.specs.Same.{same_value}
+use Rattle.cx_base.specs.declared.command.Value.{Value}
+use Rattle.cx_base.specs.declared.round.Round.{Round}
+use Rattle.cx_msg.specs.declared.kept.Record.{Record}
+use Rattle.cx_msg.specs.declared.kept.Record.TheVariants as kept
+use Rattle.cx_msg.specs.declared.input.KeptRecord.{KeptRecord}
+use Rattle.cx_choice.proofs.Casts.{same_among}
+use Rattle.cx_choice.proofs.Whole.{chosen_by_whole}
+use Rattle.cx_choice.proofs.Same.{one_value}
+use Rattle.cx_choice.specs.Enough.{is_among, is_chosen_among, is_enough, is_whole, is_whole_vote}
+use Rattle.cx_choice.specs.OfRound.{of_round}
+use Rattle.cx_choice.specs.Sorted.{AreCast, casts_in}
+use Rattle.cx_choice.specs.declared.of_round.OfRound.{OfRound}
+
+or_no : (b : Bool) → (b || false) ≡ b
+or_no true = refl
+or_no false = refl
+
+and_no : (b : Bool) → (b && false) ≡ false
+and_no true = refl
+and_no false = refl
+
+-- a vote in another slot adds none
+pub elsewhere : (values : List (Bor Value)) (rounds : List (OfRound Shape)) (votes : List KeptRecord) (s : ℕ) (j : Round) (t : ℕ) (u v : Value) → (t == s) ≡ false
+    → is_among values v ≡ (is_among values v || is_whole rounds votes s v j t u)
+elsewhere values rounds votes s j t u v e = rw e (sym (or_no (is_among values v)))
+
+-- nor does one for a value that is among the others
+pub among : (values : List (Bor Value)) (rounds : List (OfRound Shape)) (votes : List KeptRecord) (s : ℕ) (j : Round) (t : ℕ) (u v : Value) → is_among values u ≡ true
+    → is_among values v ≡ (is_among values v || is_whole rounds votes s v j t u)
+among values rounds votes s j t u v e =
+    elim (cases_Bool (same_value u v)) [
+      | inr other ↦ rw (other, and_no (t == s)) (sym (or_no (is_among values v)))
+      | inl same ↦ let there : is_among values v ≡ true = ap (is_among values) (sym (one_value u v same)) ∙ e in rw there refl
+    ]
+
+-- nor does one whose round has too few votes for it
+pub few : (values : List (Bor Value)) (rounds : List (OfRound Shape)) (votes : List KeptRecord) (s : ℕ) (j : Round) (t : ℕ) (u v : Value) → is_enough rounds votes s j u ≡ false
+    → is_among values v ≡ (is_among values v || is_whole rounds votes s v j t u)
+few values rounds votes s j t u v e =
+    elim (cases_Bool (same_value u v)) [
+      | inr other ↦ rw (other, and_no (t == s)) (sym (or_no (is_among values v)))
+      | inl same ↦
+          let none : is_enough rounds votes s j v ≡ false = ap (is_enough rounds votes s j) (sym (one_value u v same)) ∙ e in
+          rw (none, and_no ((t == s) && same_value u v)) (sym (or_no (is_among values v)))
+    ]
+
+-- one whose round has enough is added
+pub more : (values new : List (Bor Value)) (rounds : List (OfRound Shape)) (votes : List KeptRecord) (s : ℕ) (j : Round) (t : ℕ) (one : Bor Value) (v : Value) → new ≡ values ++ one ∷ []
+    → (t == s) ≡ true → is_enough rounds votes s j one.now ≡ true → is_among new v ≡ (is_among values v || is_whole rounds votes s v j t one.now)
+more values new rounds votes s j t one v is here enough =
+    let parts : is_among new v ≡ (is_among values v || (same_value one.now v || false)) = ap (λ l. is_among l v) is ∙ list_any-append (λ (u : Bor Value). same_value u.now v) values (one ∷ []) in
+    elim (cases_Bool (same_value one.now v)) [
+      | inl same ↦
+          let enough_v : is_enough rounds votes s j v ≡ true = ap (is_enough rounds votes s j) (sym (one_value one.now v same)) ∙ enough in
+          parts ∙ (rw (here, same, enough_v) refl)
+      | inr other ↦ parts ∙ (rw (here, other) refl)
+    ]
+
+-- the values of the whole votes are the chosen ones
+pub all_told : (values : List (Bor Value)) (rounds : List (OfRound Shape)) (votes : List KeptRecord) (casts : List (OfRound (Bor KeptRecord))) (s : ℕ) (v : Value) → AreCast votes casts
+    → is_among values v ≡ list_any (λ (k : KeptRecord). is_whole_vote rounds (casts_in casts) s v k.what) votes
+    → is_among values v ≡ is_chosen_among rounds votes s v
+all_told values rounds votes casts s v are told =
+    told ∙ (λ i. list_any (λ (k : KeptRecord). same_whole k.what i) votes) ∙ sym (chosen_by_whole rounds votes s v) where
+      same_whole : (what : Record) → is_whole_vote rounds (casts_in casts) s v what ≡ is_whole_vote rounds votes s v what
+      same_whole (kept.Promise i) = refl
+      same_whole (kept.Vote j t cw u) = ap (λ b. (t == s) && same_value u v && b) (same_among (of_round j rounds) votes casts s v are)
+      same_whole (kept.Water i mark) = refl
+      same_whole (kept.Match i g) = refl
+      same_whole (kept.Garbage i g) = refl
+      same_whole (kept.Round i g) = refl
+      same_whole (kept.Log values) = refl
+
+-- so they are when all votes were looked at
+pub finished : (values : List (Bor Value)) (rounds : List (OfRound Shape)) (votes rest : List KeptRecord) (casts : List (OfRound (Bor KeptRecord))) (s : ℕ) (v : Value) → AreCast votes casts
+    → rest ≡ [] → (is_among values v || list_any (λ (k : KeptRecord). is_whole_vote rounds (casts_in casts) s v k.what) rest) ≡ list_any (λ (k : KeptRecord). is_whole_vote rounds (casts_in casts) s v k.what) votes
+    → is_among values v ≡ is_chosen_among rounds votes s v
+finished values rounds votes rest casts s v are none told =
+    let all : (is_among values v || false) ≡ list_any (λ (k : KeptRecord). is_whole_vote rounds (casts_in casts) s v k.what) votes = rw none at told in
+    all_told values rounds votes casts s v are (sym (or_no (is_among values v)) ∙ all)

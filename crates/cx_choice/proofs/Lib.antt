@@ -1,0 +1,11 @@
+pub mod Among
+pub mod Apart
+pub mod Casts
+pub mod Chained
+pub mod Grouped
+pub mod Numbered
+pub mod Order
+pub mod Picked
+pub mod Same
+pub mod Slots
+pub mod Whole

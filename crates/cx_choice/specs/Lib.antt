@@ -1,0 +1,5 @@
+pub mod Chains
+pub mod Enough
+pub mod OfRound
+pub mod Prefix
+pub mod Sorted

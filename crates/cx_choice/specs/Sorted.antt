@@ -1,0 +1,55 @@
+-- The records on which a choice rests, apart: the rounds, and the votes of a slot.
+use Rattle.std.specs.Prelude.{◌≡◌, ◌==◌, ◌++◌, ◌∷◌, [], ℕ, Bool, false, List, filter, map}
+use denote.Ref.{Bor}
+use Rattle.std.specs.List.{All}
+use Rattle.std.specs.List.Sorted.{IsPermutation}
+use Rattle.cx_base.specs.Grid.{Shape}
+use Rattle.cx_base.specs.Round.{no_round}
+use Rattle.cx_base.specs.declared.round.Round.{Round}
+use Rattle.cx_msg.specs.declared.kept.Record.{Record}
+use Rattle.cx_msg.specs.declared.kept.Record.TheVariants as kept
+use Rattle.cx_msg.specs.declared.input.KeptRecord.{KeptRecord}
+use Rattle.cx_choice.specs.OfRound.{IsByRound}
+use Rattle.cx_choice.specs.declared.of_round.OfRound.{OfRound}
+
+-- the round that a leader began by a record, with its grid
+abbrev pub begun_by : Record → List (OfRound Shape)
+begun_by (kept.Round j g) = record { round = j; item = g } ∷ []
+begun_by other = []
+
+-- the rounds that were kept, in order
+abbrev pub rounds_of : List KeptRecord → List (OfRound Shape)
+rounds_of [] = []
+rounds_of (k ∷ ks) = begun_by k.what ++ rounds_of ks
+
+-- all of these rounds, in the order of rounds
+pub record AreRounds (history : List KeptRecord) (rounds : List (OfRound Shape)) : Type 0 where
+  pub all : IsPermutation (rounds_of history) rounds
+  pub sorted : IsByRound rounds
+
+abbrev pub is_vote_in : ℕ → Record → Bool
+is_vote_in s (kept.Vote j t cw v) = t == s
+is_vote_in s other = false
+
+-- the votes that were kept in a slot, in order
+abbrev pub votes_of : ℕ → List KeptRecord → List KeptRecord
+votes_of s history = filter (λ (k : KeptRecord). is_vote_in s k.what) history
+
+-- the round of a vote; of another record no round, which nothing asks for
+abbrev pub round_in : Record → Round
+round_in (kept.Vote j s cw v) = j
+round_in other = no_round
+
+-- a vote is listed with its own round
+abbrev pub IsCast : OfRound (Bor KeptRecord) → Type 0
+IsCast one = one.round ≡ round_in one.item.now.what
+
+-- the votes that are listed with their rounds
+abbrev pub casts_in : List (OfRound (Bor KeptRecord)) → List KeptRecord
+casts_in casts = map (λ (one : OfRound (Bor KeptRecord)). one.item.now) casts
+
+-- all of these votes, in the order of their rounds
+pub record AreCast (votes : List KeptRecord) (casts : List (OfRound (Bor KeptRecord))) : Type 0 where
+  pub all : IsPermutation votes (casts_in casts)
+  pub sorted : IsByRound casts
+  pub cast : All IsCast casts

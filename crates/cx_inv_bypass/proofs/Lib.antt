@@ -1,0 +1,4 @@
+pub mod Windows
+pub mod Rows
+pub mod Keep
+pub mod Steps

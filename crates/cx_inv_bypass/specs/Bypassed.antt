@@ -1,0 +1,45 @@
+-- What is promised of a leader that goes on with another grid without a first phase, in one run, that of the events `es` over the cluster `c`.
+-- Nothing of it is proved here.
+use Rattle.std.specs.Prelude.{◌≡◌, ℕ, ◌+◌, ◌<◌, ◌≤◌, List, [], ◌∷◌, ◌++◌, length, Some}
+use Rattle.cx_base.specs.declared.cluster.Cluster.{Cluster}
+use Rattle.cx_base.specs.declared.command.Value.{Value}
+use Rattle.cx_base.specs.declared.event.Event.{Event}
+use Rattle.cx_base.specs.declared.role.Kind.TheVariants as kind
+use Rattle.cx_base.specs.declared.role.RoleId.{RoleId}
+use Rattle.cx_base.specs.declared.round.Round.{Round}
+use Rattle.cx_base.specs.declared.why.Why.TheVariants as why
+use Rattle.cx_base.specs.Round.{change_after}
+use Rattle.cx_msg.specs.Letter.{letter}
+use Rattle.cx_msg.specs.declared.message.Msg.TheVariants as msg
+use Rattle.cx_model.specs.Facts.{IsProposed}
+use Rattle.cx_model.specs.History.{finish_at}
+use Rattle.cx_model.specs.Leader.{leader_rules, round_of}
+use Rattle.cx_model.specs.Member.{Member}
+use Rattle.cx_model.specs.World.{World, change, run, durable_part}
+
+-- the step of an event answers `bypassed`, which only a leader's row does, in this round
+pub record Bypasses (w : World) (e : Event) (i : Round) : Type 0 where
+  pub who : RoleId
+  pub kind_is : who.kind ≡ kind.Leader
+  pub at_it : (change w e).who ≡ Some who
+  pub word : (change w e).why ≡ why.Bypassed
+  pub round : round_of (durable_part leader_rules who w.kept).own ≡ i
+
+-- What such a step does: it asks no acceptor, and with it the leader finishes the round, which follows another of its own.
+pub record GoesOn (w : World) (e : Event) (i : Round) : Type 0 where
+  pub asks_nobody : (from to : RoleId) (k : Round) → Member (letter from to (msg.Phase1A k)) (change w e).sends → ⊥
+  pub before : Round
+  pub follows : change_after before ≡ Some i
+  pub cw : ℕ
+  pub end : ℕ
+  pub finish : finish_at w e ≡ record { event = length w.events + 1; round = i; cw = cw; end = end } ∷ []
+  -- it proposes in each slot from the watermark to the end what the round before proposed there, and nothing else
+  pub proposes : (s : ℕ) → cw ≤ s → s < end → (v : Value) × IsProposed w.sent before s v × IsProposed (change w e).sends i s v
+  pub only : (j : Round) (s : ℕ) (v : Value) → IsProposed (change w e).sends j s v
+      → (j ≡ i) × (cw ≤ s) × (s < end) × IsProposed w.sent before s v
+
+-- A round that bypasses the first phase asks no acceptor, and proposes in each slot from its watermark to its end what the round before proposed
+-- there (phase 1 bypassing, JSys 2021).
+abbrev pub BypassedRounds : Cluster → List Event → Type 0
+BypassedRounds c es =
+    (then later : List Event) (e : Event) → es ≡ then ++ e ∷ later → (i : Round) → Bypasses (run c then) e i → GoesOn (run c then) e i

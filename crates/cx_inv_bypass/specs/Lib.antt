@@ -1,0 +1,2 @@
+pub mod Bypassed
+pub mod Full

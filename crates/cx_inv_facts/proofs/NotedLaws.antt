@@ -1,0 +1,222 @@
+-- Each step leaves what a role notes with the datagram that it came in; so it is in every run, and datagrams and records are in this order.
+use Rattle.std.proofs.Common.{◌≡◌, ℕ, true, false, List, [], ◌++◌, reverse, Option, None, Some, ap, sym, subst, refl, inl, inr}
+use Rattle.cx_base.specs.declared.cluster.Cluster.{Cluster}
+use Rattle.cx_base.specs.declared.event.Event.{Event}
+use Rattle.cx_base.specs.declared.role.Kind.{Kind}
+use Rattle.cx_base.specs.declared.role.Kind.TheVariants as kind
+use Rattle.cx_base.specs.declared.role.RoleId.{RoleId}
+use Rattle.cx_base.specs.declared.round.Round.{Round}
+use Rattle.cx_base.specs.Grid.{Shape}
+use Rattle.cx_base.specs.Role.{role, same_role}
+use Rattle.cx_msg.specs.Letter.{Letter}
+use Rattle.cx_msg.specs.declared.input.Input.{Input}
+use Rattle.cx_msg.specs.declared.input.KeptRecord.{KeptRecord}
+use Rattle.cx_msg.specs.declared.kept.Record.{Record}
+use Rattle.cx_msg.specs.declared.kept.Record.TheVariants as kept
+use Rattle.cx_model.specs.Facts.{has_matched, is_match_of}
+use Rattle.cx_model.specs.Leader.{LeaderDurable, LeaderVolatile, leader_rules, leader_row, round_of}
+use Rattle.cx_model.specs.Member.{Member}
+use Rattle.cx_model.specs.Outcome.{Outcome}
+use Rattle.cx_model.specs.Promises.{HasKept, IsConfig}
+use Rattle.cx_model.specs.Proxy.{ProxyVolatile, proxy_row}
+use Rattle.cx_model.specs.Request.{request}
+use Rattle.cx_model.specs.World.{World, run, records_of}
+use Rattle.cx_inv_run.specs.Laws.{Lands, Laws}
+use Rattle.cx_inv_run.specs.States.{State, Down, BatcherIn, LeaderIn, ProxyIn, ReplicaIn, ReaderIn, plain, state_found, fresh_state, set_state, with_record, durable_of, Given, HoldsIn}
+use Rattle.cx_inv_run.proofs.Histories.{durable_by_time, durable_other, set_running}
+use Rattle.cx_inv_run.proofs.KindLaws.{kinds_hold}
+use Rattle.cx_inv_run.proofs.Members.{Member-first, any-Member}
+use Rattle.cx_inv_run.proofs.Rounds.{same_round-true}
+use Rattle.cx_inv_run.proofs.Steps.{always}
+use Rattle.cx_inv_match.specs.Facts.{Facts, InState}
+use Rattle.cx_inv_vote.proofs.Steps.{facts_hold}
+use Rattle.cx_inv_facts.specs.Ended.{Known}
+use Rattle.cx_inv_facts.specs.Laws.{SourcesHold, OrderHolds}
+use Rattle.cx_inv_facts.specs.Sources.{IsNamed, LeaderNotes, ProxyNotes, SourceFacts, OrderFacts}
+use Rattle.cx_inv_facts.proofs.Done.{retires_after}
+use Rattle.cx_inv_facts.proofs.Moments.{to_turned, of_records}
+use Rattle.cx_inv_facts.proofs.NotedRows.{notes_on, proxy_notes}
+
+module _ (c : Cluster) where
+  abbrev NotedState : List KeptRecord → List Letter → RoleId → State → Type 0
+  NotedState history sent me (LeaderIn v) = LeaderNotes c sent me (round_of (durable_of leader_rules me history).own) v
+  NotedState history sent me (ProxyIn v) = ProxyNotes sent me v
+  NotedState history sent me other = Unit {0}
+
+  abbrev AreNoted : List KeptRecord → List Letter → (RoleId → State) → Type 0
+  AreNoted history sent states = (me : RoleId) → NotedState history sent me (states me)
+
+  -- with more datagrams
+
+  module _ (sent more : List Letter) (has : (d : Letter) → Member d sent → Member d more) (me : RoleId) where
+    leader_more : (i : Round) (v : LeaderVolatile) → LeaderNotes c sent me i v → LeaderNotes c more me i v
+    leader_more i v h = record {
+      seen = elim h.seen [ inl e ↦ inl e | inr n ↦ inr (named n) ];
+      proposed = λ p m. elim (h.proposed p m) [
+        | inl e ↦ inl e
+        | inr k ↦ (elim k [
+          | inl r ↦ inr (inl record {
+            round = r.round;
+            cw = r.cw;
+            votes = r.votes;
+            came = (r.came.0, has _ r.came.1);
+            vote = r.vote;
+            member = r.member;
+            slot = r.slot;
+            value = r.value;
+          })
+          | inr b ↦ inr (inr (b.0, b.1, (b.2.0, has _ b.2.1)))
+        ])
+      ];
+      cw = elim h.cw [
+        | inl e ↦ inl e
+        | inr k ↦ (elim k [ inl p ↦ inr (inl (p.0, p.1, (p.2.0, has _ p.2.1))) | inr l ↦ inr (inr l) ])
+      ];
+      once = h.once;
+      retired = λ t. let r = h.retired t in (r.0, λ m k. has _ (r.1 m k));
+    }
+      where
+        named : IsNamed sent me v.seen → IsNamed more me v.seen
+        named (inl n) = inl (n.0, (n.1.0, has _ n.1.1))
+        named (inr n) = inr (n.0, n.1, (n.2.0, has _ n.2.1))
+
+    proxy_more : (v : ProxyVolatile) → ProxyNotes sent me v → ProxyNotes more me v
+    proxy_more v (inl e) = inl e
+    proxy_more v (inr k) = inr (k.0, k.1, k.2, k.3, (k.4.0, has _ k.4.1))
+
+    state_more : (history longer : List KeptRecord) → durable_of leader_rules me longer ≡ durable_of leader_rules me history → (s : State)
+        → NotedState history sent me s → NotedState longer more me s
+    state_more history longer same (LeaderIn v) h =
+        subst (λ (d : LeaderDurable). LeaderNotes c more me (round_of d.own) v) (sym same) (leader_more (round_of (durable_of leader_rules me history).own) v h)
+    state_more history longer same (ProxyIn v) h = proxy_more v h
+    state_more history longer same s h = tt
+
+  -- after a step of one role
+
+  others_keep : (me : RoleId) (o : Option Record) (history : List KeptRecord) (a : RoleId) → same_role a me ≡ false
+      → durable_of leader_rules a (with_record me o history) ≡ durable_of leader_rules a history
+  others_keep me None history a e = refl
+  others_keep me (Some r) history a e = durable_other leader_rules me a r history e
+
+  noted_after : (history : List KeptRecord) (sent more : List Letter) (has : (d : Letter) → Member d sent → Member d more) (states : RoleId → State)
+      → AreNoted history sent states → (me : RoleId) (o : Option Record) (s : State) → NotedState (with_record me o history) more me s
+      → AreNoted (with_record me o history) more (set_state me s states)
+  noted_after history sent more has states h me o s own =
+      set_running (λ a x. NotedState (with_record me o history) more a x) me s states own
+      (λ a e. state_more sent more has a history (with_record me o history) (others_keep me o history a e) (states a) (h a))
+
+  landed : {V : Type 0} (history : List KeptRecord) (sent : List Letter) (states : RoleId → State) → AreNoted history sent states
+      → (me : RoleId) (make : V → State) (o : Outcome V) → NotedState (with_record me o.kept history) (sent ++ o.sends) me (make o.volatile)
+      → Lands AreNoted history sent states me make o
+  landed history sent states h me make o own = record {
+    whole = noted_after history sent (sent ++ o.sends) (λ d m. Member-first d sent o.sends m) states h me o.kept (make o.volatile) own;
+    cut = λ r e. noted_after history sent sent (λ d m. m) states h me (Some r) Down tt;
+  }
+
+  -- a leader
+
+  module _ (history : List KeptRecord) (sent : List Letter) (states : RoleId → State) (known : Known c [] history sent states) (h : AreNoted history sent states)
+      (l : ℕ) (v : LeaderVolatile) (j : Input) (at : states (role kind.Leader l) ≡ LeaderIn v) (given : Given sent (role kind.Leader l) j) where
+    abbrev me : RoleId
+    me = role kind.Leader l
+
+    abbrev o : Outcome LeaderVolatile
+    o = leader_row c me (durable_of leader_rules me history) v j
+
+    leader_noted : Lands AreNoted history sent states me LeaderIn o
+    leader_noted =
+        landed history sent states h me LeaderIn o
+        (leader_more sent (sent ++ o.sends) (λ d m. Member-first d sent o.sends m) me (round_of (durable_of leader_rules me (with_record me o.kept history)).own) o.volatile
+        ((notes_on c history sent states known.kinds me (durable_of leader_rules me history) v
+        (subst (λ (s : State). InState c history sent me s) at (known.facts.running me)).0
+        (subst (λ (s : State). NotedState history sent me s) at (h me)) j given).after
+        (round_of (durable_of leader_rules me (with_record me o.kept history)).own)
+        (λ none. ap (λ (r : Option Record). round_of (durable_of leader_rules me (with_record me r history)).own) none)))
+
+  proxy_noted : (history : List KeptRecord) (sent : List Letter) (states : RoleId → State) → AreNoted history sent states
+      → (p : ℕ) (v : ProxyVolatile) (j : Input) → states (role kind.Proxy p) ≡ ProxyIn v → Given sent (role kind.Proxy p) j
+      → Lands AreNoted history sent states (role kind.Proxy p) ProxyIn (proxy_row c (role kind.Proxy p) tt v j)
+  proxy_noted history sent states h p v j at given =
+      let o = proxy_row c (role kind.Proxy p) tt v j in
+      landed history sent states h (role kind.Proxy p) ProxyIn o
+      (proxy_more sent (sent ++ o.sends) (λ d m. Member-first d sent o.sends m) (role kind.Proxy p) o.volatile
+      (proxy_notes c sent (role kind.Proxy p) v (subst (λ (s : State). NotedState history sent (role kind.Proxy p) s) at (h (role kind.Proxy p))) j given))
+
+  fresh_noted : (history : List KeptRecord) (sent : List Letter) (me : RoleId) (k : Kind) → NotedState history sent me (fresh_state c k)
+  fresh_noted history sent me kind.Leader =
+      record { seen = inl refl; proposed = λ p m. absurd m; cw = inl refl; once = tt; retired = λ t. cc }
+  fresh_noted history sent me kind.Proxy = inl refl
+  fresh_noted history sent me other = tt
+
+  noted_laws : Laws c (λ e. Unit {0}) (Known c []) AreNoted
+  noted_laws = record {
+    same = λ history sent states others same h me. subst (λ (s : State). NotedState history sent me s) (same me) (h me);
+    start = λ states starts me. elim (starts me) [
+      | inl e ↦ subst (λ (s : State). NotedState [] [] me s) (sym e) tt
+      | inr e ↦ subst (λ (s : State). NotedState [] [] me s) (sym e) (fresh_noted [] [] me me.kind)
+    ];
+    stop = λ history sent states me h. noted_after history sent sent (λ d m. m) states h me None Down tt;
+    wake = λ history sent states me h down.
+        noted_after history sent sent (λ d m. m) states h me None (fresh_state c me.kind) (fresh_noted history sent me me.kind);
+    ask = λ history sent states e allowed known h me.
+        state_more sent (sent ++ request e) (λ d m. Member-first d sent (request e) m) me history history refl (states me) (h me);
+    batcher = λ history sent states b v j known h at given. landed history sent states h (role kind.Batcher b) BatcherIn _ tt;
+    leader = λ history sent states l v j known h at given. leader_noted history sent states known h l v j at given;
+    proxy = λ history sent states p v j known h at given. proxy_noted history sent states h p v j at given;
+    acceptor = λ history sent states a j known h at given. landed history sent states h (role kind.Acceptor a) plain _ tt;
+    matchmaker = λ history sent states m j known h at given. landed history sent states h (role kind.Matchmaker m) plain _ tt;
+    replica = λ history sent states p v j known h at given. landed history sent states h (role kind.Replica p) ReplicaIn _ tt;
+    unbatcher = λ history sent states u j known h at given. landed history sent states h (role kind.Unbatcher u) plain _ tt;
+    reader = λ history sent states r v j known h at given. landed history sent states h (role kind.Reader r) ReaderIn _ tt;
+  }
+
+  all_noted : (es : List Event) → HoldsIn AreNoted (run c es)
+  all_noted = always c (Known c []) AreNoted noted_laws (λ es. record { kinds = kinds_hold c es; facts = facts_hold c es; has = λ k m. absurd m })
+
+module _ (c : Cluster) (es : List Event) where
+  abbrev w : World
+  w = run c es
+
+  abbrev history : List KeptRecord
+  history = w.kept
+
+  pub source_facts : SourceFacts c w
+  source_facts = record {
+    leaders = λ l v e.
+        subst (λ (d : LeaderDurable). LeaderNotes c w.sent (role kind.Leader l) (round_of d.own) v)
+        (sym (durable_by_time leader_rules (role kind.Leader l) w.kept))
+        (subst (λ (o : Option (Option LeaderVolatile)). NotedState c (reverse w.kept) w.sent (role kind.Leader l) (state_found LeaderIn o)) e
+        (all_noted c es (role kind.Leader l)));
+    proxies = λ p v e.
+        subst (λ (o : Option (Option ProxyVolatile)). NotedState c (reverse w.kept) w.sent (role kind.Proxy p) (state_found ProxyIn o)) e
+        (all_noted c es (role kind.Proxy p));
+  }
+
+  facts : HoldsIn (Facts c) w
+  facts = facts_hold c es
+
+  -- a record of a match is of its own round
+  match_round : (i : Round) (r : Record) → is_match_of i r ≡ true → (g : Shape) × (r ≡ kept.Match i g)
+  match_round i (kept.Match j g) t = let e = same_round-true j i t in (g, ap (λ k. kept.Match k g) e)
+  match_round i r t = cc
+
+  recorded_own : (m : ℕ) (i : Round) (g : Shape) → has_matched history m i ≡ true → IsConfig history i g
+      → HasKept history (role kind.Matchmaker m) (kept.Match i g)
+  recorded_own m i g matched config =
+      let who = role kind.Matchmaker m in
+      let r = any-Member (λ x. is_match_of i x) (records_of who history) matched in
+      let x = match_round i r.0 r.2 in
+      let has = of_records who history (kept.Match i x.0) (subst (λ y. Member y (records_of who history)) x.1 r.1) in
+      let same : x.0 ≡ g =
+      facts.one_grid i x.0 g (facts.asked who i x.0 (to_turned history who (kept.Match i x.0) has))
+      (config.0, to_turned history config.0 (kept.Round i g) config.1) in
+      subst (λ k. HasKept history who (kept.Match i k)) same has
+
+  pub order_facts : OrderFacts c es
+  order_facts = record { own_grid = recorded_own; finished_before = λ e from to i g m. retires_after c es e _ m i g refl }
+
+pub sources_hold : SourcesHold
+sources_hold = source_facts
+
+pub order_holds : OrderHolds
+order_holds = order_facts

@@ -1,0 +1,11 @@
+pub mod Acceptors
+pub mod Keep
+pub mod LeaderRows
+pub mod Leaders
+pub mod Matchmakers
+pub mod Places
+pub mod Plans
+pub mod Proxies
+pub mod Refused
+pub mod Replicas
+pub mod Steps

@@ -1,0 +1,87 @@
+-- Each step keeps the facts, so every role can be opened again from its records, in every run.
+use Rattle.std.specs.Prelude.{◌≡◌, ◌⊎◌, ℕ, ◌<◌, List}
+use Rattle.std.proofs.Common.{sym, subst, refl, inl, inr, arith}
+use Rattle.cx_base.specs.declared.cluster.Cluster.{Cluster}
+use Rattle.cx_base.specs.declared.event.Event.{Event}
+use Rattle.cx_base.specs.declared.event.Event.TheVariants as event
+use Rattle.cx_base.specs.declared.role.Kind.{Kind}
+use Rattle.cx_base.specs.declared.role.Kind.TheVariants as kind
+use Rattle.cx_base.specs.Role.{role}
+use Rattle.cx_model.specs.Leader.{LeaderVolatile}
+use Rattle.cx_model.specs.Promises.{OfEveryRun}
+use Rattle.cx_model.specs.Request.{request}
+use Rattle.cx_model.specs.World.{run}
+use Rattle.cx_inv_run.specs.Laws.{Laws}
+use Rattle.cx_inv_run.specs.States.{State, Down, BatcherIn, LeaderIn, ReaderIn, plain, fresh_state, Property, HoldsIn}
+use Rattle.cx_inv_run.proofs.Senders.{batcher_kinds, unbatcher_kinds, reader_kinds}
+use Rattle.cx_inv_run.proofs.Sends.{batcher_keeps, unbatcher_keeps, reader_keeps}
+use Rattle.cx_inv_run.proofs.Steps.{always}
+use Rattle.cx_inv_match.specs.Facts.{Facts}
+use Rattle.cx_inv_vote.proofs.Steps.{facts_hold}
+use Rattle.cx_inv_held.specs.Held.{LowFacts}
+use Rattle.cx_inv_held.proofs.Steps.{low_facts}
+use Rattle.cx_inv_open.specs.Fits.{InRange, Fitting}
+use Rattle.cx_inv_open.specs.Reopened.{RolesReopen}
+use Rattle.cx_inv_open.proofs.Acceptors.{acceptor_lands}
+use Rattle.cx_inv_open.proofs.Keep.{AllInWindow, none_in, one_in, both_in, calm_in, none_new, with_state, lands}
+use Rattle.cx_inv_open.proofs.Leaders.{leader_lands}
+use Rattle.cx_inv_open.proofs.Matchmakers.{matchmaker_lands}
+use Rattle.cx_inv_open.proofs.Places.{leader_place}
+use Rattle.cx_inv_open.proofs.Proxies.{proxy_lands}
+use Rattle.cx_inv_open.proofs.Refused.{none_refused}
+use Rattle.cx_inv_open.proofs.Replicas.{replica_lands}
+
+-- what is known of every moment
+abbrev Known : Cluster → Property
+Known c kept sent states =
+    Facts c kept sent states × LowFacts c kept sent states × ((l : ℕ) (v : LeaderVolatile) → states (role kind.Leader l) ≡ LeaderIn v → l < c.leaders)
+
+known : (c : Cluster) (es : List Event) → HoldsIn (Known c) (run c es)
+known c es = (facts_hold c es, low_facts c es, leader_place c es)
+
+fresh_range : (c : Cluster) (k : Kind) → InRange c (fresh_state c k)
+fresh_range c kind.Leader = (omega arith, omega arith)
+fresh_range c kind.Replica = λ p m. absurd m
+fresh_range c other = tt
+
+start_range : (c : Cluster) (k : Kind) (s : State) → (s ≡ Down) ⊎ (s ≡ fresh_state c k) → InRange c s
+start_range c k s (inl e) = subst (λ (x : State). InRange c x) (sym e) tt
+start_range c k s (inr e) = subst (λ (x : State). InRange c x) (sym e) (fresh_range c k)
+
+request_in : (e : Event) → AllInWindow (request e)
+request_in (event.Write command batcher) = one_in _ tt
+request_in (event.Read client seq reader replica key) = one_in _ tt
+request_in other = none_in
+
+fitting_laws : (c : Cluster) → Laws c (λ e. Unit {0}) (Known c) (Fitting c)
+fitting_laws c = record {
+  same = λ kept sent states others same h. record { fit = h.fit; says = h.says; running = λ a. subst (λ (s : State). InRange c s) (same a) (h.running a) };
+  start = λ states starts. record { fit = tt; says = none_in; running = λ a. start_range c a.kind (states a) (starts a) };
+  stop = λ kept sent states me h. record { fit = h.fit; says = h.says; running = with_state c kept sent states h me Down tt };
+  wake = λ kept sent states me h down. record { fit = h.fit; says = h.says; running = with_state c kept sent states h me (fresh_state c me.kind) (fresh_range c me.kind) };
+  ask = λ kept sent states e allowed known h. record { fit = h.fit; says = both_in sent (request e) h.says (request_in e); running = h.running };
+  batcher = λ kept sent states b v i known h is given.
+      let me = role kind.Batcher b in
+      let kinds = batcher_kinds c me refl v i in
+      lands c kept sent states h me BatcherIn _ (none_new c kept me (λ r k. batcher_keeps r k) _ kinds.keeps) tt (calm_in me _ tt kinds);
+  leader = λ kept sent states l v i known h is given.
+      leader_lands c kept sent states known.0 known.1 h l v (known.2 l v is) is i given;
+  proxy = λ kept sent states p v i known h is given. proxy_lands c kept sent states known.0 h p v i is given;
+  acceptor = λ kept sent states a i known h is given. acceptor_lands c kept sent states known.0 h a i given;
+  matchmaker = λ kept sent states m i known h is given. matchmaker_lands c kept sent states h m i;
+  replica = λ kept sent states p v i known h is given. replica_lands c kept sent states known.0 h p v i is given;
+  unbatcher = λ kept sent states u i known h is given.
+      let me = role kind.Unbatcher u in
+      let kinds = unbatcher_kinds c me refl i in
+      lands c kept sent states h me plain _ (none_new c kept me (λ r k. unbatcher_keeps r k) _ kinds.keeps) tt (calm_in me _ tt kinds);
+  reader = λ kept sent states r v i known h is given.
+      let me = role kind.Reader r in
+      let kinds = reader_kinds c me refl v i in
+      lands c kept sent states h me ReaderIn _ (none_new c kept me (λ r k. reader_keeps r k) _ kinds.keeps) tt (calm_in me _ tt kinds);
+}
+
+pub fitting : (c : Cluster) (es : List Event) → HoldsIn (Fitting c) (run c es)
+fitting c es = always c (Known c) (Fitting c) (fitting_laws c) (known c) es
+
+pub roles_reopen : OfEveryRun RolesReopen
+roles_reopen c es me = none_refused c (run c es).kept (fitting c es).fit me

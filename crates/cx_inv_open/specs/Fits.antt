@@ -1,0 +1,67 @@
+-- What is so of records at a moment, whose newest record is first: each is one that its role could have appended after the earlier ones. And what
+-- datagrams and running roles must say for that.
+use Rattle.std.specs.Prelude.{◌≡◌, ℕ, ◌+◌, ◌<◌, ◌≤◌, true, List, [], ◌∷◌, Option, None, Some}
+use Rattle.cx_base.specs.declared.cluster.Cluster.{Cluster}
+use Rattle.cx_base.specs.declared.command.Placed.{Placed}
+use Rattle.cx_base.specs.declared.role.Kind.{Kind}
+use Rattle.cx_base.specs.declared.role.Kind.TheVariants as kind
+use Rattle.cx_base.specs.declared.role.RoleId.{RoleId}
+use Rattle.cx_field.specs.declared.parts.Vote.{Vote}
+use Rattle.cx_msg.specs.Letter.{Letter}
+use Rattle.cx_msg.specs.declared.input.KeptRecord.{KeptRecord}
+use Rattle.cx_msg.specs.declared.kept.Record.{Record}
+use Rattle.cx_msg.specs.declared.message.Msg.{Msg}
+use Rattle.cx_msg.specs.declared.message.Msg.TheVariants as msg
+use Rattle.cx_model.specs.Acceptor.{acceptor_rules}
+use Rattle.cx_model.specs.Leader.{leader_rules}
+use Rattle.cx_model.specs.Matchmaker.{matchmaker_rules}
+use Rattle.cx_model.specs.Member.{Member}
+use Rattle.cx_model.specs.Names.{names_value}
+use Rattle.cx_model.specs.Replica.{replica_rules}
+use Rattle.cx_inv_run.specs.States.{State, LeaderIn, ReplicaIn, durable_of}
+
+-- a role of this kind, with these records, could have appended this one
+abbrev pub FitsAs : Cluster → RoleId → Record → List KeptRecord → Kind → Type 0
+FitsAs c me r history kind.Leader = leader_rules.fits c me (durable_of leader_rules me history) r ≡ true
+FitsAs c me r history kind.Acceptor = acceptor_rules.fits c me (durable_of acceptor_rules me history) r ≡ true
+FitsAs c me r history kind.Matchmaker = matchmaker_rules.fits c me (durable_of matchmaker_rules me history) r ≡ true
+FitsAs c me r history kind.Replica = replica_rules.fits c me (durable_of replica_rules me history) r ≡ true
+FitsAs c me r history other = ⊥
+
+-- the same of a new record, if there is one, and of each record with the earlier ones
+abbrev pub NewFits : Cluster → List KeptRecord → RoleId → Option Record → Type 0
+NewFits c history me None = Unit {0}
+NewFits c history me (Some r) = FitsAs c me r history me.kind
+
+abbrev pub AllFit : Cluster → List KeptRecord → Type 0
+AllFit c [] = Unit {0}
+AllFit c (k ∷ ks) = FitsAs c k.role k.what ks k.role.kind × AllFit c ks
+
+-- slots end at 2^40
+abbrev pub IsSlot : ℕ → Type 0
+IsSlot s = s < 1099511627776
+
+-- what is asked or reported lies in the window of 32 slots from the watermark that is sent with it
+abbrev pub InWindow : Msg → Type 0
+InWindow (msg.Propose i g s cw v) = (s < cw + 32) × IsSlot s
+InWindow (msg.Phase2A i s cw v) = s < cw + 32
+InWindow (msg.Phase1B i cw votes) = (u : Vote) → Member u votes → u.slot < cw + 32
+InWindow other = Unit {0}
+
+-- a leader's next slot, with its watermark
+abbrev pub IsNext : ℕ → ℕ → Type 0
+IsNext next cw = (next ≤ cw + 32) × (next ≤ 1099511627776)
+
+-- the values that wait at a replica name clients of the cluster
+abbrev pub AreNamed : Cluster → List Placed → Type 0
+AreNamed c early = (p : Placed) → Member p early → names_value c p.value ≡ true
+
+abbrev pub InRange : Cluster → State → Type 0
+InRange c (LeaderIn v) = IsNext v.next v.cw
+InRange c (ReplicaIn v) = AreNamed c v.early
+InRange c other = Unit {0}
+
+pub record Fitting (c : Cluster) (history : List KeptRecord) (sent : List Letter) (states : RoleId → State) : Type 0 where
+  pub fit : AllFit c history
+  pub says : (d : Letter) → Member d sent → InWindow d.msg
+  pub running : (me : RoleId) → InRange c (states me)

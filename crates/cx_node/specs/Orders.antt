@@ -1,0 +1,39 @@
+-- No order of a tended node is in vain.
+use Rattle.std.specs.Prelude.{◌≡◌, Bool, true, false, Some, is_some}
+use Rattle.cx_base.specs.declared.event.Order.{Order}
+use Rattle.cx_base.specs.declared.event.Order.TheVariants as order
+use Rattle.cx_base.specs.declared.why.Why.{Why}
+use Rattle.cx_base.specs.declared.why.Why.TheVariants as why
+use Rattle.cx_base.specs.Grid.{Shape}
+use Rattle.cx_model.specs.Collection.{is_retired}
+use Rattle.cx_model.specs.Leader.{LeaderDurable, LeaderVolatile, is_idle, is_leading, order_row}
+use Rattle.cx_model.specs.Rules.{Running}
+use Rattle.cx_node.specs.Tending.{Care, leader_asked, standing_of}
+
+-- a round was begun, or there is none left
+abbrev pub begins : Why → Bool
+begins why.Started = true
+begins why.End = true
+begins other = false
+
+-- the earlier rounds begin to be retired
+abbrev pub retires : Why → Bool
+retires why.Informing = true
+retires other = false
+
+-- what a leader answers to an order that it takes
+abbrev pub is_taken : Order → Why → Bool
+is_taken (order.Lead g) w = begins w
+is_taken (order.Change g) w = begins w
+is_taken order.Collect w = retires w
+
+-- The leader takes it. Only an idle leader is to lead, and only one that has retired the earlier rounds to change.
+pub record IsApt (l : Running LeaderDurable LeaderVolatile) (o : Order) : Type 0 where
+  pub taken : is_taken o (order_row l.cluster l.me l.durable l.volatile o).why ≡ true
+  pub leads : (g : Shape) → o ≡ order.Lead g → is_idle l.volatile.mode ≡ true
+  pub changes : (g : Shape) → o ≡ order.Change g → is_retired l.volatile.collection.stage ≡ true
+
+-- each order that a leader is given, whatever was counted; one that leads has a round
+abbrev pub NoVainOrder : Type 0
+NoVainOrder = (l : Running LeaderDurable LeaderVolatile) (k : Care) (o : Order) → (is_leading l.volatile.mode ≡ true → is_some l.durable.own ≡ true)
+    → leader_asked l.cluster (standing_of l) k ≡ Some o → IsApt l o

@@ -1,0 +1,63 @@
+-- Worked parts of a tended turn.
+use Rattle.std.specs.Prelude.{◌≡◌, ℕ, zero, suc, true, false, List, [], ◌∷◌, replicate, None, Some}
+use Rattle.cx_base.specs.declared.command.Value.TheVariants.{Noop}
+use Rattle.cx_base.specs.declared.role.Kind.TheVariants.{Replica, Leader}
+use Rattle.cx_base.specs.Role.{role}
+use Rattle.cx_model.specs.Examples.{one_of_each}
+use Rattle.cx_msg.specs.Letter.{letter}
+use Rattle.cx_msg.specs.declared.message.Msg.TheVariants as msg
+use Rattle.cx_node.specs.Action.{sent_in}
+use Rattle.cx_node.specs.Hosted.{Hosted, ReplicaAt}
+use Rattle.cx_node.specs.Run.{stays}
+use Rattle.cx_node.specs.Tending.{Care, asks_again, collected, counted, first_leader, is_beat, is_time, leader_tended, no_care, reported, tend_ordered, untended}
+
+-- n takes gave nothing
+abbrev pub quiet : ℕ → Care → Care
+quiet zero k = k
+quiet (suc n) k = counted false (quiet n k)
+
+-- each of n takes gave something
+abbrev pub busy : ℕ → Care → Care
+busy zero k = k
+busy (suc n) k = counted true (busy n k)
+
+abbrev pub fresh : Care
+fresh = no_care []
+
+-- 64 takes that gave nothing make a beat, and 63 none; the first after one that gave something doesn't count; and as many turns as the limit make one
+pub record Beats : Type 0 where
+  pub quiet_64 : is_beat 1024 (quiet 64 fresh) ≡ true
+  pub quiet_63 : is_beat 1024 (quiet 63 fresh) ≡ false
+  pub quiet_64_behind : is_beat 1024 (quiet 64 (counted true fresh)) ≡ false
+  pub quiet_65_behind : is_beat 1024 (quiet 65 (counted true fresh)) ≡ true
+  pub busy_80 : is_beat 80 (busy 80 fresh) ≡ true
+  pub busy_79 : is_beat 80 (busy 79 fresh) ≡ false
+
+-- replica 0 of a cluster with one role of each kind, with n slots
+abbrev pub replica_with : ℕ → Hosted
+replica_with n =
+    ReplicaAt (record { cluster = one_of_each; me = role Replica 0; live = true; durable = record { log = replicate n Noop }; volatile = record { early = []; deferred = [] } })
+
+-- a replica reports each further multiple of 8 slots
+pub record Reports : Type 0 where
+  pub at_8 : sent_in ((reported (role Replica 0) 7 (replica_with 8 ∷ [])).actions) ≡ letter (role Replica 0) (role Leader 0) (msg.Held 8) ∷ []
+  pub at_15 : sent_in ((reported (role Replica 0) 8 (replica_with 15 ∷ [])).actions) ≡ []
+  pub at_17 : sent_in ((reported (role Replica 0) 15 (replica_with 17 ∷ [])).actions) ≡ letter (role Replica 0) (role Leader 0) (msg.Held 17) ∷ []
+
+-- where leader 0 isn't hosted it gets no order
+pub record NoLeader : Type 0 where
+  pub ordered : tend_ordered one_of_each 1 (replica_with 8 ∷ []) ≡ stays (replica_with 8 ∷ [])
+  pub collected : collected (replica_with 8 ∷ []) ≡ stays (replica_with 8 ∷ [])
+  pub tended : leader_tended one_of_each (first_leader (replica_with 8 ∷ [])) (untended (replica_with 8 ∷ [])) ≡ stays (untended (replica_with 8 ∷ []))
+
+-- when clients ask again, and when a spent leader changes
+pub record Waits : Type 0 where
+  pub asks_8 : asks_again 8 ≡ true
+  pub asks_9 : asks_again 9 ≡ false
+  pub asks_16 : asks_again 16 ≡ true
+  pub asks_48 : asks_again 48 ≡ true
+  pub asks_0 : asks_again 0 ≡ false
+  pub time_15 : is_time 15 ≡ false
+  pub time_16 : is_time 16 ≡ true
+  pub time_48 : is_time 48 ≡ false
+  pub time_3072 : is_time 3072 ≡ true

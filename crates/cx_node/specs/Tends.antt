@@ -1,0 +1,39 @@
+-- The result of a part of a tended turn: what its roles did, and what it counted.
+use Rattle.std.specs.Prelude.{◌≡◌, ℕ, Bool, false, not, List, [], ◌∷◌, Option, Result, Ok, Err, OnOk}
+use Rattle.std.specs.Option.{option_map_or}
+use Rattle.cx_base.specs.declared.cluster.Cluster.{Cluster}
+use Rattle.cx_model.specs.Leader.{LeaderDurable, LeaderVolatile}
+use Rattle.cx_model.specs.Rules.{Running}
+use Rattle.cx_role.specs.Role.{Appending}
+use Rattle.cx_node.specs.declared.node.Stop.{Stop}
+use Rattle.cx_node.specs.declared.whom.Whom.{Whom}
+use Rattle.cx_node.specs.declared.whom.Whom.TheVariants.{Kind, Others, Overtaken}
+use Rattle.cx_node.specs.Acts.{Acts}
+use Rattle.cx_node.specs.Doing.{Scene}
+use Rattle.cx_node.specs.Hosted.{Hosted}
+use Rattle.cx_node.specs.Run.{Moved, is_client}
+use Rattle.cx_node.specs.Tending.{Care, Tended, is_of, is_overtaken, without_care}
+
+-- these roles, with these counts
+abbrev pub tended : Care → List Hosted → Tended
+tended k hs = record { care = k; hosted = hs }
+
+-- which roles are meant, by their places, where these numbers were completed when the pass began
+abbrev pub is_meant : Whom → List ℕ → ℕ → Hosted → Bool
+is_meant (Kind k) marks = λ i h. is_of k h
+is_meant Others marks = λ i h. not (is_client h)
+is_meant Overtaken marks = is_overtaken marks
+
+-- a test of a leader, which another role doesn't pass
+abbrev pub is_leader_so : (Running LeaderDurable LeaderVolatile → Bool) → Option (Running LeaderDurable LeaderVolatile) → Bool
+is_leader_so test l = option_map_or test l false
+
+-- whether it was done at all
+abbrev pub done_of : {T : Type 0} → Result T Stop → Result (Unit {0}) Stop
+done_of (Ok x) = Ok tt
+done_of (Err e) = Err e
+
+-- What one take gave, what the roles did with it, and what is counted.
+abbrev pub TendsOnce : {K : Type 0} → Appending K → Cluster → (Option (List ℕ) → Moved Tended) → Result (Unit {0}) Stop → Scene K → Scene K → Care → Type 0
+TendsOnce gives c f result old new care =
+    (what : Option (List ℕ)) × Acts gives c (what ∷ []) (without_care (f what)) result old new × OnOk result (care ≡ (f what).next.care)

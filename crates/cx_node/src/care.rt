@@ -1,0 +1,176 @@
+//! What a tended node counts.
+
+ghost use Rattle.std.specs.Prelude.{◌≡◌, ◌&&◌, not, min, List, length, IfOk};
+ghost use Rattle.std.specs.List.{sum};
+ghost use Rattle.cx_node.specs.Hosted.{Hosted};
+ghost use Rattle.cx_node.specs.Tending.{asks_again, beat_over, clients_noted, counted, is_beat, is_marked, is_time, leader_noted, no_care, passes};
+
+use cx_base::NoMemory;
+use std::alloc::Global;
+use std::marker::Model;
+
+// How many takes that gave nothing make a beat.
+const BEAT: u32 = 64;
+
+/// What a tended node has counted.
+#[derive(Drop)]
+pub struct Care {
+    // Turns since the last beat, and of their takes those that gave nothing after one that gave nothing.
+    turns: u32,
+    empty: u32,
+    // Whether the last take gave something.
+    came: bool,
+    // How many requests the hosted clients had completed at the last beat, and for how many beats they have completed none.
+    done: u64,
+    still: u32,
+    // How many each hosted role had completed when the last pass began.
+    marks: Vec<u64>,
+    // The leader's watermark at the last beat, and for how many beats it has not risen while a slot was open.
+    cw: u64,
+    stuck: u32,
+}
+
+impl Model for Care {
+    ghost use Rattle.cx_node.specs.Tending.{Care as CareState};
+
+    ghost Value = { CareState };
+
+    ghost view = { λ k. record { turns = k.turns; empty = k.empty; came = k.came; done = k.done; still = k.still; marks = k.marks.items; cw = k.cw; stuck = k.stuck } };
+}
+
+// The sum of these numbers, as far as it fits.
+fn total(numbers: &[u64]) -> u64
+    ensures { result ≡ min (sum numbers.now) 18446744073709551615 }
+{
+    let mut total = 0u64;
+    for number in numbers {
+        total = total.saturating_add(*number);
+    }
+    total
+}
+
+impl Care {
+    /// Nothing is counted yet, of this many hosted roles.
+    pub fn new(alloc: Global, roles: usize) -> Result<Self, NoMemory>
+        ensures { (hs : List Hosted) → length hs ≡ roles → IfOk result (λ care. care ≡ no_care hs) }
+    {
+        let Ok(marks) = vec![in alloc; 0u64; roles] else {
+            return Err(NoMemory);
+        };
+        Ok(Care {
+            turns: 0,
+            empty: 0,
+            came: false,
+            done: 0,
+            still: 0,
+            marks,
+            cw: 0,
+            stuck: 0,
+        })
+    }
+
+    /// Whether the last take gave something, and this one nothing.
+    pub fn has_paused(&self, came: bool) -> bool
+        ensures { result ≡ (self.now.came && not came) }
+    {
+        self.came && !came
+    }
+
+    /// Counts a turn.
+    #[tactic(auto, unfolding(crate::specs::Tending::counted))]
+    pub fn count(&mut self, came: bool)
+        ensures { self.new ≡ counted came self.old }
+    {
+        self.turns = self.turns.saturating_add(1);
+        if !came && !self.came {
+            self.empty = self.empty.saturating_add(1);
+        }
+        self.came = came;
+    }
+
+    /// Whether the turn ends with a beat: after 64 takes that gave nothing after one that gave nothing, or after `most` turns.
+    #[tactic(auto, unfolding(crate::specs::Tending::is_beat))]
+    pub fn is_beat(&self, most: u32) -> bool
+        ensures { result ≡ is_beat most self.now }
+    {
+        BEAT <= self.empty || most <= self.turns
+    }
+
+    /// Begins to count to the next beat.
+    pub fn begin_beat(&mut self)
+        ensures { self.new ≡ beat_over self.old }
+    {
+        self.turns = 0;
+        self.empty = 0;
+    }
+
+    /// Notes at a beat where the leader is: its watermark, and whether a slot is open.
+    #[tactic(auto, unfolding(crate::specs::Tending::leader_noted))]
+    pub fn note_leader(&mut self, watermark: u64, has_open: bool)
+        ensures { self.new ≡ leader_noted watermark has_open self.old }
+    {
+        if self.cw < watermark || !has_open {
+            self.cw = watermark;
+            self.stuck = 0;
+        } else {
+            self.stuck = self.stuck.saturating_add(1);
+        }
+    }
+
+    /// Whether it is time for the next round of a leader that is spent.
+    #[tactic(auto, unfolding(crate::specs::Tending::is_time))]
+    pub fn is_time(&self) -> bool
+        ensures { result ≡ is_time self.now.stuck }
+    {
+        let stuck = self.stuck;
+        matches!(stuck, 16 | 32 | 64 | 128 | 256 | 512) || 1_024 <= stuck && stuck % 1_024 == 0
+    }
+
+    /// Notes at a beat how many requests the clients have completed.
+    #[tactic(auto, unfolding(crate::specs::Tending::clients_noted))]
+    pub fn note_clients(&mut self, done: u64)
+        ensures { self.new ≡ clients_noted done self.old }
+    {
+        if self.done < done {
+            self.done = done;
+            self.still = 0;
+        } else {
+            self.still = self.still.saturating_add(1);
+        }
+    }
+
+    /// Whether all clients ask again.
+    #[tactic(auto, unfolding(crate::specs::Tending::asks_again))]
+    pub fn asks_again(&self) -> bool
+        ensures { result ≡ asks_again self.now.still }
+    {
+        let still = self.still;
+        matches!(still, 1 | 2 | 4 | 8) || 16 <= still && still % 16 == 0
+    }
+
+    /// Whether a pass ends: more than two requests a client were completed in it.
+    #[tactic(auto, unfolding(crate::specs::Tending::passes))]
+    pub fn passes(&self, clients: usize, done: u64) -> bool
+        ensures { result ≡ passes clients done self.now }
+    {
+        let asked = (clients as u64).saturating_mul(2);
+        total(&self.marks).saturating_add(asked) < done
+    }
+
+    /// Whether the role at this place had completed this many when the pass began.
+    pub fn is_marked(&self, place: usize, done: u64) -> bool
+        ensures { result ≡ is_marked self.now.marks place done }
+    {
+        match self.marks.get(place) {
+            Some(mark) => *mark == done,
+            None => false,
+        }
+    }
+
+    /// The next pass begins, with these numbers of requests completed by each role.
+    pub fn begin_pass(&mut self, marks: Vec<u64>)
+        ensures { self.new ≡ record self.old { marks = marks.items } }
+    {
+        self.marks = marks;
+    }
+}

@@ -1,0 +1,14 @@
+//! Which roles tick.
+
+use cx_base::Kind;
+
+/// Those that are meant to tick.
+#[derive(Clone, Copy)]
+pub enum Whom {
+    /// All of a kind.
+    Kind { kind: Kind },
+    /// All but clients.
+    Others,
+    /// The clients that have completed no request since the pass began.
+    Overtaken,
+}

@@ -1,0 +1,6 @@
+use Rattle.std.proofs.Common.{◌≡◌, ◌++◌, drop}
+use Rattle.cx_trace.specs.Trace.{datagrams_text}
+use Rattle.cx_replay.proofs.sending.lines_into.Given as goal
+
+abbrev pub invariant-loop-number : goal.invariant-loop-number
+invariant-loop-number l = l.text.items ++ datagrams_text l.number (drop l.number l.sent) ≡ l.fn.text.items ++ datagrams_text l.first (drop l.first l.sent)

@@ -1,0 +1,6 @@
+use Rattle.std.proofs.Common.{◌≡◌, vec_len}
+use Rattle.cx_replica.specs.Room.{AreRooms}
+use Rattle.cx_replica.proofs.rooms.Rooms.new.Given as goal
+
+abbrev pub invariant-loop-number : goal.invariant-loop-number
+invariant-loop-number l = AreRooms l.list.items × (vec_len l.list ≡ l._number)

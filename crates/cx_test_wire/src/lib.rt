@@ -1,0 +1,12 @@
+//! Tests of the spellings of messages and records, and of a copied log.
+//!
+//! Tests that need only public calls are here and not in the crates that they test, since a crate with tests is proved twice:
+//! once as the library that others build on, and once more with its tests. Nothing builds on this crate.
+#![tactic(auto)]
+
+#[cfg(test)]
+mod log_tests;
+#[cfg(test)]
+mod message_tests;
+#[cfg(test)]
+mod vectors;

@@ -1,0 +1,43 @@
+-- Which datagrams tell a client something.
+use Rattle.std.proofs.Common.{◌≡◌, ℕ, false, [], refl}
+use Rattle.cx_msg.specs.Letter.{Letter}
+use Rattle.cx_msg.specs.Messages.{body_shape}
+use Rattle.cx_msg.specs.declared.message.Msg.{Msg}
+use Rattle.cx_msg.specs.declared.message.Msg.TheVariants.{Submit, Batch, Leads, MatchA, MatchB, MatchNack, Phase1A, Phase1B, Nack, Propose, Phase2A, Phase2B, Chosen, ChosenIn, Results, Answer, Held, Fetch, Inform, Informed, GarbageA, GarbageB, ReadReq, MatchRead, MatchReadAck, PreRead, PreReadAck, Read, ReadAnswer}
+use Rattle.cx_trace.specs.Trace.{tells, told_of, told_text}
+
+-- a message of another kind tells nothing
+nothing_told : (client : ℕ) (m : Msg) → tells (body_shape m).tag ≡ false → told_text client m ≡ []
+nothing_told client (Submit a) h = refl
+nothing_told client (Batch a) h = refl
+nothing_told client (Leads a) h = refl
+nothing_told client (MatchA a b) h = refl
+nothing_told client (MatchB a b c) h = refl
+nothing_told client (MatchNack a b c) h = refl
+nothing_told client (Phase1A a) h = refl
+nothing_told client (Phase1B a b c) h = refl
+nothing_told client (Nack a b) h = refl
+nothing_told client (Propose a b c d e) h = refl
+nothing_told client (Phase2A a b c d) h = refl
+nothing_told client (Phase2B a b) h = refl
+nothing_told client (Chosen a b) h = refl
+nothing_told client (ChosenIn a b) h = refl
+nothing_told client (Results a b) h = refl
+nothing_told client (Answer a b c) h = cc
+nothing_told client (Held a) h = refl
+nothing_told client (Fetch a) h = refl
+nothing_told client (Inform a b) h = refl
+nothing_told client (Informed a b) h = refl
+nothing_told client (GarbageA a b) h = refl
+nothing_told client (GarbageB a) h = refl
+nothing_told client (ReadReq a b c) h = refl
+nothing_told client (MatchRead a) h = refl
+nothing_told client (MatchReadAck a b c) h = refl
+nothing_told client (PreRead a b) h = refl
+nothing_told client (PreReadAck a b c) h = refl
+nothing_told client (Read a b c) h = refl
+nothing_told client (ReadAnswer a b c) h = cc
+
+pub tells_nothing : (d : Letter) → tells (body_shape d.msg).tag ≡ false → told_of d ≡ []
+unfolding told_of
+tells_nothing d h = nothing_told d.to.index d.msg h

@@ -1,0 +1,13 @@
+use Rattle.std.proofs.Common.{◌≡◌, ◌++◌, ◌∙◌, List, ℕ, false, ap, sym, subst}
+use Rattle.std.proofs.lemmas.List.{append-nil}
+use Rattle.cx_msg.specs.Messages.{body_shape}
+use Rattle.cx_trace.specs.Trace.{tells}
+use Rattle.cx_trace.proofs.Telling.{tells_nothing}
+use Rattle.cx_trace.proofs.datagrams.put_told_by.Goals as goal
+
+pub returns-then-not-tells-clause-ok : goal.returns-then-not-tells-clause-ok
+returns-then-not-tells-clause-ok c =
+    let d = c.args.spelled.now in
+    let text = c.args.text.now.items in
+    let kind : tells (body_shape d.msg).tag ≡ false = sym (c.tells.ensures ∙ ap tells c.kind.ensures) ∙ c.if-not-tells.true in
+    subst (λ (told : List ℕ). text ≡ text ++ told) (sym (tells_nothing d kind)) (sym (append-nil text))

@@ -1,6 +1,0 @@
-use Rattle.cx_world.proofs.Numbered.{rounds_next}
-use Rattle.cx_world.proofs.sorted.rounds.Goals as goal
-
-pub loop-number-preserved : goal.loop-number-preserved
-loop-number-preserved c =
-    rounds_next c.args.kept.now c.loop-number.rounds.items c.add_round.new.rounds.items c.loop-number.number c.in_ok-at.field-0 c.in_ok-at.ensures c.in_ok-add_round.ensures c.loop-number.invariant

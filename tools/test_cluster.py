@@ -1,0 +1,332 @@
+"""Tests of tools/cluster, and of tools/kv against it: real processes that are killed, and journals that are none.
+
+$COMPAX may name the program. What is random has a seed, and times are bounds for a busy machine.
+"""
+
+import concurrent.futures
+import itertools
+import json
+import os
+import pathlib
+import random
+import re
+import shutil
+import signal
+import socket
+import subprocess
+import threading
+import time
+import unittest
+from unittest import mock
+
+from asking import Command, ask
+from headers import Role, program
+from processes import Process
+from supervisor import State, read_state
+from trials import LONGEST, SMALL, Trial, run, until
+
+CLIENTS = 4
+PUTS = 125                              # of each client
+KEYS = 4                                # of each client
+SILENCE = 5.0                           # seconds without an answer while all processes run
+STARTS = 40
+
+
+class ClusterTrial(Trial):
+    HEADER: str | None = None           # the usual one
+
+    def setUp(self) -> None:
+        super().setUp()
+        self.header = self.new(self.HEADER)
+        self.folder = self.room / "c.toml.d"
+
+    def state(self) -> State:
+        state = read_state(self.folder)
+        assert state
+        return state
+
+    def running(self, number: int) -> Process | None:
+        """The node of a process, if it runs."""
+        process = self.state().notes[number].process
+        return process if process and process.lives() else None
+
+    def all_run(self) -> bool:
+        return all(self.running(number) for number in range(len(self.state().notes)))
+
+    def status(self) -> tuple[int, str]:
+        """What `status` says."""
+        status, out, said = run("cluster", "status", self.file)
+        self.assertNotIn("Traceback", said)
+        return status, out + said
+
+    def journal(self, role: str) -> pathlib.Path:
+        """The journal of a role, in the folder of its process."""
+        (found,) = self.folder.glob(f"*/compax-{role.replace(':', '-')}.journal")
+        return found
+
+
+class KillsTest(ClusterTrial):
+    """Four clients put, and each of four processes is killed twice meanwhile, the leader's too."""
+
+    def setUp(self) -> None:
+        super().setUp()
+        self.events: list[tuple[float, str]] = []       # when an answer came, and when all processes began or ceased to run
+        self.is_over = threading.Event()
+
+    def answers(self) -> int:
+        return sum(what == "answer" for _, what in list(self.events))
+
+    def put_all(self, client: int) -> dict[str, str]:
+        """The puts of one client. Gives the last text of each key."""
+        last: dict[str, str] = {}
+        for at in range(PUTS):
+            key, text = f"c{client}.{at % KEYS}", f"v{at}"
+            answer = ask(program(), self.header, Command("put", key, text), [client], LONGEST)
+            self.events.append((time.monotonic(), "answer"))
+            self.assertEqual(answer, "ok")
+            last[key] = text
+        return last
+
+    def kill_all(self) -> None:
+        """Kills the processes in an order at random, each after some more answers."""
+        chance = random.Random(9)
+        for number in chance.sample([0, 1, 2, 3] * 2, 8):
+            wanted = self.answers() + chance.randrange(20, 60)
+            until(lambda: self.answers() >= wanted and self.running(number) is not None, f"{wanted} answers")
+            process = self.running(number)
+            self.assertTrue(process and process.send(signal.SIGKILL))
+
+    def watch(self) -> None:
+        """Notes when all processes begin to run, and when they cease to."""
+        ran = False
+        while not self.is_over.wait(0.02):
+            runs = self.all_run()
+            if runs != ran:
+                self.events.append((time.monotonic(), "all run" if runs else "not all"))
+            ran = runs
+
+    def silences(self) -> list[float]:
+        """How long nothing was answered, each time, while all processes ran."""
+        found, runs, since = [], False, 0.0
+        for at, what in sorted(self.events):
+            if runs:
+                found.append(at - since)
+            runs, since = runs and what != "not all" or what == "all run", at
+        return found
+
+    def test_five_hundred_puts(self) -> None:
+        self.up(4)
+        with concurrent.futures.ThreadPoolExecutor(CLIENTS + 2) as pool:
+            watching = pool.submit(self.watch)
+            killing = pool.submit(self.kill_all)
+            putting = [pool.submit(self.put_all, client) for client in range(CLIENTS)]
+            try:
+                last = dict(itertools.chain.from_iterable(task.result().items() for task in putting))
+                killing.result()
+                until(self.all_run, "all processes run again")
+            finally:
+                self.is_over.set()
+            watching.result()
+        self.assertEqual(self.answers(), CLIENTS * PUTS)
+        self.assertLess(max(self.silences()), SILENCE)
+        self.assertEqual({key: self.kv("get", key) for key in last}, {key: f"is {text}" for key, text in last.items()})
+        self.assertEqual([note.starts for note in self.state().notes], [3, 3, 3, 3])
+        status, text = self.status()
+        self.assertEqual((status, text.count("started 3 times, ended last with signal 9")), (0, 4), text)
+
+
+class StartsTest(ClusterTrial):
+    HEADER = SMALL
+
+    def test_forty_starts_of_the_leader(self) -> None:
+        """Each start over the same folder answers what no start before was asked, and the leader's rounds don't run out."""
+        roles = "client:0 batcher:0 leader:0 proxy:0 acceptor:0 match:0 replica:0 unbatcher:0 reader:0".split()
+        for at in range(1, STARTS + 1):
+            ran = subprocess.run([program(), "node", "--turns", "60000", "--tend", "1024", *roles], cwd=self.room, capture_output=True, text=True,
+                                 input=f"{self.header.input}write client:0 {at} batcher:0 app a x\n", timeout=LONGEST)
+            self.assertEqual((ran.returncode, ran.stderr), (0, ""))
+            self.assertRegex(ran.stdout, rf"^answer client:0 {at} at \d+ len {at}\n$")
+        count = self.passes("journal", "--count", self.room / "compax-leader-0.journal")
+        self.assertGreaterEqual(int(re.findall(r"(\d+) Round", count)[0]), STARTS)
+
+
+class JournalsTest(ClusterTrial):
+    """What is no journal of a role keeps its process from running. The others go on, and nothing in it is changed."""
+
+    def goes_on_without(self, role: str, data: bytes, why: str, found: str) -> None:
+        """With these bytes in place of a role's journal its process ends so, and it runs again once the journal is back."""
+        self.passes("cluster", "down", self.file)
+        good = self.journal(role).read_bytes()
+        self.journal(role).write_bytes(data)
+        self.up()
+        until(lambda: why in self.status()[1], why)
+        status, text = self.status()
+        self.assertEqual(status, 1)
+        self.assertIn(found, text)
+        self.assertEqual(self.kv("app", "a", "x"), f"len {self.length + 1}")
+        self.length += 1
+        self.assertEqual(self.journal(role).read_bytes(), data)
+        self.journal(role).write_bytes(good)
+        until(lambda: self.status()[0] == 0, "all processes run")
+        self.assertEqual(self.kv("get", "a"), f"is {'x' * self.length}")
+
+    def test_corrupted_and_foreign_journals(self) -> None:
+        self.up(4)
+        self.assertEqual(self.kv("app", "a", "x"), "len 1")
+        self.length = 1
+        data = self.journal("acceptor:2").read_bytes()
+        self.goes_on_without("acceptor:2", data[:5] + b"\x2a" + data[6:], "status 10: bad store: acceptor:2 at 5", "is not a journal from byte 5")
+        self.goes_on_without("match:2", self.journal("leader:0").read_bytes(), "status 10: bad store: match:2 at 5", "is not a journal from byte 5")
+        self.goes_on_without("replica:0", b"some other file\n", "status 7: store failed: replica:0", "is not a journal from byte 0")
+
+    def test_a_shared_journal(self) -> None:
+        """A second node over a folder that is in use gets nothing of it, and disturbs nothing."""
+        self.up(4)
+        self.assertEqual(self.kv("put", "a", "1"), "ok")
+        other = self.room / "other.toml"
+        self.passes("cluster", "new", other)
+        kept = self.journal("acceptor:1").read_bytes()
+        ran = subprocess.run([program(), "node", "--turns", "100", "acceptor:1"], cwd=self.journal("acceptor:1").parent, capture_output=True,
+                             input=f"{other.read_text()}---\n", text=True, timeout=LONGEST)
+        self.assertEqual((ran.returncode, ran.stdout, ran.stderr), (7, "", "store failed: acceptor:1\n"))
+        self.assertEqual(self.journal("acceptor:1").read_bytes(), kept)
+        self.assertEqual((self.kv("get", "a"), self.kv("put", "a", "2"), self.kv("get", "a")), ("is 1", "ok", "is 2"))
+        self.assertEqual(self.status()[0], 0)
+
+
+class FoldersTest(ClusterTrial):
+    """What `up` refuses, with nothing started."""
+
+    def refused(self, why: str, *processes: int, status: int = 1) -> None:
+        self.fails(status, why, "cluster", "up", self.file, *processes)
+        self.assertFalse((self.folder / "state.json").exists() and self.state().is_up())
+
+    def test_folders_of_another_cluster(self) -> None:
+        self.up(4)
+        self.fails(1, "c.toml is up, or is just being started", "cluster", "up", self.file)
+        self.assertEqual(self.kv("put", "a", "1"), "ok")
+        self.passes("cluster", "down", self.file)
+        text = self.file.read_text()
+        for old, new, why in (("clients = 16", "clients = 15", "belongs to a cluster with clients = 16, and not 15"),
+                              ("f = 1", "f = 0", "belongs to a cluster with f = 1, and not 0")):
+            self.file.write_text(text.replace(old, new))
+            self.refused(why)
+        self.file.write_text(text)
+        self.refused("spread over 4 processes, and stay", 3)
+        shutil.move(self.journal("acceptor:2"), self.room / "away")
+        self.refused("compax-acceptor-2.journal is missing: its role must not forget")
+        shutil.move(self.room / "away", self.folder / "2" / "compax-acceptor-2.journal")
+        (self.room / "all").mkdir()
+        for journal in list((self.folder / "3").glob("*.journal")):
+            shutil.move(journal, self.room / "all")
+        self.refused(r"3/compax-\w+-\d.journal is missing: its role must not forget")
+        for journal in (self.room / "all").iterdir():
+            shutil.move(journal, self.folder / "3")
+        shutil.move(self.folder / "2", self.room / "away")
+        self.refused("has no folder with acceptor:2 match:1")
+        shutil.move(self.room / "away", self.folder / "2")
+        self.passes("cluster", "new", self.room / "other.toml")
+        self.file.write_text((self.room / "other.toml").read_text())       # another base_port is no other cluster
+        self.up()
+        self.assertEqual(self.kv("get", "a"), "is 1")
+
+    def test_a_taken_port(self) -> None:
+        role = Role("replica", 1)
+        with socket.socket(socket.AF_INET, socket.SOCK_DGRAM) as holder:
+            holder.bind(("127.0.0.1", self.header.port(role)))
+            self.refused(rf"port {self.header.port(role)} of replica:1 can't be had .*: choose another base_port in ", status=6)
+        self.assertEqual(list(self.folder.iterdir()), [])
+
+    def test_bad_words(self) -> None:
+        for words in ("", "up", "new", "up a b", "kill a", "kill a b", "move a", "up a 1 2"):
+            with self.subTest(words=words):
+                self.fails(2, r"^cluster( \w+)?: ", "cluster", *words.split())
+        for processes in (0, -1, 60, 65):
+            self.fails(2, "can't be spread over|unrecognized", "cluster", "up", self.file, processes)
+        for verb in ("up", "status", "down"):
+            self.fails(1, "No such file or directory", "cluster", verb, self.room / "none")
+        self.fails(1, "File exists", "cluster", "new", self.file)
+        self.fails(1, "was never up", "cluster", "status", self.file)
+        self.fails(1, "no process 0 that was started", "cluster", "kill", self.file, 0)
+        self.assertIn("was not up", self.passes("cluster", "down", self.file))
+
+
+class SupervisorTest(ClusterTrial):
+    HEADER = SMALL
+
+    def node(self) -> Process:
+        """The node of the one process, which may just be started again."""
+        until(lambda: self.running(0) is not None, "process 0 runs")
+        process = self.running(0)
+        assert process
+        return process
+
+    def test_status_and_down(self) -> None:
+        self.assertIn("up: 1 process of ", self.up())
+        self.assertEqual(self.kv("put", "a", "1"), "ok")
+        status, text = self.status()
+        self.assertEqual(status, 0, text)
+        for line in (r"^process 0 runs since .*, pid \d+$", r"^  acceptor:0: \d+ records: .* Vote; [\d,]+ bytes; last ", r"^a write was answered in ",
+                     r"^  replica:0: \d+ records: \d+ Log; .* put a 1$", r"^  batcher:0 proxy:0 unbatcher:0 reader:0$"):
+            self.assertRegex(text, re.compile(line, re.MULTILINE))
+        started = [self.state().supervisor, self.node()]
+        self.assertIn("down: 1 process ended", self.passes("cluster", "down", self.file))
+        self.assertFalse(any(process.lives() for process in started))
+        status, text = self.status()
+        self.assertEqual(status, 1)
+        self.assertRegex(text, re.compile(r"^process 0 is down.*^cluster: .* is not up$", re.MULTILINE | re.DOTALL))
+
+    def test_a_supervisor_that_was_killed(self) -> None:
+        """Its processes go on, and are ended by `down` and nothing else."""
+        self.up()
+        node = self.node()
+        self.state().supervisor.send(signal.SIGKILL)
+        until(lambda: not self.state().supervisor.lives(), "the supervisor has ended")
+        self.assertEqual(self.kv("put", "a", "1"), "ok")
+        status, text = self.status()
+        self.assertEqual(status, 1)
+        self.assertIn("the supervisor has ended, so no process is started again", text)
+        self.fails(1, "runs, without its supervisor", "cluster", "up", self.file)
+        self.assertIn("down: 1 process ended", self.passes("cluster", "down", self.file))
+        self.assertFalse(node.lives())
+        self.up()
+        self.assertEqual(self.kv("get", "a"), "is 1")
+
+    def test_only_what_was_started_is_ended(self) -> None:
+        """A process that has got the number of one that was started isn't touched."""
+        self.up()
+        self.passes("cluster", "down", self.file)
+        with subprocess.Popen(["sleep", "600"]) as other:
+            try:
+                stored = json.loads((self.folder / "state.json").read_text())
+                stored["supervisor"] = stored["supervisor"] | {"pid": other.pid}
+                stored["notes"][0]["process"] = stored["supervisor"]
+                (self.folder / "state.json").write_text(json.dumps(stored))
+                self.assertIn("was not up", self.passes("cluster", "down", self.file))
+                self.fails(1, "process 0 doesn't run just now", "cluster", "kill", self.file, 0)
+                self.assertIsNone(other.poll())
+            finally:
+                other.kill()
+
+    def test_a_folder_that_is_removed(self) -> None:
+        self.up()
+        started = [self.state().supervisor, self.node()]
+        shutil.rmtree(self.folder)
+        until(lambda: not any(process.lives() for process in started), "all have ended")
+
+    def test_it_waits_longer_each_time(self) -> None:
+        program = self.room / "program"
+        program.write_text("#!/bin/sh\necho out of order >&2\nexit 3\n")
+        program.chmod(0o755)
+        self.addCleanup(run, "cluster", "down", self.file)
+        with mock.patch.dict(os.environ, COMPAX=str(program)):
+            self.fails(1, "it was started, but the node ended with status 3: out of order", "cluster", "up", self.file)
+        until(lambda: self.state().notes[0].starts > 4, "five starts")
+        pauses = re.findall(r"ended with status 3: out of order; started again in ([\d.]+) s", (self.folder / "0/log").read_text())
+        self.assertEqual(pauses[:4], ["0.2", "0.4", "0.8", "1.6"])
+        self.passes("cluster", "down", self.file)
+        self.assertFalse(self.state().is_up())
+
+
+if __name__ == "__main__":
+    unittest.main()

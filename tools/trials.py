@@ -1,0 +1,93 @@
+"""What the tests of tools/kv and tools/cluster share: a cluster in a folder of its own, which is gone after the test."""
+
+import contextlib
+import functools
+import importlib.machinery
+import importlib.util
+import io
+import os
+import pathlib
+import tempfile
+import time
+import types
+import unittest
+from collections.abc import Callable
+
+from headers import Header, header_of, program, read_header
+
+TOOLS = pathlib.Path(__file__).resolve().parent
+MEMORY = "/dev/shm" if os.access("/dev/shm", os.W_OK) else None        # no test rests on how fast a disk syncs
+LONGEST = 60.0                          # seconds for what takes a second on a quiet machine
+SMALL = "f = 0\nleaders = 1\nproxies = 1\nacceptors = 1\nreplicas = 1\nbatchers = 1\nunbatchers = 1\nreaders = 1\nclients = 8\nbatch = 1\n"
+
+
+@functools.cache
+def tool_of(name: str) -> types.ModuleType:
+    """A tool as a module: its file has no ending."""
+    loader = importlib.machinery.SourceFileLoader(f"tool_{name}", str(TOOLS / name))
+    spec = importlib.util.spec_from_loader(loader.name, loader)
+    assert spec
+    module = importlib.util.module_from_spec(spec)
+    loader.exec_module(module)
+    return module
+
+
+def run(tool: str, *words: object) -> tuple[int, str, str]:
+    """Runs a tool in this process. Gives its status and what it wrote to both streams."""
+    out, said = io.StringIO(), io.StringIO()
+    with contextlib.redirect_stdout(out), contextlib.redirect_stderr(said):
+        try:
+            status = tool_of(tool).main(list(map(str, words)))
+        except SystemExit as end:
+            status = end.code
+    return status, out.getvalue(), said.getvalue()
+
+
+def until(holds: Callable[[], bool], what: str) -> None:
+    """Waits until something holds."""
+    end = time.monotonic() + LONGEST
+    while not holds():
+        if time.monotonic() > end:
+            raise AssertionError(f"not within {LONGEST:g} s: {what}")
+        time.sleep(0.1)
+
+
+class Trial(unittest.TestCase):
+    """A test with a folder, and a header in it whose ports were free just now."""
+
+    def setUp(self) -> None:
+        program()                       # without it no test says anything
+        self.room = pathlib.Path(self.enterContext(tempfile.TemporaryDirectory(prefix="compax-trial-", dir=MEMORY)))
+        self.file = self.room / "c.toml"
+
+    def passes(self, tool: str, *words: object) -> str:
+        """What a tool prints that ends well and has nothing to object."""
+        status, out, said = run(tool, *words)
+        self.assertEqual((status, said), (0, ""), (tool, words, out))
+        return out
+
+    def fails(self, status: int, why: str, tool: str, *words: object) -> None:
+        """A tool refuses something, in one line on standard error."""
+        got, out, said = run(tool, *words)
+        self.assertEqual(got, status, (tool, words, out, said))
+        self.assertRegex(said.splitlines()[-1], why)
+        self.assertNotIn("Traceback", said)
+
+    def kv(self, *words: object) -> str:
+        """The answer to a command."""
+        return self.passes("kv", "--cluster", self.file, "--seconds", LONGEST, *words).removesuffix("\n")
+
+    def new(self, header: str | None = None) -> Header:
+        """Writes the usual header, or another with its ports."""
+        self.passes("cluster", "new", self.file)
+        if header is not None:
+            port = read_header(self.file).numbers["base_port"]
+            self.file.write_text(f"{header}base_port = {port}\n")
+        return header_of(self.file.read_text(), str(self.file))
+
+    def up(self, *processes: int) -> str:
+        """Starts the cluster, which is ended after the test."""
+        self.addCleanup(run, "cluster", "down", self.file)
+        status, out, said = run("cluster", "up", self.file, *processes)
+        self.assertEqual(status, 0, (out, said))
+        return out
