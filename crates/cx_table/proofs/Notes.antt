@@ -1,13 +1,13 @@
 -- A client's answers, by rising number.
-use Rattle.std.proofs.Common.{◌≡◌, ◌⊎◌, ℕ, zero, suc, ◌-◌, ◌<◌, ◌≤◌, Bool, true, false, ◌&&◌, List, [], ◌∷◌, ◌++◌, length, get_or, inl, inr, ap, sym, ◌∙◌, refl, arith}
-use Rattle.std.specs.Prelude.{◌==◌, filter, nat_le, nat_lt, slice_get, if◌then◌else◌, Option, None, Some}
+use Rattle.std.proofs.Common.{◌≡◌, ◌⊎◌, ℕ, zero, suc, ◌-◌, ◌<◌, ◌≤◌, Bool, true, false, ◌&&◌, List, [], ◌∷◌, ◌++◌, length, get_or, inl, inr, ap, ◌∙◌, refl, arith}
+use Rattle.std.specs.Prelude.{◌==◌, nat_le, nat_lt, slice_get, if◌then◌else◌, Option, None, Some}
 use Rattle.std.specs.List.{insert, list_all}
-use Rattle.std.specs.List.Sorted.{IsPartitionedBy, IsPartitionPoint}
+use Rattle.std.specs.List.Sorted.{IsPartitionedBy}
 use Rattle.std.proofs.lemmas.Bool.{and_parts, cases_Bool}
 use Rattle.std.proofs.lemmas.Bool.Decides.{nat_tests}
 use Rattle.cx_base.specs.declared.command.Answered.{Answered}
 use Rattle.cx_base.specs.Noted.{comes_before, noted_for, with_note}
-use Rattle.cx_table.specs.Entries.{are_of, rise}
+use Rattle.cx_table.specs.Entries.{IsPlace, above, are_of, is_lower, rise}
 
 -- what is so of each is so of one
 pub all_at : {A : Type 0} (p : A → Bool) (list : List A) (i : ℕ) (d : A) → list_all p list ≡ true → i < length list → p (get_or list i d) ≡ true
@@ -30,23 +30,29 @@ and_false : (b : Bool) → (b && false) ≡ false
 and_false true = refl
 and_false false = refl
 
--- those of lower numbers stand in front
-pub parted : (client seq : ℕ) (notes : List Answered) → are_of client notes ≡ true → rise notes ≡ true → IsPartitionedBy (λ (a : Answered). nat_lt a.seq seq) notes
-parted client seq [] own rising i j d ij l low = absurd (omega arith)
-parted client seq (a ∷ notes) own rising zero zero d ij l low = low
-parted client seq (a ∷ notes) own rising zero (suc j) d ij l low =
+-- whether answers of one client rise is seen by their numbers
+pub rise_by_number : (client : ℕ) (notes : List Answered) → are_of client notes ≡ true → rise comes_before notes ≡ rise is_lower notes
+rise_by_number client [] own = refl
+rise_by_number client (a ∷ notes) own =
     let o = and_parts (a.client == client) (are_of client notes) own in
-    let r = and_parts (list_all (comes_before a) notes) (rise notes) rising in
-    let first = all_at (comes_before a) notes j d r.0 (omega arith) in
-    let other = all_at (λ (b : Answered). b.client == client) notes j d o.1 (omega arith) in
-    let less : nat_lt a.seq (get_or notes j d).seq ≡ true = sym (by_number a (get_or notes j d) (same_client client a (get_or notes j d) o.0 other)) ∙ first in
-    grind (arith, nat_tests, less, low)
-parted client seq (a ∷ notes) own rising (suc i) zero d ij l low = absurd (omega arith)
-parted client seq (a ∷ notes) own rising (suc i) (suc j) d ij l low =
-    parted client seq notes (and_parts (a.client == client) (are_of client notes) own).1 (and_parts (list_all (comes_before a) notes) (rise notes) rising).1 i j d (omega arith) (omega arith) low
+    ap (λ b. b && rise comes_before notes) (all_lower client a notes o.0 o.1) ∙ ap (λ b. list_all (is_lower a) notes && b) (rise_by_number client notes o.1)
+  where
+    all_lower : (client : ℕ) (a : Answered) (notes : List Answered) → (a.client == client) ≡ true → are_of client notes ≡ true → list_all (comes_before a) notes ≡ list_all (is_lower a) notes
+    all_lower client a [] one own = refl
+    all_lower client a (b ∷ notes) one own =
+        let o = and_parts (b.client == client) (are_of client notes) own in
+        ap (λ t. t && list_all (comes_before a) notes) (by_number a b (same_client client a b one o.0)) ∙ ap (λ t. nat_lt a.seq b.seq && t) (all_lower client a notes one o.1)
 
-abbrev pub IsPlace : ℕ → List Answered → ℕ → Type 0
-IsPlace seq notes place = IsPartitionPoint (λ (a : Answered). nat_lt a.seq seq ≡ true) (λ (a : Answered). nat_lt a.seq seq ≡ false) notes place
+-- those of lower numbers stand in front
+pub parted : (seq : ℕ) (notes : List Answered) → rise is_lower notes ≡ true → IsPartitionedBy (λ (a : Answered). nat_lt a.seq seq) notes
+parted seq [] rising i j d ij l low = absurd (omega arith)
+parted seq (a ∷ notes) rising zero zero d ij l low = low
+parted seq (a ∷ notes) rising zero (suc j) d ij l low =
+    let r = and_parts (list_all (is_lower a) notes) (rise is_lower notes) rising in
+    let less : nat_lt a.seq (get_or notes j d).seq ≡ true = all_at (is_lower a) notes j d r.0 (omega arith) in
+    grind (arith, nat_tests, less, low)
+parted seq (a ∷ notes) rising (suc i) zero d ij l low = absurd (omega arith)
+parted seq (a ∷ notes) rising (suc i) (suc j) d ij l low = parted seq notes (and_parts (list_all (is_lower a) notes) (rise is_lower notes) rising).1 i j d (omega arith) (omega arith) low
 
 place_after : (seq : ℕ) (a : Answered) (notes : List Answered) (place : ℕ) → IsPlace seq (a ∷ notes) (suc place) → IsPlace seq notes place
 place_after seq a notes place is = (λ k d low high. is.0 (suc k) d (omega arith) (omega arith), λ k d low high. is.1 (suc k) d (omega arith) (omega arith))
@@ -56,25 +62,22 @@ abbrev pub answer_at : ℕ → Option Answered → Option Answered
 answer_at seq None = None
 answer_at seq (Some a) = if a.seq == seq then Some a else None
 
-none_behind : (client seq : ℕ) (a : Answered) (notes : List Answered) → (a.client == client) ≡ true → are_of client notes ≡ true → list_all (comes_before a) notes ≡ true → nat_lt a.seq seq ≡ false
-    → noted_for client seq notes ≡ None
-none_behind client seq a [] own all before low = refl
-none_behind client seq a (b ∷ notes) own all before low =
-    let o = and_parts (b.client == client) (are_of client notes) all in
-    let r = and_parts (comes_before a b) (list_all (comes_before a) notes) before in
-    let less : nat_lt a.seq b.seq ≡ true = sym (by_number a b (same_client client a b own o.0)) ∙ r.0 in
-    let other : (b.seq == seq) ≡ false = grind (arith, nat_tests, less, low) in
-    rw (o.0, other) (none_behind client seq a notes own o.1 r.1 low)
+none_behind : (client seq : ℕ) (a : Answered) (notes : List Answered) → list_all (is_lower a) notes ≡ true → nat_lt a.seq seq ≡ false → noted_for client seq notes ≡ None
+none_behind client seq a [] lower high = refl
+none_behind client seq a (b ∷ notes) lower high =
+    let r = and_parts (is_lower a b) (list_all (is_lower a) notes) lower in
+    let less = r.0 in
+    let other : (b.seq == seq) ≡ false = grind (arith, nat_tests, less, high) in
+    rw (other, and_false (b.client == client)) (none_behind client seq a notes r.1 high)
 
 -- what is noted for a number is at its place
-pub found : (client seq : ℕ) (notes : List Answered) (place : ℕ) → are_of client notes ≡ true → rise notes ≡ true → IsPlace seq notes place
+pub found : (client seq : ℕ) (notes : List Answered) (place : ℕ) → are_of client notes ≡ true → rise is_lower notes ≡ true → IsPlace seq notes place
     → noted_for client seq notes ≡ answer_at seq (slice_get notes place)
 found client seq [] place own rising is = refl
 found client seq (a ∷ notes) zero own rising is =
     let o = and_parts (a.client == client) (are_of client notes) own in
-    let r = and_parts (list_all (comes_before a) notes) (rise notes) rising in
-    let low : nat_lt a.seq seq ≡ false = is.1 0 a (omega arith) (omega arith) in
-    go (cases_Bool (a.seq == seq)) o.0 (none_behind client seq a notes o.0 o.1 r.0 low)
+    let r = and_parts (list_all (is_lower a) notes) (rise is_lower notes) rising in
+    go (cases_Bool (a.seq == seq)) o.0 (none_behind client seq a notes r.0 (is.1 0 a (omega arith) (omega arith)))
   where
     go : ((a.seq == seq) ≡ true) ⊎ ((a.seq == seq) ≡ false) → (a.client == client) ≡ true → noted_for client seq notes ≡ None
         → noted_for client seq (a ∷ notes) ≡ (if a.seq == seq then Some a else None)
@@ -82,7 +85,7 @@ found client seq (a ∷ notes) zero own rising is =
     go (inr e) s none = rw (s, e) none
 found client seq (a ∷ notes) (suc place) own rising is =
     let o = and_parts (a.client == client) (are_of client notes) own in
-    let r = and_parts (list_all (comes_before a) notes) (rise notes) rising in
+    let r = and_parts (list_all (is_lower a) notes) (rise is_lower notes) rising in
     let low : nat_lt a.seq seq ≡ true = is.0 0 a (omega arith) (omega arith) in
     let other : (a.seq == seq) ≡ false = grind (arith, nat_tests, low) in
     rw (o.0, other) (found client seq notes place o.1 r.1 (place_after seq a notes place is))
@@ -118,24 +121,21 @@ abbrev pub ends_at_most : ℕ → Option Answered → Bool
 ends_at_most floor None = true
 ends_at_most floor (Some a) = nat_le a.seq floor
 
-pub up_to : (client floor : ℕ) (notes : List Answered) → are_of client notes ≡ true → rise notes ≡ true
-    → list_all (λ (a : Answered). nat_le a.seq floor) notes ≡ ends_at_most floor (slice_get notes (length notes - 1))
-up_to client floor [] own rising = refl
-up_to client floor (a ∷ []) own rising = and_true (nat_le a.seq floor)
-up_to client floor (a ∷ b ∷ notes) own rising =
-    let o = and_parts (a.client == client) (are_of client (b ∷ notes)) own in
-    let r = and_parts (list_all (comes_before a) (b ∷ notes)) (rise (b ∷ notes)) rising in
-    let p = and_parts (b.client == client) (are_of client notes) o.1 in
-    let less : nat_lt a.seq b.seq ≡ true = sym (by_number a b (same_client client a b o.0 p.0)) ∙ (and_parts (comes_before a b) (list_all (comes_before a) notes) r.0).0 in
+pub up_to : (floor : ℕ) (notes : List Answered) → rise is_lower notes ≡ true → list_all (λ (a : Answered). nat_le a.seq floor) notes ≡ ends_at_most floor (slice_get notes (length notes - 1))
+up_to floor [] rising = refl
+up_to floor (a ∷ []) rising = and_true (nat_le a.seq floor)
+up_to floor (a ∷ b ∷ notes) rising =
+    let r = and_parts (list_all (is_lower a) (b ∷ notes)) (rise is_lower (b ∷ notes)) rising in
+    let less = (and_parts (is_lower a b) (list_all (is_lower a) notes) r.0).0 in
     let long : length (a ∷ b ∷ notes) - 1 ≡ suc (length (b ∷ notes) - 1) = omega arith in
-    rw long (lower (nat_le b.seq floor) (list_all (λ (x : Answered). nat_le x.seq floor) notes) less refl ∙ up_to client floor (b ∷ notes) o.1 r.1)
+    rw long (lower (nat_le b.seq floor) (list_all (λ (x : Answered). nat_le x.seq floor) notes) less refl ∙ up_to floor (b ∷ notes) r.1)
   where
     lower : (t rest : Bool) → nat_lt a.seq b.seq ≡ true → nat_le b.seq floor ≡ t → (nat_le a.seq floor && (t && rest)) ≡ (t && rest)
     lower true rest less e = (let all : nat_le a.seq floor ≡ true = grind (arith, nat_tests, less, e) in rw all refl)
     lower false rest less e = and_false (nat_le a.seq floor)
 
 -- no answer is left of those up to a floor
-pub none_left : (floor : ℕ) (notes : List Answered) → list_all (λ (a : Answered). nat_le a.seq floor) notes ≡ true → filter (λ (a : Answered). nat_lt floor a.seq) notes ≡ []
+pub none_left : (floor : ℕ) (notes : List Answered) → list_all (λ (a : Answered). nat_le a.seq floor) notes ≡ true → above floor notes ≡ []
 none_left floor [] all = refl
 none_left floor (a ∷ notes) all =
     let p = and_parts (nat_le a.seq floor) (list_all (λ (x : Answered). nat_le x.seq floor) notes) all in

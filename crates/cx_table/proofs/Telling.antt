@@ -1,19 +1,20 @@
 -- The table once a client has told a floor, or has one more answer.
 use Rattle.std.proofs.Common.{◌≡◌, ◌⊎◌, ℕ, ◌+◌, Bool, true, false, not, List, [], ◌∷◌, inl, inr, ap, sym, subst, ◌∙◌, refl, arith, rules, true≢false}
-use Rattle.std.specs.Prelude.{◌==◌, filter, nat_eq, nat_le, nat_lt, if◌then◌else◌, Option, None, Some, IsSome}
+use Rattle.std.specs.Prelude.{◌==◌, nat_eq, nat_le, nat_lt, if◌then◌else◌, Option, None, Some, IsSome}
 use Rattle.std.specs.List.{list_all}
 use Rattle.std.specs.Map.{lookup}
 use Rattle.std.proofs.lemmas.Bool.{and_from, and_parts, both_ways, cases_Bool, eqb-true}
 use Rattle.std.proofs.lemmas.Bool.Decides.{nat_tests}
 use Rattle.cx_base.specs.declared.command.Answered.{Answered}
 use Rattle.cx_base.specs.declared.command.Floor.{Floor}
-use Rattle.cx_base.specs.Noted.{Table, are_rising, floor_of, is_answer_of, is_done, is_settled, noted_for, still_noted, with_answer, with_floor, with_note, with_told}
+use Rattle.cx_base.specs.Noted.{Table, are_rising, comes_before, floor_of, is_answer_of, is_done, is_settled, noted_for, still_noted, with_answer, with_floor, with_note, with_told}
 use Rattle.cx_base.proofs.Used.{none_placed, same_client, still_rising, turned_test}
-use Rattle.cx_table.specs.Entries.{IsHeld, are_above, are_of, floor_in, is_above, notes_in, of_client, raised, rise}
+use Rattle.cx_table.specs.Entries.{IsHeld, above, are_above, are_of, floor_in, is_above, is_lower, notes_in, of_client, raised, rise}
 use Rattle.cx_table.specs.Judged.{is_new, judge_in, judge_of, judge_noted}
 use Rattle.cx_table.specs.declared.entry.Entry.{Entry}
 use Rattle.cx_table.specs.declared.judge.Judge.TheVariants as judge
 use Rattle.cx_table.proofs.Held.{IsChanged, held_by}
+use Rattle.cx_table.proofs.Notes.{rise_by_number}
 use Rattle.cx_table.proofs.Rising.{all_with, left_with, rise_left, rise_with}
 
 -- floors
@@ -44,7 +45,7 @@ floor_told client floor n (f ∷ floors) r k =
 -- answers
 
 pub notes_told : (client floor k : ℕ) (notes : List Answered)
-    → of_client k (still_noted client floor notes) ≡ (if client == k then filter (λ (a : Answered). nat_lt floor a.seq) (of_client k notes) else of_client k notes)
+    → of_client k (still_noted client floor notes) ≡ (if client == k then above floor (of_client k notes) else of_client k notes)
 notes_told client floor k [] = same (client == k)
   where
     none : List Answered
@@ -58,20 +59,20 @@ notes_told client floor k (a ∷ notes) =
   where
     go : ((client == k) ≡ true) ⊎ ((client == k) ≡ false) → ((a.client == k) ≡ true) ⊎ ((a.client == k) ≡ false) → ((a.client == client) ≡ true) ⊎ ((a.client == client) ≡ false)
         → (nat_le a.seq floor ≡ true) ⊎ (nat_le a.seq floor ≡ false)
-        → of_client k (still_noted client floor notes) ≡ (if client == k then filter (λ (x : Answered). nat_lt floor x.seq) (of_client k notes) else of_client k notes)
-        → of_client k (still_noted client floor (a ∷ notes)) ≡ (if client == k then filter (λ (x : Answered). nat_lt floor x.seq) (of_client k (a ∷ notes)) else of_client k (a ∷ notes))
+        → of_client k (still_noted client floor notes) ≡ (if client == k then above floor (of_client k notes) else of_client k notes)
+        → of_client k (still_noted client floor (a ∷ notes)) ≡ (if client == k then above floor (of_client k (a ∷ notes)) else of_client k (a ∷ notes))
     go (inl s) (inl t) (inl u) (inl v) h =
         let gone : nat_lt floor a.seq ≡ false = grind (arith, nat_tests, v) in
-        let rest : of_client k (still_noted client floor notes) ≡ filter (λ (x : Answered). nat_lt floor x.seq) (of_client k notes) = rw s at h in
+        let rest : of_client k (still_noted client floor notes) ≡ above floor (of_client k notes) = rw s at h in
         rw (u, v, s, t, gone) rest
     go (inl s) (inl t) (inl u) (inr v) h =
         let stays : nat_lt floor a.seq ≡ true = grind (arith, nat_tests, v) in
-        let rest : of_client k (still_noted client floor notes) ≡ filter (λ (x : Answered). nat_lt floor x.seq) (of_client k notes) = rw s at h in
+        let rest : of_client k (still_noted client floor notes) ≡ above floor (of_client k notes) = rw s at h in
         rw (u, v, t, s, stays) (ap (λ (l : List Answered). a ∷ l) rest)
     go (inl s) (inl t) (inr u) v h = (let same : (a.client == client) ≡ true = grind (arith, nat_tests, s, t) in absurd (both_ways (a.client == client) u same))
     go (inl s) (inr t) (inl u) v h = (let same : (a.client == k) ≡ true = grind (arith, nat_tests, s, u) in absurd (both_ways (a.client == k) t same))
     go (inl s) (inr t) (inr u) v h =
-        let rest : of_client k (still_noted client floor notes) ≡ filter (λ (x : Answered). nat_lt floor x.seq) (of_client k notes) = rw s at h in
+        let rest : of_client k (still_noted client floor notes) ≡ above floor (of_client k notes) = rw s at h in
         rw (u, t, s) rest
     go (inr s) (inl t) (inl u) v h = (let same : (client == k) ≡ true = grind (arith, nat_tests, t, u) in absurd (both_ways (client == k) s same))
     go (inr s) (inl t) (inr u) v h =
@@ -161,8 +162,8 @@ module _ (t : Table) (es : List (ℕ × Entry)) (held : IsHeld t es) (client : �
   pub entry_own : are_of client entry.notes.items ≡ true
   entry_own = rw entry_notes (own_of client t.notes)
 
-  pub entry_rise : rise entry.notes.items ≡ true
-  entry_rise = rw entry_notes (rise_left (λ (a : Answered). a.client == client) t.notes held.notes_rise)
+  pub entry_rise : rise is_lower entry.notes.items ≡ true
+  entry_rise = rw entry_notes (sym (rise_by_number client (of_client client t.notes) (own_of client t.notes)) ∙ rise_left comes_before (λ (a : Answered). a.client == client) t.notes held.notes_rise)
 
   pub entry_noted : (seq : ℕ) → noted_for client seq entry.notes.items ≡ noted_for client seq t.notes
   entry_noted seq = ap (noted_for client seq) entry_notes ∙ noted_own client seq t.notes
@@ -230,25 +231,25 @@ module _ (t : Table) (es ns : List (ℕ × Entry)) (held : IsHeld t es) (client 
   rising_told : are_rising 0 (with_floor client floor t.floors) ≡ true
   rising_told = (let least : nat_le 0 client ≡ true = grind (arith, nat_tests) in still_rising client floor 0 t.floors held.floors_rise least)
 
-  pub told_held : new.notes.items ≡ filter (λ (a : Answered). nat_lt floor a.seq) old.notes.items → IsHeld (with_told client floor t) ns
+  pub told_held : new.notes.items ≡ above floor old.notes.items → IsHeld (with_told client floor t) ns
   told_held left =
-      held_by client new es ns changed t (with_told client floor t) held rising_told (rise_left (λ (a : Answered). not (is_settled client floor a)) t.notes held.notes_rise)
+      held_by client new es ns changed t (with_told client floor t) held rising_told (rise_left comes_before (λ (a : Answered). not (is_settled client floor a)) t.notes held.notes_rise)
       (above_told client floor t.floors t.notes held.floors_rise (all_stood client t.floors t.notes held.above)) floors_told
       (λ k. notes_told client floor k t.notes ∙ go k (cases_Bool (client == k)))
     where
-      own : new.notes.items ≡ filter (λ (a : Answered). nat_lt floor a.seq) (of_client client t.notes)
-      own = left ∙ ap (λ (l : List Answered). filter (λ (a : Answered). nat_lt floor a.seq) l) (entry_notes t es held client old found)
+      own : new.notes.items ≡ above floor (of_client client t.notes)
+      own = left ∙ ap (λ (l : List Answered). above floor l) (entry_notes t es held client old found)
 
       go : (k : ℕ) → ((client == k) ≡ true) ⊎ ((client == k) ≡ false)
-          → (if client == k then filter (λ (a : Answered). nat_lt floor a.seq) (of_client k t.notes) else of_client k t.notes) ≡ (if client == k then new.notes.items else of_client k t.notes)
-      go k (inl s) = rw s (ap (λ (x : ℕ). filter (λ (a : Answered). nat_lt floor a.seq) (of_client x t.notes)) (sym (eqb-true client k s)) ∙ sym own)
+          → (if client == k then above floor (of_client k t.notes) else of_client k t.notes) ≡ (if client == k then new.notes.items else of_client k t.notes)
+      go k (inl s) = rw s (ap (λ (x : ℕ). above floor (of_client x t.notes)) (sym (eqb-true client k s)) ∙ sym own)
       go k (inr s) = rw s refl
 
-  pub noted_held : (a : Answered) → a.client ≡ client → judge_of t a.client a.seq ≡ judge.New → new.notes.items ≡ filter (λ (x : Answered). nat_lt floor x.seq) (with_note a old.notes.items)
+  pub noted_held : (a : Answered) → a.client ≡ client → judge_of t a.client a.seq ≡ judge.New → new.notes.items ≡ above floor (with_note a old.notes.items)
       → IsHeld (with_answer a floor t) ns
   noted_held a same number left = subst (λ (k : ℕ). IsHeld (with_told k floor (record t { notes = with_note a t.notes })) ns) (sym same)
       (held_by client new es ns changed t (with_told client floor (record t { notes = with_note a t.notes })) held rising_told
-      (rise_left (λ (x : Answered). not (is_settled client floor x)) (with_note a t.notes) (rise_with a t.notes free.1 held.notes_rise))
+      (rise_left comes_before (λ (x : Answered). not (is_settled client floor x)) (with_note a t.notes) (rise_with a t.notes free.1 held.notes_rise))
       (above_told client floor t.floors (with_note a t.notes) held.floors_rise (all_with (may_stand client t.floors) a t.notes (stands (cases_Bool (client == a.client))) (all_stood client t.floors t.notes held.above))) floors_told
       (λ k. notes_told client floor k (with_note a t.notes) ∙ go k (cases_Bool (client == k))))
     where
@@ -262,16 +263,16 @@ module _ (t : Table) (es ns : List (ℕ × Entry)) (held : IsHeld t es) (client 
       among : (k : ℕ) → of_client k (with_note a t.notes) ≡ (if a.client == k then with_note a (of_client k t.notes) else of_client k t.notes)
       among k = left_with (λ (x : Answered). x.client == k) a t.notes held.notes_rise
 
-      own : new.notes.items ≡ filter (λ (x : Answered). nat_lt floor x.seq) (with_note a (of_client client t.notes))
-      own = left ∙ ap (λ (l : List Answered). filter (λ (x : Answered). nat_lt floor x.seq) (with_note a l)) (entry_notes t es held client old found)
+      own : new.notes.items ≡ above floor (with_note a (of_client client t.notes))
+      own = left ∙ ap (λ (l : List Answered). above floor (with_note a l)) (entry_notes t es held client old found)
 
       go : (k : ℕ) → ((client == k) ≡ true) ⊎ ((client == k) ≡ false)
-          → (if client == k then filter (λ (x : Answered). nat_lt floor x.seq) (of_client k (with_note a t.notes)) else of_client k (with_note a t.notes)) ≡ (if client == k then new.notes.items else of_client k t.notes)
+          → (if client == k then above floor (of_client k (with_note a t.notes)) else of_client k (with_note a t.notes)) ≡ (if client == k then new.notes.items else of_client k t.notes)
       go k (inl s) =
           let here : (a.client == client) ≡ true = grind (arith, nat_tests, same) in
           let with_it : of_client client (with_note a t.notes) ≡ with_note a (of_client client t.notes) = rw here at (among client) in
-          rw s (ap (λ (x : ℕ). filter (λ (y : Answered). nat_lt floor y.seq) (of_client x (with_note a t.notes))) (sym (eqb-true client k s))
-          ∙ ap (λ (l : List Answered). filter (λ (y : Answered). nat_lt floor y.seq) l) with_it ∙ sym own)
+          rw s (ap (λ (x : ℕ). above floor (of_client x (with_note a t.notes))) (sym (eqb-true client k s))
+          ∙ ap (λ (l : List Answered). above floor l) with_it ∙ sym own)
       go k (inr s) =
           let elsewhere : (a.client == k) ≡ false = grind (arith, nat_tests, same, s) in
           let without_it : of_client k (with_note a t.notes) ≡ of_client k t.notes = rw elsewhere at (among k) in

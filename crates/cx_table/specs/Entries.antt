@@ -1,6 +1,7 @@
 -- What is held of each client, and how it is the table that contracts see.
 use Rattle.std.specs.Prelude.{◌≡◌, ℕ, ◌-◌, ◌≤◌, ◌==◌, ◌&&◌, Bool, true, false, max, nat_eq, nat_lt, filter, slice_get, List, [], ◌∷◌, Option, None, Some, vec_capacity, vec_len}
 use Rattle.std.specs.List.{list_all}
+use Rattle.std.specs.List.Sorted.{IsPartitionPoint}
 use Rattle.std.specs.Map.{lookup}
 use Rattle.cx_base.specs.declared.command.Answered.{Answered}
 use Rattle.cx_base.specs.Noted.{Table, are_rising, comes_before, floor_of}
@@ -15,10 +16,22 @@ of_client client notes = filter (λ (a : Answered). a.client == client) notes
 abbrev pub are_of : ℕ → List Answered → Bool
 are_of client notes = list_all (λ (a : Answered). a.client == client) notes
 
--- whether each answer comes before all that stand after it
-abbrev pub rise : List Answered → Bool
-rise [] = true
-rise (a ∷ notes) = list_all (comes_before a) notes && rise notes
+-- whether an answer is to a lower number than another
+abbrev pub is_lower : Answered → Answered → Bool
+is_lower a b = nat_lt a.seq b.seq
+
+-- the answers to numbers above a floor
+abbrev pub above : ℕ → List Answered → List Answered
+above floor notes = filter (λ (a : Answered). nat_lt floor a.seq) notes
+
+-- the answers before a place are to numbers below this one, and no other is
+abbrev pub IsPlace : ℕ → List Answered → ℕ → Type 0
+IsPlace seq notes place = IsPartitionPoint (λ (a : Answered). nat_lt a.seq seq ≡ true) (λ (a : Answered). nat_lt a.seq seq ≡ false) notes place
+
+-- whether each answer comes before all that stand after it, by an order
+abbrev pub rise : (Answered → Answered → Bool) → List Answered → Bool
+rise before [] = true
+rise before (a ∷ notes) = list_all (before a) notes && rise before notes
 
 -- whether a client told a floor, and its number is above that
 abbrev pub is_above : ℕ → Option ℕ → Bool
@@ -65,7 +78,7 @@ pub record IsRoomAt (client count : ℕ) (entries : List (ℕ × Entry)) (place 
 -- each client's entry holds what the table has of the client; the table rises, and its answers lie above their clients' floors
 pub record IsHeld (t : Table) (entries : List (ℕ × Entry)) : Type 0 where
   pub floors_rise : are_rising 0 t.floors ≡ true
-  pub notes_rise : rise t.notes ≡ true
+  pub notes_rise : rise comes_before t.notes ≡ true
   pub above : are_above t ≡ true
   pub floors : (client : ℕ) → floor_in (lookup (nat_eq client) entries) ≡ floor_of client t.floors
   pub notes : (client : ℕ) → notes_in (lookup (nat_eq client) entries) ≡ of_client client t.notes

@@ -1,12 +1,11 @@
 //! What is held of one client.
 
-ghost use Rattle.std.specs.Prelude.{◌≡◌, ◌+◌, ◌<◌, ◌≤◌, true, false, filter, length, nat_le, nat_lt, slice_get, Some, None, Option, IsOk, OnOk, vec_capacity, vec_len};
+ghost use Rattle.std.specs.Prelude.{◌≡◌, ◌+◌, ◌<◌, ◌≤◌, true, false, length, nat_le, nat_lt, slice_get, Some, None, Option, IsOk, OnOk, vec_capacity, vec_len};
 ghost use Rattle.std.specs.List.{list_all};
-ghost use Rattle.std.specs.List.Sorted.{IsPartitionPoint};
 ghost use Rattle.std.specs.Option.{option_copied};
 ghost use Rattle.cx_base.specs.declared.command.Answered.{Answered as Note};
 ghost use Rattle.cx_base.specs.Noted.{is_done, noted_for, with_note};
-ghost use Rattle.cx_table.specs.Entries.{are_of, raised, rise, room_in};
+ghost use Rattle.cx_table.specs.Entries.{IsPlace, above, are_of, is_lower, raised, rise, room_in};
 ghost use Rattle.cx_table.specs.Judged.{judge_in};
 
 use crate::judge::Judge;
@@ -20,14 +19,12 @@ pub struct Entry {
     pub notes: Vec<Answered>,
 }
 
-// How many of a client's answers are to lower numbers.
-fn place_of(notes: &[Answered], client: u16, seq: u64) -> usize
-    requires own { are_of client notes.now ≡ true }
-    requires rise { rise notes.now ≡ true }
-    ensures place { IsPartitionPoint (λ (a : Note). nat_lt a.seq seq ≡ true) (λ (a : Note). nat_lt a.seq seq ≡ false) notes.now result }
+// How many answers are to lower numbers.
+fn place_of(notes: &[Answered], seq: u64) -> usize
+    requires { rise is_lower notes.now ≡ true }
+    ensures place { IsPlace seq notes.now result }
     ensures inside { result ≤ length notes.now }
 {
-    let _ = client;
     notes.partition_point(|note| note.seq < seq)
 }
 
@@ -40,10 +37,10 @@ fn note_at(notes: &[Answered], place: usize) -> Option<&Answered>
 /// What is noted for a client's number, among its answers.
 fn find(notes: &[Answered], client: u16, seq: u64) -> Option<&Answered>
     requires own { are_of client notes.now ≡ true }
-    requires rise { rise notes.now ≡ true }
+    requires rise { rise is_lower notes.now ≡ true }
     ensures { option_copied result ≡ noted_for client seq notes.now }
 {
-    let note = note_at(notes, place_of(notes, client, seq))?;
+    let note = note_at(notes, place_of(notes, seq))?;
     if note.seq == seq { Some(note) } else { None }
 }
 
@@ -60,7 +57,7 @@ fn is_done(floor: Option<u64>, seq: u64) -> bool
 /// What a client's entry says of one of its numbers.
 pub fn judge(entry: &Entry, client: u16, seq: u64) -> Judge
     requires own { are_of client entry.now.notes.items ≡ true }
-    requires rise { rise entry.now.notes.items ≡ true }
+    requires rise { rise is_lower entry.now.notes.items ≡ true }
     ensures { result ≡ judge_in entry.now.floor entry.now.notes.items client seq }
 {
     if is_done(entry.floor, seq) {
@@ -75,13 +72,11 @@ pub fn judge(entry: &Entry, client: u16, seq: u64) -> Judge
     }
 }
 
-// Whether all of a client's answers are to numbers up to a floor.
-fn are_up_to(notes: &[Answered], client: u16, floor: u64) -> bool
-    requires own { are_of client notes.now ≡ true }
-    requires rise { rise notes.now ≡ true }
+// Whether all answers are to numbers up to a floor.
+fn are_up_to(notes: &[Answered], floor: u64) -> bool
+    requires { rise is_lower notes.now ≡ true }
     ensures { result ≡ list_all (λ (a : Note). nat_le a.seq floor) notes.now }
 {
-    let _ = client;
     match notes.last() {
         Some(note) => note.seq <= floor,
         None => true,
@@ -91,7 +86,7 @@ fn are_up_to(notes: &[Answered], client: u16, floor: u64) -> bool
 // One answer more, in its place. There is room for it.
 fn insert(notes: &mut Vec<Answered>, answer: &Answered)
     requires own { are_of answer.now.client notes.old.items ≡ true }
-    requires rise { rise notes.old.items ≡ true }
+    requires rise { rise is_lower notes.old.items ≡ true }
     requires new { noted_for answer.now.client answer.now.seq notes.old.items ≡ None }
     requires room { vec_len notes.old < vec_capacity notes.old }
     ensures items { notes.new.items ≡ with_note answer.now notes.old.items }
@@ -99,11 +94,11 @@ fn insert(notes: &mut Vec<Answered>, answer: &Answered)
     ensures capacity { vec_capacity notes.old ≤ vec_capacity notes.new }
 {
     // Most numbers come in their order.
-    if are_up_to(notes.as_slice(), answer.client, answer.seq) {
+    if are_up_to(notes.as_slice(), answer.seq) {
         notes.push_reserved(*answer);
         return;
     }
-    let place = place_of(notes.as_slice(), answer.client, answer.seq);
+    let place = place_of(notes.as_slice(), answer.seq);
     match notes.insert(place, *answer) {
         Ok(()) => {}
         // There is room.
@@ -111,16 +106,15 @@ fn insert(notes: &mut Vec<Answered>, answer: &Answered)
     }
 }
 
-// Drops a client's answers to numbers up to a floor.
-fn drop_settled(notes: &mut Vec<Answered>, client: u16, floor: u64)
-    requires own { are_of client notes.old.items ≡ true }
-    requires rise { rise notes.old.items ≡ true }
-    ensures items { notes.new.items ≡ filter (λ (a : Note). nat_lt floor a.seq) notes.old.items }
+// Drops the answers to numbers up to a floor.
+fn drop_settled(notes: &mut Vec<Answered>, floor: u64)
+    requires { rise is_lower notes.old.items ≡ true }
+    ensures items { notes.new.items ≡ above floor notes.old.items }
     ensures len { vec_len notes.new ≤ vec_len notes.old }
     ensures capacity { vec_capacity notes.new ≡ vec_capacity notes.old }
 {
     // Most clients are done with all before they ask again.
-    if are_up_to(notes.as_slice(), client, floor) {
+    if are_up_to(notes.as_slice(), floor) {
         notes.clear();
         return;
     }
@@ -150,30 +144,29 @@ pub fn make_room(entry: &mut Entry, count: usize) -> Result<(), NoMemory>
 }
 
 /// The client tells a floor.
-pub fn tell(entry: &mut Entry, client: u16, floor: u64)
-    requires own { are_of client entry.old.notes.items ≡ true }
-    requires rise { rise entry.old.notes.items ≡ true }
+pub fn tell(entry: &mut Entry, floor: u64)
+    requires { rise is_lower entry.old.notes.items ≡ true }
     ensures floor { entry.new.floor ≡ Some (raised entry.old.floor floor) }
-    ensures notes { entry.new.notes.items ≡ filter (λ (a : Note). nat_lt floor a.seq) entry.old.notes.items }
+    ensures notes { entry.new.notes.items ≡ above floor entry.old.notes.items }
     ensures len { vec_len entry.new.notes ≤ vec_len entry.old.notes }
     ensures capacity { vec_capacity entry.new.notes ≡ vec_capacity entry.old.notes }
 {
     entry.floor = Some(raised(entry.floor, floor));
-    drop_settled(&mut entry.notes, client, floor);
+    drop_settled(&mut entry.notes, floor);
 }
 
 /// The client's new number is answered, and tells a floor. There is room for its answer.
 pub fn note(entry: &mut Entry, answer: &Answered, floor: u64)
     requires own { are_of answer.now.client entry.old.notes.items ≡ true }
-    requires rise { rise entry.old.notes.items ≡ true }
+    requires rise { rise is_lower entry.old.notes.items ≡ true }
     requires new { noted_for answer.now.client answer.now.seq entry.old.notes.items ≡ None }
     requires room { vec_len entry.old.notes < vec_capacity entry.old.notes }
     ensures floor { entry.new.floor ≡ Some (raised entry.old.floor floor) }
-    ensures notes { entry.new.notes.items ≡ filter (λ (a : Note). nat_lt floor a.seq) (with_note answer.now entry.old.notes.items) }
+    ensures notes { entry.new.notes.items ≡ above floor (with_note answer.now entry.old.notes.items) }
     ensures len { vec_len entry.new.notes ≤ vec_len entry.old.notes + 1 }
     ensures capacity { vec_capacity entry.old.notes ≤ vec_capacity entry.new.notes }
 {
-    tell(entry, answer.client, floor);
+    tell(entry, floor);
     // A client isn't done with the number that it tells the floor with.
     if answer.seq > floor {
         insert(&mut entry.notes, answer);

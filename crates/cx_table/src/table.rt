@@ -109,7 +109,7 @@ impl Table {
         ensures room { KeepsRoom self.old.rooms self.new.rooms }
     {
         match place_of(&self.entries, client) {
-            Some(place) => entry::tell(&mut self.entries[place], client, floor),
+            Some(place) => entry::tell(&mut self.entries[place], floor),
             // It has an entry.
             None => unreachable!(),
         }

@@ -2,7 +2,8 @@ use Rattle.std.proofs.Common.{◌≡◌, true, length, arith, ◌∙◌, sym, su
 use Rattle.std.specs.Prelude.{nat_le}
 use Rattle.std.specs.List.{list_all}
 use Rattle.cx_base.specs.declared.command.Answered.{Answered}
-use Rattle.cx_table.proofs.Notes.{IsPlace, at_end, put_in}
+use Rattle.cx_table.specs.Entries.{IsPlace}
+use Rattle.cx_table.proofs.Notes.{at_end, put_in}
 use Rattle.cx_table.proofs.entry.insert.Goals as goal
 
 pub returns-then-are_up_to-clause-items : goal.returns-then-are_up_to-clause-items

@@ -6,7 +6,7 @@ use Rattle.cx_base.specs.Noted.{Table}
 use Rattle.cx_table.specs.Entries.{rooms_in}
 use Rattle.cx_table.specs.State.{KeepsRoom, TableState}
 use Rattle.cx_table.proofs.Held.{write_changed, write_found, write_kept}
-use Rattle.cx_table.proofs.Telling.{entry_own, entry_rise, told_held}
+use Rattle.cx_table.proofs.Telling.{entry_rise, told_held}
 use Rattle.cx_table.proofs.table.Table.tell.Goals as goal
 use Rattle.cx_table.proofs.table.Table.tell.Goals.{After-index_mut}
 
@@ -16,14 +16,9 @@ table c = record { floors = c.self.inside.floors.items; notes = c.self.inside.no
 found : (c : After-index_mut) → lookup (nat_eq c.args.client) c.self.inside.entries.entries ≡ Some c.index_mut.result.now
 found c = write_found c.self.inside.entries c.in-Some.place c.args.client c.index_mut.result.now c.index_mut.result.now c.place_of.ensures.unique c.in-Some.ensures.place c.index_mut.ensures.value
 
-pub tell-requires-clause-own : goal.tell-requires-clause-own
-tell-requires-clause-own c =
-    let i = (goal.at.tell-requires-clause-own c).After-index_mut in
-    entry_own (table i) c.self.inside.entries.entries c.self.invariant c.args.client c.index_mut.result.now (found i)
-
-pub tell-requires-clause-rise : goal.tell-requires-clause-rise
-tell-requires-clause-rise c =
-    let i = (goal.at.tell-requires-clause-rise c).After-index_mut in
+pub tell-requires : goal.tell-requires
+tell-requires c =
+    let i = (goal.at.tell-requires c).After-index_mut in
     entry_rise (table i) c.self.inside.entries.entries c.self.invariant c.args.client c.index_mut.result.now (found i)
 
 pub invariant_of-self : goal.invariant_of-self
