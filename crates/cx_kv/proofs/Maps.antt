@@ -1,5 +1,5 @@
 -- Maps with rising keys, cut at a place.
-use Rattle.std.proofs.Common.{◌≡◌, ℕ, zero, suc, ◌+◌, ◌<◌, ◌≤◌, ◌⊎◌, inl, inr, true, false, nat_lt, List, [], ◌∷◌, length, get_or, drop, set, refl, ap, sym, subst, ◌∙◌, arith, Option, Some, None}
+use Rattle.std.proofs.Common.{◌≡◌, ℕ, zero, suc, ◌+◌, ◌<◌, ◌≤◌, ◌⊎◌, inl, inr, true, false, nat_lt, List, [], ◌∷◌, length, get_or, drop, set, refl, ap, sym, subst, ◌∙◌, arith, Some, None}
 use Rattle.std.specs.Str.{bytes_eq}
 use Rattle.std.specs.List.{AllWithin, insert, remove}
 use Rattle.std.specs.List.Sorted.{IsPartitionedBy}

@@ -1,22 +1,22 @@
 //! Which commands act after others.
 
-ghost use Rattle.std.specs.Prelude.{◌≡◌, ◌++◌, ◌∷◌, [], OnErr, OnOk};
+ghost use Rattle.std.specs.Prelude.{◌≡◌, ◌++◌, ◌∷◌, List, [], OnErr, OnOk};
 ghost use Rattle.cx_base.specs.Fold.{acts};
-ghost use Rattle.cx_kv.specs.Acting.{has_used};
+ghost use Rattle.cx_base.specs.declared.command.Command.{Command as CommandOf};
+ghost use Rattle.cx_kv.specs.Acting.{Decides};
 
-use cx_base::{CLIENTS, Command, Greatest, NoMemory, acts};
+use cx_base::{Command, NoMemory, Reply};
 use cx_ring::{Tells, Told};
+use cx_table::{Judge, Table};
 use std::alloc::Global;
 use std::marker::Model;
 
-/// Commands in their order, of which contracts see the list. What is held is each client's greatest number, which decides
-/// at once which commands act.
+/// Commands in their order, of which contracts see the list. What is held is their client table, which decides at once which
+/// commands act.
 #[derive(Drop)]
 pub struct Executed {
     told: Told<Command>,
-    greatest: Greatest,
-    // The commands that no cluster has: of a client past its last one, or with number 0.
-    rest: Vec<Command>,
+    table: Table,
 }
 
 impl Model for Executed {
@@ -28,7 +28,7 @@ impl Model for Executed {
 
     ghost view = { λ e. e.told.items };
 
-    ghost invariant = { λ e. Decides e.greatest e.rest.items e.told.items };
+    ghost invariant = { λ e. Decides e.table.table e.told.items };
 }
 
 struct Nothing;
@@ -43,19 +43,26 @@ impl<'a> Tells<(&'a Told<Command>, &'a Command), Command> for Added {
     ghost told = { λ x. x.0.now.items ++ x.1.now ∷ [] };
 }
 
-// Whether a client that a cluster can have has used this number or a greater one.
-fn has_used(greatest: &Greatest, client: u16, seq: u64) -> bool
-    ensures { result ≡ has_used greatest.now client seq }
+// The table of commands with one more: what that is answered is of no use here.
+fn note(table: &mut Table, command: &Command) -> Result<(), NoMemory>
+    ensures ok { OnOk result ((list : List CommandOf) → Decides table.old.table list → Decides table.new.table (list ++ command.now ∷ [])) }
+    ensures err { OnErr result (table.new.table ≡ table.old.table) }
 {
-    usize::from(client) < CLIENTS && !greatest.is_above(client, seq.max(1))
-}
-
-fn push_copy<T: Copy + Drop>(list: &mut Vec<T>, value: &T) -> Result<(), NoMemory>
-    ensures ok { OnOk result (list.new.items ≡ list.old.items ++ value.now ∷ []) }
-    ensures err { OnErr result (list.new.items ≡ list.old.items) }
-{
-    list.push(*value)?;
-    Ok(())
+    let client = command.client;
+    match table.judge(client, command.seq) {
+        Judge::New => {
+            table.note(client, command.seq, command.floor, 0, &Reply::Okay)?;
+            Ok(())
+        }
+        Judge::Last { .. } => {
+            table.tell(client, command.floor);
+            Ok(())
+        }
+        Judge::Past => {
+            table.tell(client, command.floor);
+            Ok(())
+        }
+    }
 }
 
 impl Executed {
@@ -65,8 +72,7 @@ impl Executed {
     {
         Executed {
             told: Told::of::<(), Nothing>(&()),
-            greatest: Greatest::new(),
-            rest: Vec::new(alloc),
+            table: Table::new(alloc),
         }
     }
 
@@ -74,20 +80,19 @@ impl Executed {
     pub fn acts(&self, command: &Command) -> bool
         ensures { result ≡ acts self.now command.now }
     {
-        !has_used(&self.greatest, command.client, command.seq) && acts(&self.rest, command)
+        match self.table.judge(command.client, command.seq) {
+            Judge::New => true,
+            Judge::Last { .. } => false,
+            Judge::Past => false,
+        }
     }
 
-    /// One command more, after the others. It takes memory only for a command that no cluster has: of a client from 64 on, or with
-    /// number 0. Out of memory, it changes nothing.
+    /// One command more, after the others. Only one that acts takes memory. Out of memory, nothing changes.
     pub fn push(&mut self, command: &Command) -> Result<(), NoMemory>
         ensures ok { OnOk result (self.new ≡ self.old ++ command.now ∷ []) }
         ensures err { OnErr result (self.new ≡ self.old) }
     {
-        if usize::from(command.client) < CLIENTS && command.seq > 0 {
-            self.greatest.raise(command.client, command.seq);
-        } else {
-            push_copy(&mut self.rest, command)?;
-        }
+        note(&mut self.table, command)?;
         self.told = Told::of::<(&Told<Command>, &Command), Added>(&(&self.told, command));
         Ok(())
     }

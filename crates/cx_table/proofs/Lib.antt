@@ -1,4 +1,5 @@
 pub mod Held
+pub mod Judging
 pub mod Notes
 pub mod Rising
 pub mod Telling
