@@ -1,6 +1,6 @@
 -- Values that fit where no floor may be told: those that tell none, spelled alike.
-use Rattle.std.proofs.Common.{◌≡◌, ℕ, Bool, true, false, not, ◌&&◌, ◌||◌, List, [], ◌∷◌, Option, None, Some, inl, inr, refl, ap, ◌∙◌}
-use Rattle.std.specs.Prelude.{◌+◌, ◌==◌, nat_le, nat_lt, if◌then◌else◌}
+use Rattle.std.proofs.Common.{◌≡◌, ℕ, Bool, true, false, not, ◌&&◌, List, Option, None, Some, inl, inr, refl, ap, ◌∙◌}
+use Rattle.std.specs.Prelude.{◌+◌, ◌==◌, nat_le, nat_lt}
 use Rattle.std.specs.List.{list_any}
 use Rattle.std.proofs.lemmas.Bool.{cases_Bool}
 use Rattle.cx_base.specs.declared.command.Command.{Command}
@@ -9,9 +9,9 @@ use Rattle.cx_base.specs.declared.command.Op.TheVariants.{Put, Del, App}
 use Rattle.cx_base.specs.declared.command.Value.{Value}
 use Rattle.cx_base.specs.declared.command.Value.TheVariants.{Noop, Batch}
 use Rattle.cx_wire.specs.Format.{Format, u8, u16, only, then_by, ◌▷◌, nothing}
-use Rattle.cx_wire.proofs.Parts.{IsPart, IsShapePart, same-part, then_by-part, ▷-part, shaped-part, counted-part, tagged-part, shape-part}
+use Rattle.cx_wire.proofs.Parts.{IsPart, IsShapePart, same-part, then_by-part, ▷-part, counted-part, tagged-part, shape-part}
 use Rattle.cx_field.specs.declared.parts.Vote.{Vote}
-use Rattle.cx_field.specs.Fields.{seq, slot, round, name, floor_below, told_shape, told_cases, told_op, told_floor, make_command, command_parts, command_with, command, tells_floor, commands_with, value_shape, value_cases, value_with, value, value_tells, in_window, last_passes, vote_with, votes_with}
+use Rattle.cx_field.specs.Fields.{seq, slot, round, name, floor_below, told_shape, told_cases, told_op, told_floor, command_parts, command_with, command, tells_floor, commands_with, value_shape, value_cases, value_with, value, value_tells, in_window, last_passes, vote_with, votes_with}
 
 -- whether a floor is told
 abbrev pub is_told : Option ℕ → Bool
