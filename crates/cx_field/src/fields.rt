@@ -67,7 +67,8 @@ pub fn at_from(reader: &mut Reader<'_>) -> Result<u64, ReadFault>
 /// A client's number of a request, 1 or more, in eight bytes.
 #[tactic(auto, unfolding(crate::specs::Fields::seq))]
 pub fn seq_from(reader: &mut Reader<'_>) -> Result<u64, ReadFault>
-    ensures { Reads field.seq reader.old result reader.new }
+    ensures read { Reads field.seq reader.old result reader.new }
+    ensures some { IfOk result (λ n. 1 ≤ n) }
 {
     let left = reader.left();
     let seq = reader.u64()?;

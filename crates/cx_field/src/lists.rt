@@ -40,6 +40,7 @@ impl Items for CommandItems {
         command_from(self.floors, reader)
     }
 
+    #[tactic(auto, using(crate::proofs::Floors::command_spells))]
     fn put_next(&self, command: &Command, out: &mut Vec<u8>) -> Result<(), NoMemory> {
         put_command(out, command)
     }
@@ -208,6 +209,7 @@ impl Items for ValueItems {
 
     ghost most = { 938 };
 
+    #[tactic(auto, unfolding(crate::specs::Fields::value))]
     fn next_from(
         &self,
         alloc: Global,

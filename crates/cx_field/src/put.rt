@@ -4,12 +4,12 @@ ghost use Rattle.std.specs.Prelude.{◌≡◌, ◌≤◌, ◌+◌, ◌*◌, ◌+
 ghost use Rattle.cx_wire.specs.Format as wire;
 ghost use Rattle.cx_field.specs.Fields as field;
 ghost use Rattle.cx_field.specs.Fields.{told_floor};
-ghost use Rattle.cx_wire.specs.Format.{Appends};
+ghost use Rattle.cx_wire.specs.Format.{Appends, ◌▷◌};
 
 use crate::items::put_items;
 use crate::lists::{AnsweredItems, CommandItems, EntryItems, MemberItems, ValueItems, VoteItems};
 use crate::parts::{Answers, Entries, LogValues, NackReason, Token, Votes};
-use cx_base::{Command, Commands, Grid, Name, NoMemory, Op, Reply, Round, Text, Value};
+use cx_base::{Command, Commands, Grid, Key, Name, NoMemory, Op, Reply, Round, Text, Value};
 use cx_wire::{put_u8, put_u16, put_u32, put_u64};
 
 /// Appends a slot, eight bytes.
@@ -95,37 +95,50 @@ fn told_floor(number: u64, floor: u64) -> Option<u64>
     Some(floor)
 }
 
-// Appends the byte of an operation, this one where no floor is told, and the floor, if one is.
-fn put_tag(out: &mut Vec<u8>, tag: u8, told: Option<u64>) -> Result<(), NoMemory> {
-    match told {
-        None => put_u8(out, tag),
-        Some(floor) => {
-            put_u8(out, tag + 3)?;
-            put_u64(out, floor)
-        }
-    }
+fn put_key_text(out: &mut Vec<u8>, key: &Key, text: &Text) -> Result<(), NoMemory>
+    ensures { OnOk result (Appends (field.name 32 ▷ field.name 64) (key.now, text.now) 98 out.old.items out.new.items) }
+{
+    put_name(out, key)?;
+    put_name(out, text)
 }
 
-// Appends an operation, and the floor that is told before its key, if one is.
-#[tactic(auto, unfolding(crate::specs::Fields::told_op))]
+// Appends an operation, with the floor that is told before its key, if one is. The bytes are the same with each number.
+#[tactic(auto, unfolding(crate::specs::Fields::told_op, crate::specs::Fields::floor_below))]
 fn put_told_op(out: &mut Vec<u8>, told: Option<u64>, op: &Op) -> Result<(), NoMemory>
     ensures { OnOk result ((number : ℕ) → Appends (field.told_op true number) (told, op.now) 107 out.old.items out.new.items) }
 {
-    match op {
-        Op::Put(key, text) => {
-            put_tag(out, 1, told)?;
-            put_name(out, key)?;
-            put_name(out, text)
-        }
-        Op::Del(key) => {
-            put_tag(out, 2, told)?;
-            put_name(out, key)
-        }
-        Op::App(key, text) => {
-            put_tag(out, 3, told)?;
-            put_name(out, key)?;
-            put_name(out, text)
-        }
+    match told {
+        None => match op {
+            Op::Put(key, text) => {
+                put_u8(out, 1)?;
+                put_key_text(out, key, text)
+            }
+            Op::Del(key) => {
+                put_u8(out, 2)?;
+                put_name(out, key)
+            }
+            Op::App(key, text) => {
+                put_u8(out, 3)?;
+                put_key_text(out, key, text)
+            }
+        },
+        Some(floor) => match op {
+            Op::Put(key, text) => {
+                put_u8(out, 4)?;
+                put_u64(out, floor)?;
+                put_key_text(out, key, text)
+            }
+            Op::Del(key) => {
+                put_u8(out, 5)?;
+                put_u64(out, floor)?;
+                put_name(out, key)
+            }
+            Op::App(key, text) => {
+                put_u8(out, 6)?;
+                put_u64(out, floor)?;
+                put_key_text(out, key, text)
+            }
+        },
     }
 }
 

@@ -1,6 +1,6 @@
 //! What the types of fields say of their ranges. These calls do nothing when they run; they give their caller a fact.
 
-ghost use Rattle.std.specs.Prelude.{◌≡◌, ◌<◌, ◌≤◌, ℕ, slice_index, IsTrue};
+ghost use Rattle.std.specs.Prelude.{◌≡◌, ◌<◌, ◌≤◌, ◌^◌, ℕ, slice_index, IsTrue};
 ghost use Rattle.cx_base.specs.Asked.{floor_fits};
 ghost use Rattle.cx_base.specs.Grid.{IsGrid};
 ghost use Rattle.cx_base.specs.Name.{IsName};
@@ -13,6 +13,12 @@ use cx_base::{Command, Grid, Name, Op, Reply, Text};
 // Ids take two bytes.
 fn ids_fit(ids: &[u16])
     ensures { (i : ℕ) → slice_index ids.now i < 65536 }
+{}
+
+// A client takes two bytes, and its number eight.
+fn numbers_fit(client: u16, number: u64)
+    ensures client { client < 65536 }
+    ensures number { number < 2 ^ 64 }
 {}
 
 /// Each grid has a spelling.
@@ -48,6 +54,7 @@ pub fn command_fits(command: &Command)
     requires { IsTrue (floor_fits command.now.seq command.now.floor) }
     ensures { IsTrue (field.command.fits command.now) }
 {
+    numbers_fit(command.client, command.seq);
     op_fits(&command.op);
 }
 
