@@ -18,7 +18,7 @@ use cx_field::{
 use cx_wire::put_u8;
 use std::alloc::Global;
 
-#[tactic(auto, unfolding(crate::specs::Records::record_cases))]
+#[tactic(auto, unfolding(crate::specs::Records::record_cases, cx_field::specs::Fields::value))]
 pub(crate) fn fields_from(
     tag: u8,
     alloc: Global,
@@ -34,7 +34,7 @@ pub(crate) fn fields_from(
             let round = round_from(reader)?;
             let slot = slot_from(reader)?;
             let cw = mark_from(reader)?;
-            let value = value_from(alloc, reader)?;
+            let value = value_from(alloc, true, reader)?;
             Ok(Record::Vote {
                 round,
                 slot,
@@ -129,7 +129,7 @@ fn put_vote(
     cw: u64,
     value: &Value,
 ) -> Result<(), NoMemory>
-    ensures { OnOk result (Appends records.vote (round.now, (slot, (cw, value.now))) 900 out.old.items out.new.items) }
+    ensures { OnOk result (Appends records.vote (round.now, (slot, (cw, value.now))) 964 out.old.items out.new.items) }
 {
     put_round(out, round)?;
     put_slot(out, slot)?;
@@ -139,7 +139,7 @@ fn put_vote(
 
 #[tactic(auto, unfolding(crate::specs::Records::kept_record))]
 fn put_record(out: &mut Vec<u8>, kept: &Record) -> Result<(), NoMemory>
-    ensures { OnOk result (Appends records.kept_record kept.now 27970 out.old.items out.new.items) }
+    ensures { OnOk result (Appends records.kept_record kept.now 30018 out.old.items out.new.items) }
 {
     match kept {
         Record::Promise { round } => {
@@ -182,11 +182,11 @@ fn put_record(out: &mut Vec<u8>, kept: &Record) -> Result<(), NoMemory>
     }
 }
 
-/// Appends the bytes of a record, at most 27,970. Out of memory, it appends nothing.
+/// Appends the bytes of a record, at most 30,018. Out of memory, it appends nothing.
 #[tactic(auto, unfolding(crate::specs::Records::kept_record))]
 pub fn record_into(alloc: Global, kept: &Record, out: &mut Vec<u8>) -> Result<(), NoMemory>
     ensures bytes { OnOk result (out.new.items ≡ out.old.items ++ records.spelling kept.now) }
-    ensures room { OnOk result (length (records.spelling kept.now) ≤ 27970) }
+    ensures room { OnOk result (length (records.spelling kept.now) ≤ 30018) }
     ensures err { OnErr result (out.new.items ≡ out.old.items) }
 {
     let mut whole = Vec::new(alloc);
