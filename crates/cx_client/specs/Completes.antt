@@ -1,7 +1,6 @@
 -- What a client sends, and when a datagram completes a request.
-use Rattle.std.specs.Prelude.{◌≡◌, ◌⊎◌, ℕ, ◌+◌, ◌==◌, Bool, true, nat_lt, List, ◌∷◌, ◌++◌, take, Some}
+use Rattle.std.specs.Prelude.{◌≡◌, ℕ, ◌+◌, ◌==◌, Bool, true, nat_lt, List, ◌∷◌, ◌++◌, take, Some}
 use Rattle.std.specs.List.{list_all}
-use Rattle.cx_base.specs.Asked.{floor_fits}
 use Rattle.cx_base.specs.declared.event.Event.{Event}
 use Rattle.cx_base.specs.Role.{same_role}
 use Rattle.cx_client.specs.Client.{ClientState, answer_number, left}

@@ -1,3 +1,4 @@
 pub mod Client
 pub mod Completes
+pub mod Examples
 pub mod Window

@@ -1,16 +1,15 @@
 //! The client.
 
-ghost use Rattle.std.specs.Prelude.{◌≡◌, ◌≤◌, ◌<◌, ◌+◌, ◌-◌, ◌++◌, ◌∷◌, [], drop, filter, get_or, length, nat_lt, not, slice_get, take, IfOk, IfSome, OnErr, OnOk, IsTrue, false};
+ghost use Rattle.std.specs.Prelude.{◌≡◌, ◌≤◌, ◌<◌, ◌+◌, ◌-◌, ◌++◌, ◌∷◌, [], drop, filter, get_or, length, nat_lt, slice_get, take, IfOk, IfSome, OnErr, OnOk, IsTrue, false};
 ghost use Rattle.cx_base.specs.declared.event.Event.{Event as Happening};
 ghost use Rattle.cx_base.specs.declared.role.Kind.TheVariants as kind;
 ghost use Rattle.cx_client.specs.Client.{Moves, completed, client_hears, client_opened, client_start, client_takes, client_ticks, is_finished, left};
-ghost use Rattle.cx_client.specs.Window.{floor_for, is_outstanding, outstanding, requests_of};
-ghost use Rattle.cx_model.specs.Member.{Member};
+ghost use Rattle.cx_client.specs.Window.{floor_for, outstanding, requests_of};
 ghost use Rattle.cx_model.specs.Names.{names_role};
 ghost use Rattle.cx_script.specs.Requests.{IsScript, number_of};
 
-use crate::sending::send_above;
-use crate::window::{first_of, number_of, outstanding, place_of};
+use crate::sending::send_outstanding;
+use crate::window::{number_of, outstanding, place_of};
 use cx_base::{Cluster, Event, Kind, NoMemory, RoleId, Why};
 use cx_msg::{Datagram, Msg};
 use cx_role::{Outbox, is_for};
@@ -48,15 +47,15 @@ impl Model for Client {
     ghost invariant = { λ c. IsClient (record { cluster = c.cluster; me = role kind.Client c.index; script = c.script.items; done = c.done; window = c.window }) };
 }
 
-// Brings the event at a place forward, and those that it passes move up one place.
-fn bring_forward(script: &mut Vec<Event>, from: usize, to: usize)
-    requires to { to ≤ from }
-    requires from { from < length script.old.items }
-    ensures { (d : Happening) → script.new.items ≡ take to script.old.items ++ (get_or script.old.items from d ∷ (take (from - to) (drop to script.old.items) ++ drop (from + 1) script.old.items)) }
+// Brings the request at a place of those that are left to their front, and those that it passes move up one place.
+fn bring_forward(script: &mut Vec<Event>, done: usize, place: usize)
+    requires { done + place < length script.old.items }
+    ensures { (d : Happening) → script.new.items ≡ take done script.old.items ++ get_or script.old.items (done + place) d ∷ (take place (drop done script.old.items) ++ drop (done + place + 1) script.old.items) }
 {
+    let from = done + place;
     let event = script[from];
-    script.copy_within(to..from, to + 1);
-    script[to] = event;
+    script.copy_within(done..from, done + 1);
+    script[done] = event;
 }
 
 // The last number of requests, 0 where there are none.
@@ -90,18 +89,11 @@ impl Client {
         }
     }
 
-    // The uncompleted requests.
-    fn left(&self) -> &[Event]
-        ensures { result.now ≡ left self.now }
-    {
-        &self.script[self.done..]
-    }
-
     // The outstanding requests.
     fn outstanding(&self) -> &[Event]
         ensures { result.now ≡ outstanding self.now.window (left self.now) }
     {
-        outstanding(self.left(), self.window as usize)
+        outstanding(&self.script[self.done..], self.window as usize)
     }
 
     // The outstanding requests whose numbers are above `sent` go out. It takes no memory.
@@ -109,8 +101,7 @@ impl Client {
         requires room { self.now.window ≤ out.old.spare }
         ensures { out.new.list ≡ out.old.list ++ requests_of (floor_for (left self.now)) (filter (λ (e : Happening). nat_lt sent (number_of e)) (outstanding self.now.window (left self.now))) }
     {
-        let floor = first_of(self.left()).saturating_sub(1);
-        send_above(self.outstanding(), sent, floor, out);
+        send_outstanding(&self.script[self.done..], self.window as usize, sent, out);
     }
 
     /// The outstanding requests are sent: the first ones of the script.
@@ -124,12 +115,12 @@ impl Client {
         Ok(())
     }
 
-    // The outstanding request at this place is completed.
+    // The request at this place of those that are left is completed.
     fn complete(&mut self, place: usize)
-        requires { place < length (outstanding self.old.window (left self.old)) }
+        requires { place < length (left self.old) }
         ensures { (d : Happening) → self.new ≡ completed (number_of (get_or (left self.old) place d)) self.old }
     {
-        bring_forward(&mut self.script, self.done + place, self.done);
+        bring_forward(&mut self.script, self.done, place);
         self.done += 1;
     }
 
@@ -191,7 +182,8 @@ impl Client {
         if self.finished() {
             return Ok(Why::Idle);
         }
-        self.start(out)?;
+        out.room(self.window as usize)?;
+        self.send_above(0, out);
         Ok(Why::Resent)
     }
 

@@ -8,9 +8,11 @@
 #![tactic(auto)]
 
 mod client;
+mod examples;
 mod law;
 mod sending;
 mod window;
 
 pub use client::{Client, Taken};
+pub use examples::worked;
 pub use law::{clients_stay, completes_once, floors_are_below, sends_are_own, windows_move};

@@ -6,13 +6,13 @@ ghost use Rattle.cx_base.specs.Asked.{floor_fits, is_valid_event};
 ghost use Rattle.cx_base.specs.Role.{role};
 ghost use Rattle.cx_base.specs.declared.event.Event.{Event as Happening};
 ghost use Rattle.cx_base.specs.declared.role.Kind.TheVariants as kind;
-ghost use Rattle.cx_client.specs.Window.{requests_of, telling};
+ghost use Rattle.cx_client.specs.Window.{floor_for, outstanding, requests_of, telling};
 ghost use Rattle.cx_model.specs.Request.{request};
 ghost use Rattle.cx_msg.specs.declared.message.Msg.TheVariants as msg;
 ghost use Rattle.cx_msg.specs.Letter.{letter};
-ghost use Rattle.cx_script.specs.Requests.{number_of};
+ghost use Rattle.cx_script.specs.Requests.{number_of, rise_above};
 
-use crate::window::number_of;
+use crate::window::{first_of, number_of, outstanding};
 use cx_base::{Command, Event, Op};
 use cx_msg::{Datagram, read_req, submit};
 use cx_role::Outbox;
@@ -23,7 +23,16 @@ fn submission(client: u16, seq: u64, floor: u64, op: Op, batcher: u16) -> Datagr
     requires { IsTrue (floor_fits seq floor) }
     ensures { result ≡ letter (role kind.Client client) (role kind.Batcher batcher) (msg.Submit (record { client = client; seq = seq; floor = floor; op = op })) }
 {
-    submit(client, batcher, Command { client, seq, floor, op })
+    submit(
+        client,
+        batcher,
+        Command {
+            client,
+            seq,
+            floor,
+            op,
+        },
+    )
 }
 
 // The datagram of a request that tells this floor goes out. It takes no memory.
@@ -54,8 +63,8 @@ fn send(event: &Event, floor: u64, out: &mut Outbox)
     }
 }
 
-/// The requests whose numbers are above `sent` go out, in their order, each telling this floor. It takes no memory.
-pub fn send_above(requests: &[Event], sent: u64, floor: u64, out: &mut Outbox)
+// The requests whose numbers are above `sent` go out, in their order, each telling this floor. It takes no memory.
+fn send_above(requests: &[Event], sent: u64, floor: u64, out: &mut Outbox)
     requires room { length requests.now ≤ out.old.spare }
     requires taken { IsTrue (list_all (λ (e : Happening). is_valid_event (telling floor e)) requests.now) }
     ensures { out.new.list ≡ out.old.list ++ requests_of floor (filter (λ (e : Happening). nat_lt sent (number_of e)) requests.now) }
@@ -65,4 +74,14 @@ pub fn send_above(requests: &[Event], sent: u64, floor: u64, out: &mut Outbox)
             send(event, floor, out);
         }
     }
+}
+
+/// The outstanding ones of the requests that are left go out, but for those up to the number `sent`. It takes no memory.
+pub fn send_outstanding(left: &[Event], window: usize, sent: u64, out: &mut Outbox)
+    requires rising { IsTrue (rise_above 0 left.now) }
+    requires room { window ≤ out.old.spare }
+    ensures { out.new.list ≡ out.old.list ++ requests_of (floor_for left.now) (filter (λ (e : Happening). nat_lt sent (number_of e)) (outstanding window left.now)) }
+{
+    let floor = first_of(left).saturating_sub(1);
+    send_above(outstanding(left, window), sent, floor, out);
 }

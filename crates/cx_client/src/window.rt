@@ -1,10 +1,9 @@
 //! Which requests are outstanding.
 
-ghost use Rattle.std.specs.Prelude.{◌≡◌, ◌≤◌, ◌<◌, ◌+◌, ◌++◌, ◌∷◌, nat_lt, not, get_or, take, drop, length, filter, IsTrue};
+ghost use Rattle.std.specs.Prelude.{◌≡◌, not, IsTrue};
 ghost use Rattle.std.specs.List.{position};
 ghost use Rattle.cx_base.specs.declared.event.Event.{Event as Happening};
-ghost use Rattle.cx_client.specs.Window.{first_of, has_number, is_near, is_outstanding, outstanding};
-ghost use Rattle.cx_model.specs.Member.{Member};
+ghost use Rattle.cx_client.specs.Window.{first_of, has_number, is_near, outstanding};
 ghost use Rattle.cx_script.specs.Requests.{number_of, rise_above};
 
 use cx_base::Event;
@@ -40,18 +39,11 @@ fn is_near(first: u64, event: &Event) -> bool
     number_of(event).saturating_sub(first) <= REACH
 }
 
-// How many requests there are before the first that is not near enough.
-fn count_near(first: u64, requests: &[Event]) -> usize
-    requires rising { IsTrue (rise_above 0 requests.now) }
-    ensures near { take result requests.now ≡ filter (is_near first) requests.now }
-    ensures within { result ≤ length requests.now }
+// The place of the first request that isn't, if there is one.
+fn first_far(first: u64, requests: &[Event]) -> Option<usize>
+    ensures { result ≡ position (λ (e : Happening). not (is_near first e)) requests.now }
 {
-    for (place, event) in requests.iter().enumerate() {
-        if !is_near(first, event) {
-            return place;
-        }
-    }
-    requests.len()
+    requests.iter().position(|event| !is_near(first, event))
 }
 
 /// The outstanding ones of the requests that are left.
@@ -59,8 +51,11 @@ pub fn outstanding(left: &[Event], window: usize) -> &[Event]
     requires rising { IsTrue (rise_above 0 left.now) }
     ensures { result.now ≡ outstanding window left.now }
 {
-    let first = &left[..window.min(left.len())];
-    &first[..count_near(first_of(left), first)]
+    let within = &left[..window.min(left.len())];
+    match first_far(first_of(left), within) {
+        Some(place) => &within[..place],
+        None => within,
+    }
 }
 
 /// The place of the request with this number, if there is one.
