@@ -178,6 +178,6 @@ fn another_implementation(rt: HostRuntime) -> Result<(), Fail> {
         assert!(rt; changes_are_refused(alloc, &bytes)?, "entry {count}");
         count = count.saturating_add(1);
     }
-    assert_eq!(rt; count, 274);
+    assert_eq!(rt; count, 286);
     Ok(())
 }
