@@ -1,5 +1,5 @@
 -- What an event tells of a request is what its bytes and its floor tell.
-use Rattle.std.proofs.Common.{◌≡◌, ◌==◌, ◌&&◌, ◌++◌, ◌∷◌, [], ℕ, Bool, true, false, List, None, length, if◌then◌else◌, not, ap, refl, sym}
+use Rattle.std.proofs.Common.{◌≡◌, ◌==◌, ◌&&◌, ◌++◌, ◌∷◌, [], ℕ, true, false, List, None, length, if◌then◌else◌, not, ap, refl, sym}
 use Rattle.std.proofs.Math.Dec.{eqb-zero-suc, eqb-suc-zero, eqb-suc-suc}
 use Rattle.std.specs.Str.{bytes_eq}
 use Rattle.cx_base.specs.declared.command.Command.{Command}

@@ -8,7 +8,7 @@ use Rattle.cx_base.specs.declared.event.Event.{Event}
 use Rattle.cx_base.specs.declared.event.Happened.{Happened}
 use Rattle.cx_field.specs.declared.parts.Token.{Token}
 use Rattle.cx_model.specs.Request.{floor_in, same_read}
-use Rattle.cx_history.specs.Requests.{asked, asks_another, has_token, sent_token, tells_floor}
+use Rattle.cx_history.specs.Requests.{asked, asks_another, has_token, tells_floor}
 use Rattle.cx_history.specs.declared.requests.Asked.{Asked}
 use Rattle.cx_history.specs.declared.requests.Asked.TheVariants.{One, Several}
 use Rattle.cx_history.specs.declared.requests.Number.{Number}

@@ -131,7 +131,7 @@ fn small(number: usize) -> Result<u32, NoMemory>
     u32::try_from(number).map_err(|_| NoMemory)
 }
 
-// What is asked with a number, once this is asked with it too.
+// What was asked with a number, once this is asked with it too.
 fn ask(pieces: &mut Pieces, earlier: Option<Asked>, asks: &[u8]) -> Result<Asked, NoMemory>
     requires { IsPlace pieces.old earlier }
     ensures grows { OnOk result ((more : List (List ℕ)) × (pieces.new ≡ pieces.old ++ more)) }
@@ -154,7 +154,7 @@ fn ask(pieces: &mut Pieces, earlier: Option<Asked>, asks: &[u8]) -> Result<Asked
     }
 }
 
-// A value in the place of the earlier one of its key, or at the end.
+// Notes what is asked with a number. Room was taken beforehand.
 fn put_asked(map: &mut IndexMap<Number, Asked>, token: Token, asked: Asked)
     requires { 0 < spare map.old }
     ensures { (t : Named) → asked_with t map.new.entries ≡ (if same_read token t then Some asked else asked_with t map.old.entries) }
@@ -166,7 +166,7 @@ fn put_asked(map: &mut IndexMap<Number, Asked>, token: Token, asked: Asked)
     }
 }
 
-// Notes the floor that a client tells.
+// Notes a floor that a client tells. Room was taken beforehand.
 fn raise(floors: &mut IndexMap<u16, u64>, client: u16, floor: u64)
     requires { 0 < spare floors.old }
     ensures { (c : ℕ) → floor_told c floors.new.entries ≡ (if client == c then Some (raised (floor_told client floors.old.entries) floor) else floor_told c floors.old.entries) }
