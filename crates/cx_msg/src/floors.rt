@@ -10,6 +10,13 @@ use crate::message::Msg;
 use cx_base::{Command, Value};
 use cx_field::Vote;
 
+// Whether a command tells its floor: it isn't the number just below the command's.
+fn tells_floor(command: &Command) -> bool
+    ensures { result ≡ tells_floor command.now }
+{
+    command.seq == 0 || command.floor != command.seq - 1
+}
+
 // Whether one of the commands tells its floor.
 fn commands_tell(commands: &[Command]) -> bool
     ensures { result ≡ list_any tells_floor commands.now }
@@ -34,14 +41,8 @@ fn votes_tell(votes: &[Vote]) -> bool
     votes.iter().any(|vote| value_tells(&vote.value))
 }
 
-// Whether a command tells its floor: it isn't the number just below the client's.
-fn tells_floor(command: &Command) -> bool
-    ensures { result ≡ tells_floor command.now }
-{
-    command.seq == 0 || command.floor != command.seq - 1
-}
-
-/// Whether a message has a command that tells its floor, as one whose floor isn't the number just below its own. It takes no memory.
+/// Whether a message has a command that tells its floor, as each does whose floor isn't the number just below its own. It takes
+/// no memory.
 pub fn tells_floors(msg: &Msg) -> bool
     ensures { result ≡ tells_floors msg.now }
 {

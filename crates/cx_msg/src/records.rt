@@ -108,7 +108,7 @@ fn read(alloc: Global, bytes: &[u8]) -> Result<Record, WireFault>
 
 /// The record that the bytes spell, all of the bytes; or the first test that they fail, in this order: no byte (`Short`), the
 /// tag, 1 to 7 (`Kind`), the fields in their order (`Field` at the first byte of the first bad one), and bytes after the
-/// last field (`Trailing`). The format is this project's own.
+/// last field (`Trailing`). The format is this project's own; it has no version, and commands may tell their floors.
 pub fn record_from(alloc: Global, bytes: &[u8]) -> Result<Record, WireFault>
     // What is read is spelled so, and has a spelling.
     ensures found { IfOk result (λ r. (bytes.now ≡ records.spelling r) × IsTrue (records.fits r)) }
