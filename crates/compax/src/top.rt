@@ -38,11 +38,21 @@ fn answer<S: Source, W: Sink, L: Link, D: Depot>(
             u64::from(count),
             out,
         ),
-        Ok(Some(Invocation::Node { turns, tend, roles })) => serve(
+        Ok(
+            Some(
+                Invocation::Node {
+                    turns,
+                    tend,
+                    window,
+                    roles,
+                },
+            ),
+        ) => serve(
             alloc,
             roles.as_slice(),
             turns,
             tend,
+            window,
             input,
             link,
             depot,
@@ -55,8 +65,8 @@ fn answer<S: Source, W: Sink, L: Link, D: Depot>(
 
 /// Does what the words say, the first of which is the program's name: `replay` reads a schedule from the source, and writes the
 /// trace and the summary of its run to `out`; `gen SEED COUNT` runs COUNT events that are made from a seed, and writes a
-/// short summary; `node --turns N --tend N ROLE..` hosts these roles over the link and the depot, with the requests of the source, and
-/// writes the answers. The line of the status goes to `err`, whose failing never changes the status.
+/// short summary; `node --turns N --tend N --window W ROLE..` hosts these roles over the link and the depot, with the requests
+/// of the source, and writes the answers. The line of the status goes to `err`, whose failing never changes the status.
 ///
 /// `BadWords` comes exactly where the words say none of these, and then nothing is read or written, and where a role of a node
 /// isn't in the cluster of its header. Every other status is the command's own, and out of memory. The run of a schedule is
