@@ -30,24 +30,20 @@ fn answer<S: Source, W: Sink, L: Link, D: Depot>(
         (outside (S.left input.new) (S.faults input.new) (L.told link.new) (L.faults link.new) (W.taken out.new) (W.faults out.new) (D.tells depot.new) (D.held depot.new) (D.faults depot.new)) result }
     ensures given_back { D.out depot.new ≡ [] }
 {
-    match said(alloc, words) {
-        Ok(Some(Invocation::Replay)) => replay(alloc, input, out),
-        Ok(Some(Invocation::Generate { seed, count })) => run_gen(
-            alloc,
-            seed,
-            u64::from(count),
-            out,
-        ),
-        Ok(
-            Some(
-                Invocation::Node {
-                    turns,
-                    tend,
-                    window,
-                    roles,
-                },
-            ),
-        ) => serve(
+    let invocation = match said(alloc, words) {
+        Ok(Some(invocation)) => invocation,
+        Ok(None) => return Status::BadWords,
+        Err(AllocError) => return Status::NoMemory,
+    };
+    match invocation {
+        Invocation::Replay => replay(alloc, input, out),
+        Invocation::Generate { seed, count } => run_gen(alloc, seed, u64::from(count), out),
+        Invocation::Node {
+            turns,
+            tend,
+            window,
+            roles,
+        } => serve(
             alloc,
             roles.as_slice(),
             turns,
@@ -58,8 +54,6 @@ fn answer<S: Source, W: Sink, L: Link, D: Depot>(
             depot,
             out,
         ),
-        Ok(None) => Status::BadWords,
-        Err(AllocError) => Status::NoMemory,
     }
 }
 
