@@ -1,1 +1,4 @@
-mod Entries
+pub mod Held
+pub mod Notes
+pub mod Rising
+pub mod Telling

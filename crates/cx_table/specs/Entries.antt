@@ -1,13 +1,71 @@
--- The entries of a map from clients to their answers, as the list of the answers.
-use Rattle.std.specs.Prelude.{◌≡◌, ℕ, List, [], ◌∷◌}
+-- What is held of each client, and how it is the table that contracts see.
+use Rattle.std.specs.Prelude.{◌≡◌, ℕ, ◌-◌, ◌≤◌, ◌==◌, ◌&&◌, Bool, true, false, max, nat_eq, nat_lt, filter, slice_get, List, [], ◌∷◌, Option, None, Some, vec_capacity, vec_len}
+use Rattle.std.specs.List.{list_all}
+use Rattle.std.specs.Map.{lookup}
 use Rattle.cx_base.specs.declared.command.Answered.{Answered}
+use Rattle.cx_base.specs.Noted.{Table, are_rising, comes_before, floor_of}
+use Rattle.cx_table.specs.State.{Room}
+use Rattle.cx_table.specs.declared.entry.Entry.{Entry}
 
--- the answers, in the order in which the clients came
-abbrev pub answers_in : List (ℕ × Answered) → List Answered
-answers_in [] = []
-answers_in (e ∷ es) = e.1 ∷ answers_in es
+-- the answers of a client
+abbrev pub of_client : ℕ → List Answered → List Answered
+of_client client notes = filter (λ (a : Answered). a.client == client) notes
 
--- each answer is under its client
-abbrev pub AreByClient : List (ℕ × Answered) → Type 0
-AreByClient [] = Unit {0}
-AreByClient (e ∷ es) = (e.1.client ≡ e.0) × AreByClient es
+-- whether all answers are a client's
+abbrev pub are_of : ℕ → List Answered → Bool
+are_of client notes = list_all (λ (a : Answered). a.client == client) notes
+
+-- whether each answer comes before all that stand after it
+abbrev pub rise : List Answered → Bool
+rise [] = true
+rise (a ∷ notes) = list_all (comes_before a) notes && rise notes
+
+-- whether a client told a floor, and its number is above that
+abbrev pub is_above : ℕ → Option ℕ → Bool
+is_above seq None = false
+is_above seq (Some floor) = nat_lt floor seq
+
+-- whether each answer lies above its client's floor
+abbrev pub are_above : Table → Bool
+are_above t = list_all (λ (a : Answered). is_above a.seq (floor_of a.client t.floors)) t.notes
+
+-- the greater one of a client's floor and another
+abbrev pub raised : Option ℕ → ℕ → ℕ
+raised None told = told
+raised (Some floor) told = max floor told
+
+-- the floor, the answers and the room that an entry has
+abbrev pub floor_in : Option Entry → Option ℕ
+floor_in None = None
+floor_in (Some e) = e.floor
+
+abbrev pub notes_in : Option Entry → List Answered
+notes_in None = []
+notes_in (Some e) = e.notes.items
+
+abbrev pub room_in : Option Entry → ℕ
+room_in None = 0
+room_in (Some e) = vec_capacity e.notes - vec_len e.notes
+
+abbrev pub rooms_in : List (ℕ × Entry) → List Room
+rooms_in [] = []
+rooms_in (e ∷ es) = record { client = e.0; count = room_in (Some e.1) } ∷ rooms_in es
+
+-- at this place is a client's entry
+pub record IsEntryAt (client : ℕ) (entries : List (ℕ × Entry)) (place : ℕ) : Type 0 where
+  pub entry : Entry
+  pub there : slice_get entries place ≡ Some (client, entry)
+  pub found : lookup (nat_eq client) entries ≡ Some entry
+
+-- and it has room for so many more answers
+pub record IsRoomAt (client count : ℕ) (entries : List (ℕ × Entry)) (place : ℕ) : Type 0 where
+  pub at : IsEntryAt client entries place
+  pub room : count ≤ room_in (Some at.entry)
+
+-- each client's entry holds what the table has of the client; the table rises, and its answers lie above their clients' floors
+pub record IsHeld (t : Table) (entries : List (ℕ × Entry)) : Type 0 where
+  pub floors_rise : are_rising 0 t.floors ≡ true
+  pub notes_rise : rise t.notes ≡ true
+  pub above : are_above t ≡ true
+  pub floors : (client : ℕ) → floor_in (lookup (nat_eq client) entries) ≡ floor_of client t.floors
+  pub notes : (client : ℕ) → notes_in (lookup (nat_eq client) entries) ≡ of_client client t.notes

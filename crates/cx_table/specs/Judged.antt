@@ -1,15 +1,23 @@
 -- What the client table says of a client's number.
-use Rattle.std.specs.Prelude.{ℕ, ◌==◌, nat_lt, if◌then◌else◌, List, Option, None, Some}
-use Rattle.cx_base.specs.Noted.{noted_for}
+use Rattle.std.specs.Prelude.{ℕ, Bool, true, false, if◌then◌else◌, List, Option, None, Some}
 use Rattle.cx_base.specs.declared.command.Answered.{Answered}
+use Rattle.cx_base.specs.Noted.{Table, floor_of, is_done, noted_for}
 use Rattle.cx_table.specs.declared.judge.Judge.{Judge}
 use Rattle.cx_table.specs.declared.judge.Judge.TheVariants.{New, Last, Past}
 
--- a number above the noted one is new, an equal one has its answer, and a lower one is past
-abbrev pub judged : Option Answered → ℕ → Judge
-judged None seq = New
-judged (Some a) seq = if nat_lt a.seq seq then New else if a.seq == seq then Last a.at a.reply else Past
+-- a number that has an answer has that one again, one that has none is new
+abbrev pub judge_noted : Option Answered → Judge
+judge_noted None = New
+judge_noted (Some a) = Last a.at a.reply
 
--- what a table says of a client's number
-abbrev pub judge_of : List Answered → ℕ → ℕ → Judge
-judge_of notes client seq = judged (noted_for client notes) seq
+-- a number with which a client with this floor is done is past
+abbrev pub judge_in : Option ℕ → List Answered → ℕ → ℕ → Judge
+judge_in floor notes client seq = if is_done seq floor then Past else judge_noted (noted_for client seq notes)
+
+abbrev pub judge_of : Table → ℕ → ℕ → Judge
+judge_of t client seq = judge_in (floor_of client t.floors) t.notes client seq
+
+abbrev pub is_new : Judge → Bool
+is_new New = true
+is_new (Last at reply) = false
+is_new Past = false

@@ -5,10 +5,10 @@ use cx_base::Reply;
 /// What the table says of a client's number.
 #[derive(Clone, Copy, Debug, PartialEq, Eq)]
 pub enum Judge {
-    /// It is above the client's last number, or the client's first.
+    /// The client isn't done with it, and it has no answer.
     New,
-    /// It is the client's last number; this is its answer, and one more than its slot.
+    /// It has an answer: one more than the slot of its command, and the reply.
     Last { at: u64, reply: Reply },
-    /// It is below the client's last number.
+    /// The client is done with it.
     Past,
 }

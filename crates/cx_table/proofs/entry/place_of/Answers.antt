@@ -1,0 +1,8 @@
+use Rattle.std.proofs.Common.{rules}
+use Rattle.std.specs.Prelude.{nat_lt}
+use Rattle.std.proofs.lemmas.List.Sorted.{IsPartitionPoint-from_clause}
+use Rattle.cx_table.proofs.Notes.{parted}
+use Rattle.cx_table.proofs.entry.place_of.Goals as goal
+
+pub returns-clause-place : goal.returns-clause-place
+returns-clause-place c = IsPartitionPoint-from_clause (λ a. nat_lt a.seq c.args.seq) c.args.notes.now c.partition_point.result c.partition_point.ensures.partitioned (parted c.args.client c.args.seq c.args.notes.now c.requires.own c.requires.rise) (λ a r f k. search rules)
