@@ -96,12 +96,22 @@ def watermark_of(body: Body) -> str:
     return f"watermark {body.number(8, 'watermark', 0, MOST_SLOTS)}"
 
 
+def floor_of(body: Body, number: int) -> int:
+    """A floor that is told: it is below the command's number, at most 64 below it, and not the number just below it."""
+    at = body.place()
+    floor = body.number(8, "floor", 0, GREATEST)
+    if not 2 <= number - floor <= 64:
+        raise Break(at, f"floor {floor} is out of range")
+    return floor
+
+
 def command_of(body: Body) -> str:
     client = body.number(2, "client", 0, 0xFFFF)
     number = body.number(8, "command's number", 1, GREATEST)
-    operation = ("put", "del", "app")[body.number(1, "operation", 1, 3) - 1]
-    words = [f"client:{client} {number} {operation} {text_of(body, 'key', 32)}"]
-    if operation != "del":
+    tells, operation = divmod(body.number(1, "operation", 1, 6) - 1, 3)
+    told = f"{number}/{floor_of(body, number)}" if tells else str(number)
+    words = [f"client:{client} {told} {('put', 'del', 'app')[operation]} {text_of(body, 'key', 32)}"]
+    if operation != 1:
         words.append(text_of(body, "text", 64))
     return " ".join(words)
 

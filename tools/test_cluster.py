@@ -135,6 +135,48 @@ class KillsTest(ClusterTrial):
         self.assertEqual((status, text.count("started 3 times, ended last with signal 9")), (0, 4), text)
 
 
+class WindowsTest(ClusterTrial):
+    """A client with 16 lines outstanding and one with a single line are answered the same commands, and leave the same map."""
+
+    LINES = range(1, 81)
+    KILLED = {20: 1, 40: 0}             # after so many answers, which process: an acceptor's, then the leader's
+
+    def told(self, window: int) -> list[str]:
+        """The answers to the lines, without their slots, while processes are killed."""
+        lines = "".join(f"write client:0 {at} batcher:{at % 2} {'put' if at % 3 else 'app'} k{at} v{at}\n" for at in self.LINES)
+        words = [program(), "node", "--turns", "1000000000", "--tend", "256", "--window", str(window), "client:0"]
+        told: list[str] = []
+        with subprocess.Popen(words, stdin=subprocess.PIPE, stdout=subprocess.PIPE, text=True) as node:
+            assert node.stdin and node.stdout
+            late = threading.Timer(3 * LONGEST, node.kill)
+            late.start()
+            node.stdin.write(f"{self.header.input}{lines}")
+            node.stdin.close()
+            for line in node.stdout:
+                told.append(re.sub(r" at \d+", "", line))
+                if len(told) in self.KILLED:
+                    process = self.running(self.KILLED[len(told)])
+                    self.assertTrue(process and process.send(signal.SIGKILL))
+            late.cancel()
+        self.assertEqual(node.returncode, 0)
+        return sorted(told)
+
+    def left(self, window: int) -> tuple[list[str], list[str]]:
+        """What a cluster answers a client with this window, and the texts of all keys then."""
+        self.up(4)
+        told = self.told(window)
+        texts = [self.kv("get", f"k{at}") for at in self.LINES]
+        self.passes("cluster", "down", self.file)
+        shutil.rmtree(self.folder)
+        return told, texts
+
+    def test_windows_of_sixteen_and_of_one(self) -> None:
+        told, texts = self.left(16)
+        self.assertEqual(len(told), len(self.LINES))
+        self.assertEqual(texts, [f"is v{at}" for at in self.LINES])
+        self.assertEqual(self.left(1), (told, texts))
+
+
 class StartsTest(ClusterTrial):
     HEADER = SMALL
 

@@ -74,6 +74,11 @@ class JournalTest(unittest.TestCase):
         self.assertEqual(self.read(data)[1], ["0 Log slots 0 to 1: noop | client:5 7 put a 12", "26 Log slot 2: noop",
                                               "34 Log slots 3 to 4: noop | noop", "43 closed"])
 
+    def test_floors(self) -> None:
+        told = [PUT[:10] + b"\4" + number(5) + PUT[11:], PUT[:10] + b"\5" + number(0) + PUT[11:13], PUT[:10] + b"\6" + number(2) + PUT[11:]]
+        self.assertEqual(self.read(journal(b"\7\1\1\3" + b"".join(told)))[1],
+                         ["0 Log slot 0: client:5 7/5 put a 12, client:5 7/0 del a, client:5 7/2 app a 12", "78 closed"])
+
     def test_what_a_node_left(self) -> None:
         folder = RUNS / "node-put/left"
         lines = {file.name: run("journal", file)[1].splitlines() for file in folder.iterdir()}
@@ -134,8 +139,10 @@ class JournalTest(unittest.TestCase):
         for payload, at in [(b"\1" + bytes(10), 6), (b"\2" + ROUND + slot, 16), (b"\3" + ROUND + slot[:-1] + b"\1", 16),
                             (b"\4" + ROUND + b"\0", 16), (b"\4" + ROUND + b"\5\4", 17), (b"\7\0", 6), (b"\7\x21", 6),
                             (b"\7\1\2", 7), (b"\7\1\1\x09", 8), (b"\7\1\1\1" + PUT[:2] + bytes(8), 11),
-                            (b"\7\1\1\1" + PUT[:10] + b"\4", 19), (b"\7\1\1\1" + PUT[:11] + b"\x21", 20),
-                            (b"\7\1\1\1" + PUT[:11] + b"\1 ", 21)]:
+                            (b"\7\1\1\1" + PUT[:10] + b"\7", 19), (b"\7\1\1\1" + PUT[:11] + b"\x21", 20),
+                            (b"\7\1\1\1" + PUT[:11] + b"\1 ", 21), (b"\7\1\1\1" + PUT[:10] + b"\4" + number(7), 20),
+                            (b"\7\1\1\1" + PUT[:10] + b"\5" + number(6), 20), (b"\7\1\1\1" + DELETE[:10] + b"\6" + number(7), 20),
+                            (b"\7\1\1\1" + PUT[:10] + b"\4" + number(5) + b"\x21", 28)]:
             with self.subTest(payload=payload.hex()):
                 self.breaks(journal(payload + bytes(40)), at, [])
 

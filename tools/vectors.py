@@ -83,6 +83,11 @@ def commands(count):
     return tuple(command() for _ in range(count))
 
 
+def told(op, number, below):
+    """A command that tells its floor, which is so much below its number."""
+    return base.Command(index(), number, number - below, (op, key()) if op == "del" else (op, key(), text()))
+
+
 def value():
     return pick.choice([NOOP, NOOP, commands(1), commands(2)])
 
@@ -220,6 +225,18 @@ def shorter(data, k):
     return data[:10] + (k - 12).to_bytes(2, "big") + data[12:k]
 
 
+def datagram_entry(message, sender):
+    d = Datagram(RoleId(sender, index()), RoleId(message.tos[0], index()), message)
+    data = wire.encode(d)
+    assert wire.decode(data) == d
+    for k in range(len(data)):
+        said = f"Short{{need: 12, have: {k}}}" if k < 12 else f"Length{{said: {len(data) - 12}, have: {k - 12}}}"
+        assert fault_of(wire.decode, data[:k]) == said
+    assert fault_of(wire.decode, data + b"\0") == f"Trailing{{at: {len(data)}}}"
+    assert fault_of(wire.decode, bytes([data[0] ^ 1]) + data[1:]) == "Magic"
+    return hexadecimal(data, beginnings(wire.decode, data, 12, shorter))
+
+
 def datagrams():
     for kind, (must, more) in sorted(MESSAGES.items()):
         messages = list(must)
@@ -227,16 +244,16 @@ def datagrams():
             messages.append(more())
         for i, message in enumerate(messages):
             assert message.kind == kind
-            sender = message.froms[i % len(message.froms)]
-            d = Datagram(RoleId(sender, index()), RoleId(message.tos[0], index()), message)
-            data = wire.encode(d)
-            assert wire.decode(data) == d
-            for k in range(len(data)):
-                said = f"Short{{need: 12, have: {k}}}" if k < 12 else f"Length{{said: {len(data) - 12}, have: {k - 12}}}"
-                assert fault_of(wire.decode, data[:k]) == said
-            assert fault_of(wire.decode, data + b"\0") == f"Trailing{{at: {len(data)}}}"
-            assert fault_of(wire.decode, bytes([data[0] ^ 1]) + data[1:]) == "Magic"
-            yield hexadecimal(data, beginnings(wire.decode, data, 12, shorter))
+            yield datagram_entry(message, message.froms[i % len(message.froms)])
+
+
+def record_entry(rec):
+    data = wire.record_bytes(rec)
+    assert wire.record_from(data) == rec
+    assert fault_of(wire.record_from, b"") == "Short{need: 1, have: 0}"
+    assert fault_of(wire.record_from, data + b"\0") == f"Trailing{{at: {len(data)}}}"
+    assert fault_of(wire.record_from, bytes([data[0] ^ 128]) + data[1:]) == f"Kind({data[0] ^ 128})"
+    return hexadecimal(data, beginnings(wire.record_from, data, 1, lambda data, k: data[:k]))
 
 
 def records():
@@ -246,22 +263,33 @@ def records():
             kept.append(more())
         for rec in kept:
             assert rec.tag == tag
-            data = wire.record_bytes(rec)
-            assert wire.record_from(data) == rec
-            assert fault_of(wire.record_from, b"") == "Short{need: 1, have: 0}"
-            assert fault_of(wire.record_from, data + b"\0") == f"Trailing{{at: {len(data)}}}"
-            assert fault_of(wire.record_from, bytes([data[0] ^ 128]) + data[1:]) == f"Kind({data[0] ^ 128})"
-            yield hexadecimal(data, beginnings(wire.record_from, data, 1, lambda data, k: data[:k]))
+            yield record_entry(rec)
+
+
+def floors():
+    """Datagrams of the second version, and records, whose commands tell floors: one of each kind that has commands, and more."""
+    least, far, most = told("put", 2, 2), told("del", 70, 64), told("app", U64, 2)
+    early = (Told(some_round(), 3, (far,)), Told(some_round(), 34, NOOP))
+    late = (Told(some_round(), 4, commands(1)), Told(some_round(), 5, (command(), least)))
+    for message in [
+        M.Submit(least), M.Submit(far), M.Submit(most), M.Batch((least, command())), M.Batch((command(), most, far)),
+        M.Phase1B(some_round(), 3, early), M.Phase1B(some_round(), 3, late), M.Propose(some_round(), grid(), 9, 3, (most,)),
+        M.Phase2A(some_round(), 9, 9, (command(), far)), M.Chosen(SLOTS - 1, (least, most)),
+    ]:
+        yield datagram_entry(message, message.froms[0])
+    for rec in [R.Vote(some_round(), 5, 1, (most, command())), R.Log(((least,), NOOP, (command(), far)))]:
+        yield record_entry(rec)
 
 
 print("""\
 //! Bytes of datagrams and records, as another implementation of the format writes them: tools/vectors.py prints this file.
 
-/// Datagrams of all 29 kinds, eight of each, and then records of all seven tags, six of each, in hexadecimal. A semicolon ends
-/// an entry. A mark `_` stands where a basic field of the body begins, as the other implementation says where it meets a cut.
+/// Datagrams of all 29 kinds, eight of each, then records of all seven tags, six of each, and then ten datagrams and two records
+/// whose commands tell floors, in hexadecimal. A semicolon ends an entry. A mark `_` stands where a basic field of the body begins,
+/// as the other implementation says where it meets a cut.
 pub const ENTRIES: &str = "\
 """)
-for entry in [*datagrams(), *records()]:
+for entry in [*datagrams(), *records(), *floors()]:
     entry += ";"
     for i in range(0, len(entry), WIDTH):
         print(entry[i:i + WIDTH])

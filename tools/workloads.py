@@ -34,6 +34,8 @@ Journals of a cluster of one of each role in which the first SIZE slots are chos
     long-votes  of an acceptor whose votes are for eight commands of the greatest size each
     long-window the same, where it was told of no slot that is chosen, so that it holds all its votes
     longest     of a replica whose log has them in records of 32 values, with eight commands of the greatest size each
+    told-window, told-longest
+                the last two, where each command tells a floor as far below its number as may be
 """
 import itertools
 import struct
@@ -307,6 +309,12 @@ def command(number, key, text):
     return struct.pack(">HQB", 0, number, 1) + spelled(key) + spelled(text)
 
 
+def told_command(number, key, text):
+    """The same with a floor as far below the number as may be; that of number 1 isn't told."""
+    floor = max(0, number - 64)
+    return struct.pack(">HQBQ", 0, number, 4, floor) + spelled(key) + spelled(text) if floor + 1 < number else command(number, key, text)
+
+
 def value(*commands):
     return bytes([1, len(commands)]) + b"".join(commands)
 
@@ -315,9 +323,13 @@ def value_at(slot):
     return value(command(slot + 1, f"k{slot % 8}", f"v{slot % 10}"))
 
 
-def long_value_at(slot):
+def long_value_at(slot, spell=command):
     """Eight commands, each with a key of 32 bytes and a text of 64."""
-    return value(*(command(8 * slot + at + 1, f"key-{at}".ljust(32, "-"), f"{slot}".rjust(64, "0")) for at in range(8)))
+    return value(*(spell(8 * slot + at + 1, f"key-{at}".ljust(32, "-"), f"{slot}".rjust(64, "0")) for at in range(8)))
+
+
+def told_value_at(slot):
+    return long_value_at(slot, told_command)
 
 
 def journal(records):
@@ -331,10 +343,10 @@ def votes(size, voted=value_at, told=16):
         yield b"\2" + ROUND + struct.pack(">QQ", slot, slot - slot % told) + voted(slot)
 
 
-def long_records(size):
+def long_records(size, stored=long_value_at):
     for first in range(0, size, 32):
         slots = range(first, min(first + 32, size))
-        yield bytes([7, len(slots)]) + b"".join(map(long_value_at, slots))
+        yield bytes([7, len(slots)]) + b"".join(map(stored, slots))
 
 
 JOURNALS = {
@@ -346,6 +358,8 @@ JOURNALS = {
     "long-votes": lambda size: votes(size, long_value_at),
     "long-window": lambda size: votes(size, long_value_at, told=size),
     "longest": long_records,
+    "told-window": lambda size: votes(size, told_value_at, told=size),
+    "told-longest": lambda size: long_records(size, told_value_at),
 }
 
 

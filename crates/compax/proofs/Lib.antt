@@ -6,3 +6,4 @@ pub mod Once
 pub mod Promised
 pub mod Saying
 pub mod Spoken
+pub mod Windows

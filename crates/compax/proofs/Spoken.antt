@@ -34,11 +34,11 @@ pub help_said : (program : List ℕ) → said (program ∷ codes "--help" ∷ []
 unfolding said clap_on_literals
 help_said program = refl
 
-pub node_said : (program : List ℕ) → said (program ∷ codes "node" ∷ codes "client:0" ∷ []) ≡ Some (Node 1000000 None (role Client 0 ∷ []))
+pub node_said : (program : List ℕ) → said (program ∷ codes "node" ∷ codes "client:0" ∷ []) ≡ Some (Node 1000000 None 1 (role Client 0 ∷ []))
 unfolding said clap_on_literals
 node_said program = refl
 
-pub turns_said : (program : List ℕ) → said (program ∷ codes "node" ∷ codes "--turns" ∷ codes "75" ∷ codes "client:0" ∷ codes "batcher:0" ∷ []) ≡ Some (Node 75 None (role Client 0 ∷ role Batcher 0 ∷ []))
+pub turns_said : (program : List ℕ) → said (program ∷ codes "node" ∷ codes "--turns" ∷ codes "75" ∷ codes "client:0" ∷ codes "batcher:0" ∷ []) ≡ Some (Node 75 None 1 (role Client 0 ∷ role Batcher 0 ∷ []))
 unfolding said clap_on_literals
 turns_said program = refl
 
@@ -46,11 +46,11 @@ pub no_turn_said : (program : List ℕ) → said (program ∷ codes "node" ∷ c
 unfolding said clap_on_literals
 no_turn_said program = refl
 
-pub tend_said : (program : List ℕ) → said (program ∷ codes "node" ∷ codes "--tend" ∷ codes "64" ∷ codes "client:0" ∷ []) ≡ Some (Node 1000000 (Some 64) (role Client 0 ∷ []))
+pub tend_said : (program : List ℕ) → said (program ∷ codes "node" ∷ codes "--tend" ∷ codes "64" ∷ codes "client:0" ∷ []) ≡ Some (Node 1000000 (Some 64) 1 (role Client 0 ∷ []))
 unfolding said clap_on_literals
 tend_said program = refl
 
-pub most_tend_said : (program : List ℕ) → said (program ∷ codes "node" ∷ codes "--tend" ∷ codes "65536" ∷ codes "--turns" ∷ codes "75" ∷ codes "client:0" ∷ []) ≡ Some (Node 75 (Some 65536) (role Client 0 ∷ []))
+pub most_tend_said : (program : List ℕ) → said (program ∷ codes "node" ∷ codes "--tend" ∷ codes "65536" ∷ codes "--turns" ∷ codes "75" ∷ codes "client:0" ∷ []) ≡ Some (Node 75 (Some 65536) 1 (role Client 0 ∷ []))
 unfolding said clap_on_literals
 most_tend_said program = refl
 
@@ -61,6 +61,19 @@ tend_below program = refl
 pub tend_above : (program : List ℕ) → said (program ∷ codes "node" ∷ codes "--tend" ∷ codes "65537" ∷ codes "client:0" ∷ []) ≡ None
 unfolding said clap_on_literals
 tend_above program = refl
+
+pub window_said : (program : List ℕ) → said (program ∷ codes "node" ∷ codes "--window" ∷ codes "64" ∷ codes "client:0" ∷ []) ≡ Some (Node 1000000 None 64 (role Client 0 ∷ []))
+unfolding said clap_on_literals
+window_said program = refl
+
+pub no_window_said : (program : List ℕ) → said (program ∷ codes "node" ∷ codes "--window" ∷ codes "0" ∷ codes "client:0" ∷ []) ≡ None
+unfolding said clap_on_literals
+no_window_said program = refl
+
+-- also where no client is hosted
+pub window_above : (program : List ℕ) → said (program ∷ codes "node" ∷ codes "--window" ∷ codes "65" ∷ codes "leader:0" ∷ []) ≡ None
+unfolding said clap_on_literals
+window_above program = refl
 
 pub tend_twice : (program : List ℕ) → said (program ∷ codes "node" ∷ codes "--tend" ∷ codes "64" ∷ codes "--tend" ∷ codes "64" ∷ codes "client:0" ∷ []) ≡ None
 unfolding said clap_on_literals

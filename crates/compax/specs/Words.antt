@@ -1,5 +1,5 @@
 -- What the words of a command line say, by clap's definitions for this command.
-use Rattle.std.specs.Prelude.{◌≡◌, ℕ, List, [], ◌∷◌, codes, pos, Bool, true, false, Option, Some, None, option_map, option_and_then, if◌then◌else◌}
+use Rattle.std.specs.Prelude.{◌≡◌, ℕ, List, [], ◌∷◌, codes, pos, Bool, true, false, ◌&&◌, nat_le, Option, Some, None, option_map, option_and_then, if◌then◌else◌}
 use Rattle.std.specs.Str.{bytes_eq}
 use Rattle.std.specs.Str.Parse.{digits_value, without_leading_plus}
 use Rattle.clap.specs.ValueTests.{is_unsigned_in}
@@ -12,14 +12,20 @@ use Rattle.compax.specs.declared.words.Invocation.{Invocation}
 use Rattle.compax.specs.declared.words.Invocation.TheVariants.{Replay, Generate, Node}
 use Rattle.compax.specs.Roles.{roles_of}
 
--- ---- the command: `replay`; `gen` with a number of 64 bits and one of 16, both required; or `node` with a number of turns, which has
--- a default, another number or none, and after them one role or more
+-- ---- the command: `replay`; `gen` with a number of 64 bits and one of 16, both required; or `node` with a number of turns and a window,
+-- which have defaults, another number or none, and after them one role or more
 
 abbrev pub most_seed : ℕ
 most_seed = 18446744073709551615
 
 abbrev pub most_count : ℕ
 most_count = 65535
+
+abbrev pub most_u32 : ℕ
+most_u32 = 4294967295
+
+abbrev pub most_u8 : ℕ
+most_u8 = 255
 
 abbrev pub seed_rule : Rule
 seed_rule = record (new_rule (codes "SEED")) { required = true; parser = Some (parser.Unsigned 0 most_seed) }
@@ -35,8 +41,9 @@ turns_rule = record (new_rule (codes "turns")) { long = Some (codes "turns"); de
 abbrev pub tend_rule : Rule
 tend_rule = record (new_rule (codes "tend")) { long = Some (codes "tend"); parser = Some (parser.Signed (pos 64) (pos 65536)) }
 
-abbrev pub most_u32 : ℕ
-most_u32 = 4294967295
+-- `--window W`, W a number of 8 bits
+abbrev pub window_rule : Rule
+window_rule = record (new_rule (codes "window")) { long = Some (codes "window"); defaults = codes "1" ∷ []; parser = Some (parser.Signed (pos 0) (pos most_u8)) }
 
 abbrev pub roles_rule : Rule
 roles_rule = record (new_rule (codes "ROLE")) { required = true; range = Some (record { start_inclusive = 1; end_inclusive = usize_max }) }
@@ -48,7 +55,7 @@ abbrev pub generate : App
 generate = with_rule (with_rule (new_app (codes "gen")) seed_rule) count_rule
 
 abbrev pub node : App
-node = with_rule (with_rule (with_rule (new_app (codes "node")) turns_rule) tend_rule) roles_rule
+node = with_rule (with_rule (with_rule (with_rule (new_app (codes "node")) turns_rule) tend_rule) window_rule) roles_rule
 
 abbrev pub requires_subcommand : App → App
 requires_subcommand a = record a { top = record a.top { subcommand_required = true } }
@@ -73,8 +80,19 @@ generated rows = option_and_then (λ seed. option_map (Generate seed) (number_at
 abbrev pub roles_at : Text → List Row → Option (List RoleId)
 roles_at id rows = option_and_then roles_of (all_of id rows)
 
+-- a client may have 1 to 64 requests outstanding
+abbrev pub window_of : ℕ → Option ℕ
+window_of window = if nat_le 1 window && nat_le window 64 then Some window else None
+
+abbrev pub window_at : List Row → Option ℕ
+window_at rows = option_and_then window_of (number_at most_u8 (codes "window") rows)
+
+-- a node with this number of turns and this window
+abbrev pub node_with : List Row → ℕ → ℕ → Option Invocation
+node_with rows turns window = option_map (Node turns (number_at most_u32 (codes "tend") rows) window) (roles_at (codes "ROLE") rows)
+
 abbrev pub hosted : List Row → Option Invocation
-hosted rows = option_and_then (λ turns. option_map (Node turns (number_at most_u32 (codes "tend") rows)) (roles_at (codes "ROLE") rows)) (number_at most_u32 (codes "turns") rows)
+hosted rows = option_and_then (λ turns. option_and_then (node_with rows turns) (window_at rows)) (number_at most_u32 (codes "turns") rows)
 
 -- what a subcommand asks for, by its name and its values
 abbrev pub asked_by : Text × List Row → Option Invocation

@@ -30,33 +30,37 @@ fn answer<S: Source, W: Sink, L: Link, D: Depot>(
         (outside (S.left input.new) (S.faults input.new) (L.told link.new) (L.faults link.new) (W.taken out.new) (W.faults out.new) (D.tells depot.new) (D.held depot.new) (D.faults depot.new)) result }
     ensures given_back { D.out depot.new ≡ [] }
 {
-    match said(alloc, words) {
-        Ok(Some(Invocation::Replay)) => replay(alloc, input, out),
-        Ok(Some(Invocation::Generate { seed, count })) => run_gen(
-            alloc,
-            seed,
-            u64::from(count),
-            out,
-        ),
-        Ok(Some(Invocation::Node { turns, tend, roles })) => serve(
+    let invocation = match said(alloc, words) {
+        Ok(Some(invocation)) => invocation,
+        Ok(None) => return Status::BadWords,
+        Err(AllocError) => return Status::NoMemory,
+    };
+    match invocation {
+        Invocation::Replay => replay(alloc, input, out),
+        Invocation::Generate { seed, count } => run_gen(alloc, seed, u64::from(count), out),
+        Invocation::Node {
+            turns,
+            tend,
+            window,
+            roles,
+        } => serve(
             alloc,
             roles.as_slice(),
             turns,
             tend,
+            window,
             input,
             link,
             depot,
             out,
         ),
-        Ok(None) => Status::BadWords,
-        Err(AllocError) => Status::NoMemory,
     }
 }
 
 /// Does what the words say, the first of which is the program's name: `replay` reads a schedule from the source, and writes the
 /// trace and the summary of its run to `out`; `gen SEED COUNT` runs COUNT events that are made from a seed, and writes a
-/// short summary; `node --turns N --tend N ROLE..` hosts these roles over the link and the depot, with the requests of the source, and
-/// writes the answers. The line of the status goes to `err`, whose failing never changes the status.
+/// short summary; `node --turns N --tend N --window W ROLE..` hosts these roles over the link and the depot, with the requests
+/// of the source, and writes the answers. The line of the status goes to `err`, whose failing never changes the status.
 ///
 /// `BadWords` comes exactly where the words say none of these, and then nothing is read or written, and where a role of a node
 /// isn't in the cluster of its header. Every other status is the command's own, and out of memory. The run of a schedule is

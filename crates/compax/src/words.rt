@@ -6,7 +6,7 @@ ghost use Rattle.clap.specs.declared.builder.command.Command.TheViews.{out-Comma
 ghost use Rattle.cx_base.specs.declared.role.Kind.TheVariants.{Batcher, Client};
 ghost use Rattle.cx_base.specs.Role.{role};
 ghost use Rattle.compax.specs.declared.words.Invocation.TheVariants.{Generate as Gen, Node as Host, Replay};
-ghost use Rattle.compax.specs.Words.{IsMatch, asked_by, command, count_rule, generate, generated, hosted, most_count, most_seed, most_u32, node, number_at, roles_at, roles_rule, said, seed_rule, tend_rule, turns_rule};
+ghost use Rattle.compax.specs.Words.{IsMatch, asked_by, command, count_rule, generate, generated, hosted, most_count, most_seed, most_u32, most_u8, node, number_at, roles_at, roles_rule, said, seed_rule, tend_rule, turns_rule, window_at, window_rule};
 
 use crate::roles::Roles;
 use clap::error::ErrorKind;
@@ -23,10 +23,12 @@ pub enum Invocation {
         seed: u64,
         count: u16,
     },
-    /// To host these roles for at most N turns, and to tend them where a number is given: `node --turns N --tend N ROLE..`.
+    /// To host these roles for at most N turns, and to tend them where a number is given; each client among them may have W requests
+    /// outstanding, 1 to 64: `node --turns N --tend N --window W ROLE..`.
     Node {
         turns: u32,
         tend: Option<u32>,
+        window: u8,
         roles: Roles,
     },
 }
@@ -68,6 +70,16 @@ fn tend<'a>(alloc: Global) -> Arg<'a>
         .value_parser(value_parser!(u32).range(64..=65_536))
 }
 
+fn window<'a>(alloc: Global) -> Arg<'a>
+    ensures rule { rule_of result ≡ window_rule }
+    ensures local { result.global ≡ false }
+{
+    Arg::new(alloc, "window")
+        .long("window")
+        .default_value("1")
+        .value_parser(value_parser!(u8))
+}
+
 fn roles<'a>(alloc: Global) -> Arg<'a>
     ensures rule { rule_of result ≡ roles_rule }
     ensures local { result.global ≡ false }
@@ -91,6 +103,7 @@ fn node<'a>(alloc: Global) -> Result<Command<'a>, AllocError>
     Command::new(alloc, "node")
         .arg(turns(alloc))?
         .arg(tend(alloc))?
+        .arg(window(alloc))?
         .arg(roles(alloc))
 }
 
@@ -138,6 +151,23 @@ fn tend_given(matches: &ArgMatches) -> Option<u32>
     matches.get_one::<u32>("tend")
 }
 
+// The number under `--window`, whatever it is.
+fn number_of_window(matches: &ArgMatches) -> Option<u8>
+    ensures { result ≡ number_at most_u8 (codes "window") (rows_of (found_of matches.now)) }
+{
+    matches.get_one::<u8>("window")
+}
+
+fn window_given(matches: &ArgMatches) -> Option<u8>
+    ensures { result ≡ window_at (rows_of (found_of matches.now)) }
+{
+    let window = number_of_window(matches)?;
+    if 1 <= window && window <= 64 {
+        return Some(window);
+    }
+    None
+}
+
 fn roles_given(alloc: Global, matches: &ArgMatches) -> Result<Option<Roles>, AllocError>
     ensures { IfOk result (λ roles. roles ≡ roles_at (codes "ROLE") (rows_of (found_of matches.now))) }
 {
@@ -151,10 +181,15 @@ fn roles_given(alloc: Global, matches: &ArgMatches) -> Result<Option<Roles>, All
 fn hosted(alloc: Global, matches: &ArgMatches) -> Result<Option<Invocation>, AllocError>
     ensures { IfOk result (λ invocation. invocation ≡ hosted (rows_of (found_of matches.now))) }
 {
-    match (turns_given(matches), roles_given(alloc, matches)?) {
-        (Some(turns), Some(roles)) => Ok(Some(Invocation::Node {
+    match (
+        turns_given(matches),
+        window_given(matches),
+        roles_given(alloc, matches)?,
+    ) {
+        (Some(turns), Some(window), Some(roles)) => Ok(Some(Invocation::Node {
             turns,
             tend: tend_given(matches),
+            window,
             roles,
         })),
         _ => Ok(None),
@@ -205,7 +240,7 @@ pub fn said(alloc: Global, words: &[String]) -> Result<Option<Invocation>, Alloc
 }
 
 /// What words say that are written out, whatever the program is called: a law of the definition.
-#[tactic(auto, using(crate::proofs::Spoken::replay_said, crate::proofs::Spoken::least_said, crate::proofs::Spoken::most_said, crate::proofs::Spoken::seed_above, crate::proofs::Spoken::count_above, crate::proofs::Spoken::nothing_said, crate::proofs::Spoken::help_said, crate::proofs::Spoken::node_said, crate::proofs::Spoken::turns_said, crate::proofs::Spoken::no_turn_said, crate::proofs::Spoken::tend_said, crate::proofs::Spoken::most_tend_said, crate::proofs::Spoken::tend_below, crate::proofs::Spoken::tend_above, crate::proofs::Spoken::tend_twice, crate::proofs::Spoken::no_role_said, crate::proofs::Spoken::twice_said, crate::proofs::Spoken::misspelt_said))]
+#[tactic(auto, using(crate::proofs::Spoken::replay_said, crate::proofs::Spoken::least_said, crate::proofs::Spoken::most_said, crate::proofs::Spoken::seed_above, crate::proofs::Spoken::count_above, crate::proofs::Spoken::nothing_said, crate::proofs::Spoken::help_said, crate::proofs::Spoken::node_said, crate::proofs::Spoken::turns_said, crate::proofs::Spoken::no_turn_said, crate::proofs::Spoken::tend_said, crate::proofs::Spoken::most_tend_said, crate::proofs::Spoken::tend_below, crate::proofs::Spoken::tend_above, crate::proofs::Spoken::tend_twice, crate::proofs::Spoken::window_said, crate::proofs::Spoken::no_window_said, crate::proofs::Spoken::window_above, crate::proofs::Spoken::no_role_said, crate::proofs::Spoken::twice_said, crate::proofs::Spoken::misspelt_said))]
 pub fn said_of_words_written_out()
     ensures replay { (program : List ℕ) → said (program ∷ codes "replay" ∷ []) ≡ Some Replay }
     ensures least { (program : List ℕ) → said (program ∷ codes "gen" ∷ codes "0" ∷ codes "0" ∷ []) ≡ Some (Gen 0 0) }
@@ -214,14 +249,17 @@ pub fn said_of_words_written_out()
     ensures count_above { (program : List ℕ) → said (program ∷ codes "gen" ∷ codes "0" ∷ codes "65536" ∷ []) ≡ None }
     ensures nothing { (program : List ℕ) → said (program ∷ []) ≡ None }
     ensures help { (program : List ℕ) → said (program ∷ codes "--help" ∷ []) ≡ None }
-    ensures node { (program : List ℕ) → said (program ∷ codes "node" ∷ codes "client:0" ∷ []) ≡ Some (Host 1000000 None (role Client 0 ∷ [])) }
-    ensures turns { (program : List ℕ) → said (program ∷ codes "node" ∷ codes "--turns" ∷ codes "75" ∷ codes "client:0" ∷ codes "batcher:0" ∷ []) ≡ Some (Host 75 None (role Client 0 ∷ role Batcher 0 ∷ [])) }
+    ensures node { (program : List ℕ) → said (program ∷ codes "node" ∷ codes "client:0" ∷ []) ≡ Some (Host 1000000 None 1 (role Client 0 ∷ [])) }
+    ensures turns { (program : List ℕ) → said (program ∷ codes "node" ∷ codes "--turns" ∷ codes "75" ∷ codes "client:0" ∷ codes "batcher:0" ∷ []) ≡ Some (Host 75 None 1 (role Client 0 ∷ role Batcher 0 ∷ [])) }
     ensures no_turn { (program : List ℕ) → said (program ∷ codes "node" ∷ codes "--turns" ∷ codes "0" ∷ codes "client:0" ∷ []) ≡ None }
-    ensures tend { (program : List ℕ) → said (program ∷ codes "node" ∷ codes "--tend" ∷ codes "64" ∷ codes "client:0" ∷ []) ≡ Some (Host 1000000 (Some 64) (role Client 0 ∷ [])) }
-    ensures most_tend { (program : List ℕ) → said (program ∷ codes "node" ∷ codes "--tend" ∷ codes "65536" ∷ codes "--turns" ∷ codes "75" ∷ codes "client:0" ∷ []) ≡ Some (Host 75 (Some 65536) (role Client 0 ∷ [])) }
+    ensures tend { (program : List ℕ) → said (program ∷ codes "node" ∷ codes "--tend" ∷ codes "64" ∷ codes "client:0" ∷ []) ≡ Some (Host 1000000 (Some 64) 1 (role Client 0 ∷ [])) }
+    ensures most_tend { (program : List ℕ) → said (program ∷ codes "node" ∷ codes "--tend" ∷ codes "65536" ∷ codes "--turns" ∷ codes "75" ∷ codes "client:0" ∷ []) ≡ Some (Host 75 (Some 65536) 1 (role Client 0 ∷ [])) }
     ensures tend_below { (program : List ℕ) → said (program ∷ codes "node" ∷ codes "--tend" ∷ codes "63" ∷ codes "client:0" ∷ []) ≡ None }
     ensures tend_above { (program : List ℕ) → said (program ∷ codes "node" ∷ codes "--tend" ∷ codes "65537" ∷ codes "client:0" ∷ []) ≡ None }
     ensures tend_twice { (program : List ℕ) → said (program ∷ codes "node" ∷ codes "--tend" ∷ codes "64" ∷ codes "--tend" ∷ codes "64" ∷ codes "client:0" ∷ []) ≡ None }
+    ensures window { (program : List ℕ) → said (program ∷ codes "node" ∷ codes "--window" ∷ codes "64" ∷ codes "client:0" ∷ []) ≡ Some (Host 1000000 None 64 (role Client 0 ∷ [])) }
+    ensures no_window { (program : List ℕ) → said (program ∷ codes "node" ∷ codes "--window" ∷ codes "0" ∷ codes "client:0" ∷ []) ≡ None }
+    ensures window_above { (program : List ℕ) → said (program ∷ codes "node" ∷ codes "--window" ∷ codes "65" ∷ codes "leader:0" ∷ []) ≡ None }
     ensures no_role { (program : List ℕ) → said (program ∷ codes "node" ∷ []) ≡ None }
     ensures twice { (program : List ℕ) → said (program ∷ codes "node" ∷ codes "client:0" ∷ codes "client:0" ∷ []) ≡ None }
     ensures misspelt { (program : List ℕ) → said (program ∷ codes "node" ∷ codes "claent:0" ∷ []) ≡ None }

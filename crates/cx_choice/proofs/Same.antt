@@ -30,14 +30,15 @@ one_op (App k t) (Del l) h = cc
 one_op (App k t) (App l u) h =
     let p = and_parts (bytes_eq k l) (bytes_eq t u) h in let e = same_bytes k l p.0 in let f = same_bytes t u p.1 in cc
 
-abbrev command_of : ℕ → ℕ → Op → Command
-command_of client seq op = record { client = client; seq = seq; op = op }
+abbrev command_of : ℕ → ℕ → ℕ → Op → Command
+command_of client seq floor op = record { client = client; seq = seq; floor = floor; op = op }
 
 one_command : (a b : Command) → same_command a b ≡ true → a ≡ b
 one_command a b h =
-    let p = and_parts ((a.client == b.client) && (a.seq == b.seq)) (same_op a.op b.op) h in
-    let q = and_parts (a.client == b.client) (a.seq == b.seq) p.0 in
-    λ i. command_of (same_number a.client b.client q.0 i) (same_number a.seq b.seq q.1 i) (one_op a.op b.op p.1 i)
+    let p = and_parts ((a.client == b.client) && (a.seq == b.seq) && (a.floor == b.floor)) (same_op a.op b.op) h in
+    let q = and_parts ((a.client == b.client) && (a.seq == b.seq)) (a.floor == b.floor) p.0 in
+    let r = and_parts (a.client == b.client) (a.seq == b.seq) q.0 in
+    λ i. command_of (same_number a.client b.client r.0 i) (same_number a.seq b.seq r.1 i) (same_number a.floor b.floor q.1 i) (one_op a.op b.op p.1 i)
 
 one_list : (xs ys : List Command) → same_commands xs ys ≡ true → xs ≡ ys
 one_list [] [] h = refl

@@ -1,2 +1,2 @@
-pub mod Scripts
 pub mod Steps
+pub mod Windows

@@ -1,5 +1,6 @@
--- A client with its script: one request outstanding at a time.
-use Rattle.std.specs.Prelude.{◌≡◌, ◌≤◌, ℕ, ◌+◌, Bool, true, false, ◌==◌, ◌&&◌, List, [], length, slice_get, Option, None, Some, if◌then◌else◌}
+-- A client with its script: up to a window of requests outstanding at a time.
+use Rattle.std.specs.Prelude.{◌≡◌, ◌≤◌, ℕ, ◌+◌, Bool, true, false, ◌==◌, ◌&&◌, List, [], ◌∷◌, ◌++◌, drop, filter, length, take, Option, None, Some, if◌then◌else◌}
+use Rattle.std.specs.List.{list_all}
 use Rattle.cx_base.specs.declared.cluster.Cluster.{Cluster}
 use Rattle.cx_base.specs.declared.event.Event.{Event}
 use Rattle.cx_base.specs.declared.role.Kind.TheVariants.{Client}
@@ -7,38 +8,43 @@ use Rattle.cx_base.specs.declared.role.RoleId.{RoleId}
 use Rattle.cx_base.specs.declared.why.Why.{Why}
 use Rattle.cx_base.specs.declared.why.Why.TheVariants.{Heard, Idle, Resent, Stranger}
 use Rattle.cx_base.specs.Role.{role, same_role}
+use Rattle.cx_client.specs.Window.{floor_for, has_number, is_outstanding, newly, outstanding, requests_of, without}
 use Rattle.cx_model.specs.Names.{names}
-use Rattle.cx_model.specs.Request.{request}
 use Rattle.cx_msg.specs.Letter.{Letter}
 use Rattle.cx_msg.specs.declared.message.Msg.{Msg}
 use Rattle.cx_msg.specs.declared.message.Msg.TheVariants as msg
-use Rattle.cx_script.specs.Requests.{IsScript, number_of}
+use Rattle.cx_script.specs.Requests.{IsScript, asks}
 
--- a client, its requests in their order, and how many of them are completed
+-- a client, its requests, how many of them are completed, and how many of the others may be outstanding at a time. The completed ones
+-- come first, in the order in which they were completed; then the others, in the order of their numbers.
 pub record ClientState : Type 0 where
   pub cluster : Cluster
   pub me : RoleId
   pub script : List Event
   pub done : ℕ
+  pub window : ℕ
+
+-- the uncompleted requests
+abbrev pub left : ClientState → List Event
+left s = drop s.done s.script
 
 -- a client of the cluster with a script of its own, of which no more is completed than there is
 pub record IsClient (s : ClientState) : Type 0 where
   pub me : s.me ≡ role Client s.me.index
-  pub script : IsScript s.cluster s.me.index s.script
+  pub completed : list_all (asks s.me.index) (take s.done s.script) ≡ true
+  pub script : IsScript s.cluster s.me.index (left s)
   pub done : s.done ≤ length s.script
+  pub some_window : 1 ≤ s.window
+  pub window_fits : s.window ≤ 64
 
 -- a client at its beginning
-abbrev pub client_opened : Cluster → RoleId → List Event → ClientState
-client_opened c me script = record { cluster = c; me = me; script = script; done = 0 }
-
--- the request that waits for its answer, none where all are completed
-abbrev pub outstanding : ClientState → Option Event
-outstanding s = slice_get s.script s.done
+abbrev pub client_opened : Cluster → RoleId → List Event → ℕ → ClientState
+client_opened c me script window = record { cluster = c; me = me; script = script; done = 0; window = window }
 
 abbrev pub is_finished : ClientState → Bool
 is_finished s = s.done == length s.script
 
--- the result of a step: the word, the client after it, what is sent, and whether the outstanding request is completed
+-- the result of a step: the word, the client after it, what is sent, and whether an outstanding request is completed
 pub record ClientMoved : Type 0 where
   pub why : Why
   pub state : ClientState
@@ -49,33 +55,27 @@ pub record ClientMoved : Type 0 where
 abbrev pub stays : Why → ClientState → ClientMoved
 stays w s = record { why = w; state = s; sends = []; completes = false }
 
--- the datagram of a request, if there is one
-abbrev pub request_in : Option Event → List Letter
-request_in None = []
-request_in (Some e) = request e
-
--- what is sent first: the first request
+-- what is sent first: the outstanding requests
 abbrev pub client_start : ClientState → List Letter
-client_start s = request_in (outstanding s)
+client_start s = requests_of (floor_for (left s)) (outstanding s.window (left s))
 
--- whether this is the number of a request
-abbrev pub is_number_of : ℕ → Option Event → Bool
-is_number_of n None = false
-is_number_of n (Some e) = n == number_of e
+-- the client once the request of this number is completed
+abbrev pub completed : ℕ → ClientState → ClientState
+completed n s = record s { script = take s.done s.script ++ (filter (has_number n) (left s) ++ without n (left s)); done = s.done + 1 }
 
--- the outstanding request is completed, and the next one is sent
-abbrev pub client_completes : ClientState → ClientMoved
-client_completes s =
+-- the request of this number is completed, and those that become outstanding are sent
+abbrev pub client_completes : ℕ → ClientState → ClientMoved
+client_completes n s =
     record {
       why = Heard;
-      state = record s { done = s.done + 1 };
-      sends = request_in (slice_get s.script (s.done + 1));
+      state = completed n s;
+      sends = requests_of (floor_for (without n (left s))) (newly s.window n (left s));
       completes = true;
     }
 
 -- an answer to the request of this number
 abbrev pub client_hears : ClientState → ℕ → ClientMoved
-client_hears s n = if is_number_of n (outstanding s) then client_completes s else stays Heard s
+client_hears s n = if is_outstanding s.window (left s) n then client_completes n s else stays Heard s
 
 -- the number of an answer's request, none of another message
 abbrev pub answer_number : Msg → Option ℕ
@@ -91,13 +91,13 @@ client_told s (Some n) = client_hears s n
 abbrev pub client_takes : ClientState → Letter → ClientMoved
 client_takes s d = if same_role d.to s.me && names s.cluster d then client_told s (answer_number d.msg) else stays Stranger s
 
--- a tick sends the outstanding request again
-abbrev pub client_waits : ClientState → Option Event → ClientMoved
-client_waits s None = stays Idle s
-client_waits s (Some e) = record { why = Resent; state = s; sends = request e; completes = false }
+-- a tick sends the outstanding requests again
+abbrev pub client_waits : ClientState → List Event → ClientMoved
+client_waits s [] = stays Idle s
+client_waits s (e ∷ es) = record { why = Resent; state = s; sends = requests_of (floor_for (left s)) (e ∷ es); completes = false }
 
 abbrev pub client_ticks : ClientState → ClientMoved
-client_ticks s = client_waits s (outstanding s)
+client_ticks s = client_waits s (outstanding s.window (left s))
 
 -- a step of the code is this one: its word, whether it completes a request, the client after it, and what it sends
 pub record Moves (moved : ClientMoved) (w : Why) (completed : Bool) (after : ClientState) (sent : List Letter) : Type 0 where

@@ -1,27 +1,46 @@
 -- What a client sends, and when a datagram completes a request.
-use Rattle.std.specs.Prelude.{◌≡◌, ℕ, Bool, true, false, List, Some}
+use Rattle.std.specs.Prelude.{◌≡◌, ℕ, ◌+◌, ◌==◌, Bool, true, nat_lt, List, ◌∷◌, ◌++◌, take, Some}
 use Rattle.std.specs.List.{list_all}
 use Rattle.cx_base.specs.declared.event.Event.{Event}
 use Rattle.cx_base.specs.Role.{same_role}
+use Rattle.cx_client.specs.Client.{ClientState, answer_number, left}
+use Rattle.cx_client.specs.Window.{floor_for, outstanding, telling, without}
+use Rattle.cx_model.specs.Member.{Member}
 use Rattle.cx_model.specs.Names.{names}
+use Rattle.cx_model.specs.Request.{request}
 use Rattle.cx_msg.specs.Letter.{Letter}
+use Rattle.cx_msg.specs.declared.message.Msg.{Msg}
+use Rattle.cx_msg.specs.declared.message.Msg.TheVariants as msg
 use Rattle.cx_script.specs.Requests.{number_of}
-use Rattle.cx_client.specs.Client.{ClientState, answer_number, outstanding}
 
 -- all datagrams are from this client, with their names in the cluster
 pub record IsOwn (s : ClientState) (ds : List Letter) : Type 0 where
   pub own : list_all (λ (d : Letter). same_role d.from s.me) ds ≡ true
   pub named : list_all (names s.cluster) ds ≡ true
 
--- how many requests a step completes
-abbrev pub count_of : Bool → ℕ
-count_of true = 1
-count_of false = 0
-
--- a datagram answers the outstanding request: it is to this client, has that number, and its names lie in the cluster
+-- a datagram answers an outstanding request: it is to this client, has the request's number, and its names lie in the cluster
 pub record Answers (s : ClientState) (d : Letter) : Type 0 where
   pub request : Event
-  pub outstanding : outstanding s ≡ Some request
+  pub outstanding : Member request (outstanding s.window (left s))
   pub number : answer_number d.msg ≡ Some (number_of request)
   pub received : same_role d.to s.me ≡ true
   pub named : names s.cluster d ≡ true
+
+-- a datagram answers an outstanding request, which then is behind those completed before it; the others stay as they are
+pub record Completes (s : ClientState) (d : Letter) (after : ClientState) : Type 0 where
+  pub answers : Answers s d
+  pub state : after ≡ record s { script = take s.done s.script ++ answers.request ∷ without (number_of answers.request) (left s); done = s.done + 1 }
+
+-- whether a command, if it is one, tells this floor
+abbrev pub tells : ℕ → Msg → Bool
+tells floor (msg.Submit command) = command.floor == floor
+tells floor other = true
+
+-- each command that is sent tells the number of the first uncompleted request, less 1, and no uncompleted number is at or below it
+pub record TellsFloor (s : ClientState) (ds : List Letter) : Type 0 where
+  pub told : list_all (λ (d : Letter). tells (floor_for (left s)) d.msg) ds ≡ true
+  pub below : list_all (λ (e : Event). nat_lt (floor_for (left s)) (number_of e)) (left s) ≡ true
+
+-- a request is sent, telling the floor of the client
+abbrev pub IsSent : ClientState → List Letter → Event → Type 0
+IsSent s ds e = (d : Letter) → Member d (request (telling (floor_for (left s)) e)) → Member d ds

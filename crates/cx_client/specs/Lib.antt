@@ -1,2 +1,4 @@
 pub mod Client
 pub mod Completes
+pub mod Examples
+pub mod Window

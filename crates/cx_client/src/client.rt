@@ -1,32 +1,38 @@
 //! The client.
 
-ghost use Rattle.std.specs.Prelude.{◌≡◌, [], IfOk, OnErr, OnOk, IsTrue, false};
+ghost use Rattle.std.specs.Prelude.{◌≡◌, ◌≤◌, ◌<◌, ◌+◌, ◌-◌, ◌++◌, ◌∷◌, [], drop, filter, get_or, length, nat_lt, slice_get, take, IfOk, IfSome, OnErr, OnOk, IsTrue, false};
+ghost use Rattle.cx_base.specs.declared.event.Event.{Event as Happening};
 ghost use Rattle.cx_base.specs.declared.role.Kind.TheVariants as kind;
-ghost use Rattle.cx_client.specs.Client.{Moves, client_hears, client_opened, client_start, client_takes, client_ticks, is_finished};
+ghost use Rattle.cx_client.specs.Client.{Moves, completed, client_hears, client_opened, client_start, client_takes, client_ticks, is_finished, left};
+ghost use Rattle.cx_client.specs.Window.{floor_for, outstanding, requests_of};
 ghost use Rattle.cx_model.specs.Names.{names_role};
-ghost use Rattle.cx_script.specs.Requests.{IsScript};
+ghost use Rattle.cx_script.specs.Requests.{IsScript, number_of};
 
-use crate::sending::{has_number, send_at};
+use crate::sending::send_outstanding;
+use crate::window::{number_of, outstanding, place_of};
 use cx_base::{Cluster, Event, Kind, NoMemory, RoleId, Why};
 use cx_msg::{Datagram, Msg};
 use cx_role::{Outbox, is_for};
 use std::marker::Model;
 
-/// The result of a datagram, and whether it completed the outstanding request.
+/// The result of a datagram, and whether it completed an outstanding request.
 #[derive(Clone, Copy, Debug, PartialEq, Eq)]
 pub struct Taken {
     pub why: Why,
     pub completes: bool,
 }
 
-/// A client and its script. One request is outstanding: it is sent when it becomes so and at each tick, until an answer has its
-/// number.
+/// A client and its script. Of its uncompleted requests the first ones are outstanding, as many as its window has room for, but none whose
+/// number is more than 63 above the first (this project's own). Each is sent when it becomes so and at each tick, until an answer has its
+/// number; its floor is the number just below the first uncompleted one, as of that sending.
 #[derive(Drop)]
 pub struct Client {
     cluster: Cluster,
     index: u16,
+    // The completed requests, in the order of their completion, and then the others, in the order of their numbers.
     script: Vec<Event>,
     done: usize,
+    window: u8,
 }
 
 impl Model for Client {
@@ -36,36 +42,86 @@ impl Model for Client {
 
     ghost Value = { ClientState };
 
-    ghost view = { λ c. record { cluster = c.cluster; me = role kind.Client c.index; script = c.script.items; done = c.done } };
+    ghost view = { λ c. record { cluster = c.cluster; me = role kind.Client c.index; script = c.script.items; done = c.done; window = c.window } };
 
-    ghost invariant = { λ c. IsClient (record { cluster = c.cluster; me = role kind.Client c.index; script = c.script.items; done = c.done }) };
+    ghost invariant = { λ c. IsClient (record { cluster = c.cluster; me = role kind.Client c.index; script = c.script.items; done = c.done; window = c.window }) };
+}
+
+// Brings the request at a place of those that are left to their front, and those that it passes move up one place.
+fn bring_forward(script: &mut Vec<Event>, done: usize, place: usize)
+    requires { done + place < length script.old.items }
+    ensures { (d : Happening) → script.new.items ≡ take done script.old.items ++ get_or script.old.items (done + place) d ∷ (take place (drop done script.old.items) ++ drop (done + place + 1) script.old.items) }
+{
+    let from = done + place;
+    let event = script[from];
+    script.copy_within(done..from, done + 1);
+    script[done] = event;
+}
+
+// The last number of requests, 0 where there are none.
+fn last_number(requests: &[Event]) -> u64
+    ensures last { IfSome (slice_get requests.now (length requests.now - 1)) (λ event. result ≡ number_of event) }
+    ensures none { requests.now ≡ [] → result ≡ 0 }
+{
+    match requests.last() {
+        Some(event) => number_of(event),
+        None => 0,
+    }
 }
 
 impl Client {
     /// A client of the cluster and its script, nothing sent. The script has requests of this client alone, with their names in the
-    /// cluster and rising numbers from 1 on. It takes no memory.
-    pub fn open(cluster: &Cluster, me: RoleId, script: Vec<Event>) -> Self
+    /// cluster and rising numbers from 1 on; 1 to 64 of them may be outstanding at a time. It takes no memory.
+    pub fn open(cluster: &Cluster, me: RoleId, script: Vec<Event>, window: u8) -> Self
         requires kind { me.kind ≡ kind.Client }
         requires named { IsTrue (names_role cluster.now me) }
         requires script { IsScript cluster.now me.index script.items }
-        ensures { result ≡ client_opened cluster.now me script.items }
+        requires some_window { 1 ≤ window }
+        requires window { window ≤ 64 }
+        ensures { result ≡ client_opened cluster.now me script.items window }
     {
         Client {
             cluster: *cluster,
             index: me.index,
             script,
             done: 0,
+            window,
         }
     }
 
-    /// The first request is sent, if the script has one.
-    pub fn start(&mut self, out: &mut Outbox) -> Result<(), NoMemory>
-        requires empty { out.old.list ≡ [] }
-        ensures sends { OnOk result (out.new.list ≡ client_start self.old) }
-        ensures nothing { OnErr result (out.new.list ≡ []) }
-        ensures state { self.new ≡ self.old }
+    // The outstanding requests.
+    fn outstanding(&self) -> &[Event]
+        ensures { result.now ≡ outstanding self.now.window (left self.now) }
     {
-        send_at(&self.script, self.done, out)
+        outstanding(&self.script[self.done..], self.window as usize)
+    }
+
+    // The outstanding requests whose numbers are above `sent` go out. It takes no memory.
+    fn send_above(&self, sent: u64, out: &mut Outbox)
+        requires room { self.now.window ≤ out.old.spare }
+        ensures { out.new.list ≡ out.old.list ++ requests_of (floor_for (left self.now)) (filter (λ (e : Happening). nat_lt sent (number_of e)) (outstanding self.now.window (left self.now))) }
+    {
+        send_outstanding(&self.script[self.done..], self.window as usize, sent, out);
+    }
+
+    /// The outstanding requests are sent: the first ones of the script.
+    pub fn start(&self, out: &mut Outbox) -> Result<(), NoMemory>
+        requires empty { out.old.list ≡ [] }
+        ensures sends { OnOk result (out.new.list ≡ client_start self.now) }
+        ensures nothing { OnErr result (out.new.list ≡ []) }
+    {
+        out.room(self.window as usize)?;
+        self.send_above(0, out);
+        Ok(())
+    }
+
+    // The request at this place of those that are left is completed.
+    fn complete(&mut self, place: usize)
+        requires { place < length (left self.old) }
+        ensures { (d : Happening) → self.new ≡ completed (number_of (get_or (left self.old) place d)) self.old }
+    {
+        bring_forward(&mut self.script, self.done, place);
+        self.done += 1;
     }
 
     // An answer to the request of this number.
@@ -75,20 +131,27 @@ impl Client {
         ensures no_memory { OnErr result (self.new ≡ self.old) }
         ensures nothing { OnErr result (out.new.list ≡ []) }
     {
-        let completes = has_number(&self.script, self.done, number);
-        if completes {
-            send_at(&self.script, self.done + 1, out)?;
-            self.done += 1;
-        }
+        let why = Why::Heard;
+        let outstanding = self.outstanding();
+        let Some(place) = place_of(outstanding, number) else {
+            return Ok(Taken {
+                why,
+                completes: false,
+            });
+        };
+        let sent = last_number(outstanding);
+        out.room(self.window as usize)?;
+        self.complete(place);
+        self.send_above(sent, out);
         Ok(Taken {
-            why: Why::Heard,
-            completes,
+            why,
+            completes: true,
         })
     }
 
     /// One datagram. It is a stranger's, and nothing changes, where it isn't to this client, is no answer, or a name in it lies
-    /// outside the cluster; any other is heard. An answer with the outstanding request's number completes it, and the next request
-    /// is sent. Out of memory, nothing changes.
+    /// outside the cluster; any other is heard. An answer with the number of an outstanding request completes that one, and the
+    /// requests that become outstanding are sent. Out of memory, nothing changes.
     pub fn take(&mut self, datagram: &Datagram, out: &mut Outbox) -> Result<Taken, NoMemory>
         requires empty { out.old.list ≡ [] }
         ensures ok { IfOk result (λ taken. Moves (client_takes self.old datagram.now) taken.why taken.completes self.new out.new.list) }
@@ -110,17 +173,17 @@ impl Client {
         }
     }
 
-    /// One tick: the outstanding request is sent again, or there is nothing to do where all are completed.
-    pub fn tick(&mut self, out: &mut Outbox) -> Result<Why, NoMemory>
+    /// One tick: the outstanding requests are sent again, or there is nothing to do where all are completed.
+    pub fn tick(&self, out: &mut Outbox) -> Result<Why, NoMemory>
         requires empty { out.old.list ≡ [] }
-        ensures ok { IfOk result (λ why. Moves (client_ticks self.old) why false self.new out.new.list) }
-        ensures no_memory { OnErr result (self.new ≡ self.old) }
+        ensures ok { IfOk result (λ why. Moves (client_ticks self.now) why false self.now out.new.list) }
         ensures nothing { OnErr result (out.new.list ≡ []) }
     {
         if self.finished() {
             return Ok(Why::Idle);
         }
-        send_at(&self.script, self.done, out)?;
+        out.room(self.window as usize)?;
+        self.send_above(0, out);
         Ok(Why::Resent)
     }
 

@@ -1,18 +1,21 @@
 //! What is true of every step of a client.
 
-ghost use Rattle.std.specs.Prelude.{◌≡◌, ◌+◌, ℕ, List, true};
+ghost use Rattle.std.specs.Prelude.{◌≡◌, ◌⊎◌, ◌≤◌, ℕ, List, ◌∷◌, true, false};
+ghost use Rattle.cx_base.specs.Asked.{floor_fits};
 ghost use Rattle.cx_base.specs.declared.cluster.Cluster.{Cluster};
 ghost use Rattle.cx_base.specs.declared.event.Event.{Event};
 ghost use Rattle.cx_base.specs.declared.role.Kind.TheVariants as kind;
 ghost use Rattle.cx_base.specs.Role.{role};
-ghost use Rattle.cx_client.specs.Client.{ClientState, IsClient, client_opened, client_start, client_takes, client_ticks};
-ghost use Rattle.cx_client.specs.Completes.{Answers, IsOwn, count_of};
+ghost use Rattle.cx_client.specs.Client.{ClientState, IsClient, client_opened, client_start, client_takes, client_ticks, left};
+ghost use Rattle.cx_client.specs.Completes.{Answers, Completes, IsOwn, IsSent, TellsFloor};
+ghost use Rattle.cx_client.specs.Window.{floor_for, outstanding};
+ghost use Rattle.cx_model.specs.Member.{Member};
 ghost use Rattle.cx_msg.specs.Letter.{Letter};
-ghost use Rattle.cx_script.specs.Requests.{IsScript};
+ghost use Rattle.cx_script.specs.Requests.{IsScript, number_of};
 
 /// A law: a client with a script of its own stays one.
 pub fn clients_stay()
-    ensures opened { (c : Cluster) (index : ℕ) (script : List Event) → IsScript c index script → IsClient (client_opened c (role kind.Client index) script) }
+    ensures opened { (c : Cluster) (index : ℕ) (script : List Event) (window : ℕ) → IsScript c index script → 1 ≤ window → window ≤ 64 → IsClient (client_opened c (role kind.Client index) script window) }
     ensures takes { (s : ClientState) (letter : Letter) → IsClient s → IsClient (client_takes s letter).state }
 {}
 
@@ -23,11 +26,27 @@ pub fn sends_are_own()
     ensures ticks { (s : ClientState) → IsClient s → IsOwn s (client_ticks s).sends }
 {}
 
-/// A law: a datagram completes one request or none: the outstanding one, exactly where it answers that one. A tick completes
-/// none.
+/// A law: a datagram completes one request or none: an outstanding one, exactly where it answers that one. A tick completes none.
 pub fn completes_once()
-    ensures one { (s : ClientState) (letter : Letter) → (client_takes s letter).state ≡ record s { done = s.done + count_of (client_takes s letter).completes } }
-    ensures outstanding { (s : ClientState) (letter : Letter) → (client_takes s letter).completes ≡ true → Answers s letter }
+    ensures one { (s : ClientState) (letter : Letter) → IsClient s → (client_takes s letter).completes ≡ true → Completes s letter (client_takes s letter).state }
+    ensures none { (s : ClientState) (letter : Letter) → (client_takes s letter).completes ≡ false → (client_takes s letter).state ≡ s }
     ensures answered { (s : ClientState) (letter : Letter) → Answers s letter → (client_takes s letter).completes ≡ true }
     ensures ticks { (s : ClientState) → (client_ticks s).state ≡ s }
+{}
+
+/// A law: each command that a client sends tells the number of its first uncompleted request, less 1, as of the end of the step. So no
+/// uncompleted number is at or below a floor that is sent.
+pub fn floors_are_below()
+    ensures starts { (s : ClientState) → IsClient s → TellsFloor s (client_start s) }
+    ensures takes { (s : ClientState) (letter : Letter) → IsClient s → TellsFloor (client_takes s letter).state (client_takes s letter).sends }
+    ensures ticks { (s : ClientState) → IsClient s → TellsFloor s (client_ticks s).sends }
+{}
+
+/// A law: the first uncompleted request is outstanding, each outstanding one may tell the client's floor, and what is outstanding after a
+/// datagram was so before it or is sent at once.
+pub fn windows_move()
+    ensures first { (s : ClientState) (e : Event) (es : List Event) → IsClient s → left s ≡ e ∷ es → Member e (outstanding s.window (left s)) }
+    ensures fits { (s : ClientState) (e : Event) → IsClient s → Member e (outstanding s.window (left s)) → floor_fits (number_of e) (floor_for (left s)) ≡ true }
+    ensures sent { (s : ClientState) (letter : Letter) (e : Event) → IsClient s → Member e (outstanding s.window (left (client_takes s letter).state))
+        → Member e (outstanding s.window (left s)) ⊎ IsSent (client_takes s letter).state (client_takes s letter).sends e }
 {}

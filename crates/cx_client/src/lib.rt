@@ -1,13 +1,18 @@
-//! A client of a node: a list of requests, one outstanding at a time, sent again until answered.
+//! A client of a node: a list of requests, up to a window of them outstanding at a time, sent again
+//! until answered.
 //!
 //! Its theorems are: each call is the model's step; what a client sends is its own
-//! (`sends_are_own`); a datagram completes the outstanding request exactly where it answers it, and
-//! no other (`completes_once`).
+//! (`sends_are_own`); a datagram completes an outstanding request exactly where it answers it, and
+//! no other (`completes_once`); no uncompleted number is at or below a floor that is sent
+//! (`floors_are_below`); and what becomes outstanding is sent (`windows_move`).
 #![tactic(auto)]
 
 mod client;
+mod examples;
 mod law;
 mod sending;
+mod window;
 
 pub use client::{Client, Taken};
-pub use law::{clients_stay, completes_once, sends_are_own};
+pub use examples::worked;
+pub use law::{clients_stay, completes_once, floors_are_below, sends_are_own, windows_move};

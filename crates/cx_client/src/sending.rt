@@ -1,85 +1,87 @@
 //! The datagrams of requests.
 
-ghost use Rattle.std.specs.Prelude.{◌≡◌, ◌≤◌, [], OnErr, OnOk, IfSome, IsTrue, option_copied, slice_get};
-ghost use Rattle.cx_base.specs.Asked.{is_valid_event};
+ghost use Rattle.std.specs.Prelude.{◌≡◌, ◌≤◌, ◌<◌, ◌+◌, ◌++◌, filter, length, nat_lt, IsTrue};
+ghost use Rattle.std.specs.List.{list_all};
+ghost use Rattle.cx_base.specs.Asked.{floor_fits, is_valid_event};
 ghost use Rattle.cx_base.specs.Role.{role};
+ghost use Rattle.cx_base.specs.declared.event.Event.{Event as Happening};
 ghost use Rattle.cx_base.specs.declared.role.Kind.TheVariants as kind;
-ghost use Rattle.cx_client.specs.Client.{is_number_of, request_in};
+ghost use Rattle.cx_client.specs.Window.{floor_for, outstanding, requests_of, telling};
 ghost use Rattle.cx_model.specs.Request.{request};
 ghost use Rattle.cx_msg.specs.declared.message.Msg.TheVariants as msg;
 ghost use Rattle.cx_msg.specs.Letter.{letter};
-ghost use Rattle.cx_script.specs.Requests.{number_of};
+ghost use Rattle.cx_script.specs.Requests.{number_of, rise_above};
 
-use cx_base::{Command, Event, NoMemory, Op};
+use crate::window::{first_of, number_of, outstanding};
+use cx_base::{Command, Event, Op};
 use cx_msg::{Datagram, read_req, submit};
 use cx_role::Outbox;
 
-// A command for a batcher; its number is taken by value, so that its range is known.
+// A command for a batcher; its numbers are taken by value, so that their range is known.
 #[tactic(auto, unfolding(cx_field::specs::Fields::seq, cx_wire::specs::Format::u64))]
-fn submission(client: u16, seq: u64, op: Op, batcher: u16) -> Datagram
-    requires { 1 ≤ seq }
-    ensures { result ≡ letter (role kind.Client client) (role kind.Batcher batcher) (msg.Submit (record { client = client; seq = seq; op = op })) }
+fn submission(client: u16, seq: u64, floor: u64, op: Op, batcher: u16) -> Datagram
+    requires { IsTrue (floor_fits seq floor) }
+    ensures { result ≡ letter (role kind.Client client) (role kind.Batcher batcher) (msg.Submit (record { client = client; seq = seq; floor = floor; op = op })) }
 {
-    submit(client, batcher, Command { client, seq, op })
+    submit(
+        client,
+        batcher,
+        Command {
+            client,
+            seq,
+            floor,
+            op,
+        },
+    )
 }
 
-/// The datagram of a request goes out, or nothing does when out of memory.
+// The datagram of a request that tells this floor goes out. It takes no memory.
 #[tactic(auto, unfolding(cx_field::specs::Fields::seq, cx_wire::specs::Format::u64))]
-pub fn send(event: &Event, out: &mut Outbox) -> Result<(), NoMemory>
-    requires empty { out.old.list ≡ [] }
-    requires taken { IsTrue (is_valid_event event.now) }
-    ensures sent { OnOk result (out.new.list ≡ request event.now) }
-    ensures nothing { OnErr result (out.new.list ≡ []) }
+fn send(event: &Event, floor: u64, out: &mut Outbox)
+    requires room { 0 < out.old.spare }
+    requires taken { IsTrue (is_valid_event (telling floor event.now)) }
+    ensures list { out.new.list ≡ out.old.list ++ request (telling floor event.now) }
+    ensures spare { out.old.spare ≤ out.new.spare + 1 }
 {
     match event {
-        Event::Write { command, batcher } => {
-            out.room(1)?;
-            out.push(submission(command.client, command.seq, command.op, *batcher));
-        }
+        Event::Write { command, batcher } => out.push(submission(
+            command.client,
+            command.seq,
+            floor,
+            command.op,
+            *batcher,
+        )),
         Event::Read {
             client,
             seq,
             reader,
             replica,
             key,
-        } => {
-            out.room(1)?;
-            out.push(read_req(*client, *reader, *seq, *replica, *key));
-        }
+            ..
+        } => out.push(read_req(*client, *reader, *seq, *replica, *key)),
         _ => {}
     }
-    Ok(())
 }
 
-/// The request at this place of a script goes out, if there is one.
-pub fn send_at(script: &[Event], place: usize, out: &mut Outbox) -> Result<(), NoMemory>
-    requires empty { out.old.list ≡ [] }
-    requires taken { IfSome (slice_get script.now place) (λ event. IsTrue (is_valid_event event)) }
-    ensures sent { OnOk result (out.new.list ≡ request_in (slice_get script.now place)) }
-    ensures nothing { OnErr result (out.new.list ≡ []) }
+// The requests whose numbers are above `sent` go out, in their order, each telling this floor. It takes no memory.
+fn send_above(requests: &[Event], sent: u64, floor: u64, out: &mut Outbox)
+    requires room { length requests.now ≤ out.old.spare }
+    requires taken { IsTrue (list_all (λ (e : Happening). is_valid_event (telling floor e)) requests.now) }
+    ensures { out.new.list ≡ out.old.list ++ requests_of floor (filter (λ (e : Happening). nat_lt sent (number_of e)) requests.now) }
 {
-    match script.get(place) {
-        Some(event) => send(event, out),
-        None => Ok(()),
+    for event in requests {
+        if sent < number_of(event) {
+            send(event, floor, out);
+        }
     }
 }
 
-fn number_of(event: &Event) -> u64
-    ensures { result ≡ number_of event.now }
+/// The outstanding ones of the requests that are left go out, but for those up to the number `sent`. It takes no memory.
+pub fn send_outstanding(left: &[Event], window: usize, sent: u64, out: &mut Outbox)
+    requires rising { IsTrue (rise_above 0 left.now) }
+    requires room { window ≤ out.old.spare }
+    ensures { out.new.list ≡ out.old.list ++ requests_of (floor_for left.now) (filter (λ (e : Happening). nat_lt sent (number_of e)) (outstanding window left.now)) }
 {
-    match event {
-        Event::Write { command, .. } => command.seq,
-        Event::Read { seq, .. } => *seq,
-        _ => 0,
-    }
-}
-
-/// Whether the request at this place of a script has this number.
-pub fn has_number(script: &[Event], place: usize, number: u64) -> bool
-    ensures { result ≡ is_number_of number (slice_get script.now place) }
-{
-    match script.get(place) {
-        Some(event) => number == number_of(event),
-        None => false,
-    }
+    let floor = first_of(left).saturating_sub(1);
+    send_above(outstanding(left, window), sent, floor, out);
 }

@@ -1,6 +1,6 @@
 -- Values that fit where no floor may be told: those that tell none, spelled alike.
-use Rattle.std.proofs.Common.{◌≡◌, ℕ, Bool, true, false, not, ◌&&◌, ◌||◌, List, [], ◌∷◌, Option, None, Some, inl, inr, refl, ap, ◌∙◌}
-use Rattle.std.specs.Prelude.{◌+◌, ◌==◌, nat_le, nat_lt, if◌then◌else◌}
+use Rattle.std.proofs.Common.{◌≡◌, ℕ, Bool, true, false, not, ◌&&◌, List, Option, None, Some, inl, inr, refl, ap, ◌∙◌}
+use Rattle.std.specs.Prelude.{◌+◌, ◌==◌, nat_le, nat_lt}
 use Rattle.std.specs.List.{list_any}
 use Rattle.std.proofs.lemmas.Bool.{cases_Bool}
 use Rattle.cx_base.specs.declared.command.Command.{Command}
@@ -8,11 +8,10 @@ use Rattle.cx_base.specs.declared.command.Op.{Op}
 use Rattle.cx_base.specs.declared.command.Op.TheVariants.{Put, Del, App}
 use Rattle.cx_base.specs.declared.command.Value.{Value}
 use Rattle.cx_base.specs.declared.command.Value.TheVariants.{Noop, Batch}
-use Rattle.cx_base.specs.Fold.{commands_of}
 use Rattle.cx_wire.specs.Format.{Format, u8, u16, only, then_by, ◌▷◌, nothing}
-use Rattle.cx_wire.proofs.Parts.{IsPart, IsShapePart, same-part, then_by-part, ▷-part, shaped-part, counted-part, tagged-part, shape-part}
+use Rattle.cx_wire.proofs.Parts.{IsPart, IsShapePart, same-part, then_by-part, ▷-part, counted-part, tagged-part, shape-part}
 use Rattle.cx_field.specs.declared.parts.Vote.{Vote}
-use Rattle.cx_field.specs.Fields.{seq, slot, round, name, floor_below, told_shape, told_cases, told_op, told_floor, make_command, command_parts, command_with, tells_floor, commands_with, value_shape, value_cases, value_with, in_window, last_passes, vote_with, votes_with}
+use Rattle.cx_field.specs.Fields.{seq, slot, round, name, floor_below, told_shape, told_cases, told_op, told_floor, command_parts, command_with, command, tells_floor, commands_with, value_shape, value_cases, value_with, value, value_tells, in_window, last_passes, vote_with, votes_with}
 
 -- whether a floor is told
 abbrev pub is_told : Option ℕ → Bool
@@ -46,7 +45,7 @@ pub command-part : IsPart tells_floor (command_with false) (command_with true)
 unfolding command_with
 command-part =
     let inner = ▷-part u16 (then_by seq (told_op false)) (then_by seq (told_op true)) (λ (x : ℕ × (Option ℕ × Op)). is_told x.1.0)
-        (then_by-part seq (told_op false) (told_op true) (λ (x : Option ℕ × Op). is_told x.0) (λ number. told_op-part number)) in
+    (then_by-part seq (told_op false) (told_op true) (λ (x : Option ℕ × Op). is_told x.0) (λ number. told_op-part number)) in
     record {
       fits = λ c. inner.fits (command_parts c) ∙ ap (λ b. (u16 ▷ then_by seq (told_op true)).fits (command_parts c) && not b) (tells_is c);
       spells = λ c. inner.spells (command_parts c);
@@ -55,10 +54,6 @@ command-part =
 pub commands-part : IsPart (list_any tells_floor) (commands_with false) (commands_with true)
 unfolding commands_with
 commands-part = counted-part (only (λ n. nat_le 1 n && nat_le n 8) u8) (λ _. command_with false) (λ _. command_with true) tells_floor (λ _. command-part)
-
--- whether a command of a value tells its floor
-abbrev pub value_tells : Value → Bool
-value_tells v = list_any tells_floor (commands_of v)
 
 value_shape-part : (v : Value) → IsShapePart (value_tells v) (value_shape false v) (value_shape true v)
 value_shape-part Noop = told_none 0 nothing tt
@@ -78,3 +73,17 @@ vote-part cw before =
 pub votes-part : (cw : ℕ) → IsPart (list_any (λ (u : Vote). value_tells u.value)) (votes_with false cw) (votes_with true cw)
 unfolding votes_with
 votes-part cw = counted-part (only (λ n. nat_le n 32) u8) (vote_with false cw) (vote_with true cw) (λ (u : Vote). value_tells u.value) (vote-part cw)
+
+-- what is written tells the same, whether a reader may take it or not
+
+either_spells : {A : Type 0} {tells : A → Bool} (f : Bool → Format A) → IsPart tells (f false) (f true) → (floors : Bool) (x : A) → (f floors).spell x ≡ (f true).spell x
+either_spells f part true x = refl
+either_spells f part false x = part.spells x
+
+pub command_spells : (floors : Bool) (c : Command) → (command_with floors).spell c ≡ command.spell c
+unfolding command
+command_spells = either_spells command_with command-part
+
+pub value_spells : (floors : Bool) (v : Value) → (value_with floors).spell v ≡ value.spell v
+unfolding value
+value_spells = either_spells value_with value-part

@@ -14,7 +14,7 @@ use Rattle.cx_base.specs.declared.command.Value.TheVariants as choice
 use Rattle.cx_base.specs.declared.round.Round.{Round}
 use Rattle.cx_wire.specs.Format.{u8, each_fits}
 use Rattle.cx_wire.proofs.Laws.{both}
-use Rattle.cx_field.specs.Fields.{slot, round, grid, command, commands, value, last_passes, in_window, entry, entries, vote, votes, answered, answers, values}
+use Rattle.cx_field.specs.Fields.{slot, round, grid, command, commands_with, commands, value_with, value, last_passes, in_window, entry, entries, vote_with, votes_with, votes, answered, answers, values}
 use Rattle.cx_field.specs.Ranges.{entry_in_range, rounds_rise, vote_in_range, slots_rise}
 use Rattle.cx_field.specs.declared.parts.Entry.{Entry}
 use Rattle.cx_field.specs.declared.parts.Vote.{Vote}
@@ -42,7 +42,7 @@ length-filter p (x ∷ xs) =
 
 -- the commands of a batch fit, and so does each of them
 pub commands_apart : (xs : List Command) → IsTrue (commands.fits xs) → (1 ≤ length xs) × (length xs ≤ 8) × IsTrue (list_all (λ x. command.fits x) xs)
-unfolding commands
+unfolding commands commands_with command
 commands_apart xs h =
     let p = both (u8.fits (length xs) && (nat_le 1 (length xs) && nat_le (length xs) 8)) (eqb (length xs) (length xs) && each_fits (λ _. command) [] xs) h in
     let q = both (u8.fits (length xs)) (nat_le 1 (length xs) && nat_le (length xs) 8) p.0 in
@@ -51,7 +51,7 @@ commands_apart xs h =
     (at_most 1 (length xs) r.0, at_most (length xs) 8 r.1, alike_apart command xs [] s.1)
 
 pub commands_fit : (xs : List Command) → 1 ≤ length xs → length xs ≤ 8 → IsTrue (list_all (λ x. command.fits x) xs) → IsTrue (commands.fits xs)
-unfolding commands
+unfolding commands commands_with command
 commands_fit xs low high h =
     let count = join _ _ (byte_fits (length xs) (omega arith)) (join (nat_le 1 (length xs)) (nat_le (length xs) 8) (is_at_most 1 (length xs) low) (is_at_most (length xs) 8 high)) in
     join (u8.fits (length xs) && (nat_le 1 (length xs) && nat_le (length xs) 8)) (eqb (length xs) (length xs) && each_fits (λ _. command) [] xs) count
@@ -59,15 +59,15 @@ commands_fit xs low high h =
 
 -- a value fits where its commands do
 pub noop_fits : IsTrue (value.fits choice.Noop)
-unfolding value
+unfolding value value_with
 noop_fits = refl
 
 pub batch_fits : (cs : List Command) → IsTrue (commands.fits cs) → IsTrue (value.fits (choice.Batch cs))
-unfolding value
+unfolding value value_with commands
 batch_fits cs h = h
 
 pub commands_of_value : (cs : List Command) → IsTrue (value.fits (choice.Batch cs)) → IsTrue (commands.fits cs)
-unfolding value
+unfolding value value_with commands
 commands_of_value cs h = h
 
 -- the answers of a slot fit, and so does each of them
@@ -167,8 +167,8 @@ vote_shuffle true false c false e = refl
 vote_shuffle false b c true e = refl
 vote_shuffle false b c false e = refl
 
-vote_asks : (cw : ℕ) → AsksToRise (vote cw) (λ v later. nat_lt v.slot later.slot) (λ v. vote_in_range cw v)
-unfolding vote
+vote_asks : (cw : ℕ) → AsksToRise (vote_with true cw) (λ v later. nat_lt v.slot later.slot) (λ v. vote_in_range cw v)
+unfolding vote_with value
 vote_asks cw = record { asks = λ front v. vote_shuffle (round.fits v.round) (slot.fits v.slot) (in_window cw v.slot) (last_passes (λ x. nat_lt x.slot v.slot) front) (value.fits v.value) }
 
 less-trans : (a b c : ℕ) → nat_lt a b ≡ true → nat_lt b c ≡ true → nat_lt a c ≡ true
@@ -179,20 +179,20 @@ slots_pass = record { on = λ x y z. less-trans x.slot y.slot z.slot }
 
 -- the votes of an acceptor fit: at most 32, each in its range, in rising order
 pub votes_apart : (cw : ℕ) (xs : List Vote) → IsTrue ((votes cw).fits xs) → (length xs ≤ 32) × IsTrue (list_all (λ x. vote_in_range cw x) xs) × IsTrue (slots_rise xs)
-unfolding votes
+unfolding votes votes_with
 votes_apart cw xs h =
-    let p = both (u8.fits (length xs) && nat_le (length xs) 32) (eqb (length xs) (length xs) && each_fits (vote cw) [] xs) h in
+    let p = both (u8.fits (length xs) && nat_le (length xs) 32) (eqb (length xs) (length xs) && each_fits (vote_with true cw) [] xs) h in
     let q = both (u8.fits (length xs)) (nat_le (length xs) 32) p.0 in
-    let s = both (eqb (length xs) (length xs)) (each_fits (vote cw) [] xs) p.1 in
-    let t = rising_apart (vote cw) (λ (v : Vote) (later : Vote). nat_lt v.slot later.slot) (λ x. vote_in_range cw x) (vote_asks cw) slots_pass xs [] refl s.1 in
+    let s = both (eqb (length xs) (length xs)) (each_fits (vote_with true cw) [] xs) p.1 in
+    let t = rising_apart (vote_with true cw) (λ (v : Vote) (later : Vote). nat_lt v.slot later.slot) (λ x. vote_in_range cw x) (vote_asks cw) slots_pass xs [] refl s.1 in
     (at_most (length xs) 32 q.1, t.1, t.0)
 
 pub votes_fit : (cw : ℕ) (xs : List Vote) → length xs ≤ 32 → IsTrue (list_all (λ x. vote_in_range cw x) xs) → IsTrue (slots_rise xs) → IsTrue ((votes cw).fits xs)
-unfolding votes
+unfolding votes votes_with
 votes_fit cw xs high h r =
-    join (u8.fits (length xs) && nat_le (length xs) 32) (eqb (length xs) (length xs) && each_fits (vote cw) [] xs)
+    join (u8.fits (length xs) && nat_le (length xs) 32) (eqb (length xs) (length xs) && each_fits (vote_with true cw) [] xs)
     (join (u8.fits (length xs)) (nat_le (length xs) 32) (byte_fits (length xs) (omega arith)) (is_at_most (length xs) 32 high))
-    (join (eqb (length xs) (length xs)) (each_fits (vote cw) [] xs) (eq-eqb (length xs) (length xs) refl) (rising_fits (vote cw) (λ (v : Vote) (later : Vote). nat_lt v.slot later.slot) (λ x. vote_in_range cw x) (vote_asks cw) xs [] r h))
+    (join (eqb (length xs) (length xs)) (each_fits (vote_with true cw) [] xs) (eq-eqb (length xs) (length xs) refl) (rising_fits (vote_with true cw) (λ (v : Vote) (later : Vote). nat_lt v.slot later.slot) (λ x. vote_in_range cw x) (vote_asks cw) xs [] r h))
 
 -- some of them left out
 pub votes_filter : (cw : ℕ) (p : Vote → Bool) (xs : List Vote) → IsTrue ((votes cw).fits xs) → IsTrue ((votes cw).fits (filter p xs))

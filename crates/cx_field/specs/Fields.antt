@@ -1,7 +1,9 @@
 -- The fields of messages and records: which bytes spell each, and which values each may have.
 use Rattle.std.specs.Prelude.{ℕ, ◌+◌, ◌-◌, ◌*◌, ◌^◌, Bool, true, false, ◌&&◌, ◌||◌, not, ◌==◌, nat_lt, nat_le, List, [], ◌∷◌, length, Option, Some, None, slice_get, if◌then◌else◌}
+use Rattle.std.specs.List.{list_any}
 use Rattle.std.specs.Option.{option_map_or}
 use Rattle.cx_base.specs.Asked.{floor_fits}
+use Rattle.cx_base.specs.Fold.{commands_of}
 use Rattle.cx_base.specs.Name.{is_name_byte}
 use Rattle.cx_base.specs.Grid.{Shape as GridShape, make_grid, is_in}
 use Rattle.cx_base.specs.Round.{is_before}
@@ -155,6 +157,10 @@ value_with floors = tagged (value_shape floors) (value_cases floors)
 
 unfoldable pub value : Format Value
 value = value_with true
+
+-- whether a command of a value tells its floor
+abbrev pub value_tells : Value → Bool
+value_tells v = list_any tells_floor (commands_of v)
 
 -- the length of a text in a reply
 unfoldable pub reply_len : Format ℕ

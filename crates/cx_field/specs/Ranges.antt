@@ -2,11 +2,19 @@
 use Rattle.std.specs.Prelude.{ℕ, Bool, true, ◌&&◌, nat_lt, nat_le, List, [], ◌∷◌}
 use Rattle.std.specs.List.{list_all}
 use Rattle.cx_base.specs.Round.{is_before}
+use Rattle.cx_base.specs.declared.command.Op.{Op}
+use Rattle.cx_base.specs.declared.command.Op.TheVariants.{Put, Del, App}
 use Rattle.cx_base.specs.declared.command.Reply.{Reply}
 use Rattle.cx_base.specs.declared.command.Reply.TheVariants.{Okay, Was, Absent, Len, Full}
-use Rattle.cx_field.specs.Fields.{round, grid, slot, value, in_window}
+use Rattle.cx_field.specs.Fields.{round, grid, slot, name, value, in_window}
 use Rattle.cx_field.specs.declared.parts.Entry.{Entry}
 use Rattle.cx_field.specs.declared.parts.Vote.{Vote}
+
+-- whether the key and the text of an operation are in their ranges
+abbrev pub op_in_range : Op → Bool
+op_in_range (Put key text) = (name 32).fits key && (name 64).fits text
+op_in_range (Del key) = (name 32).fits key
+op_in_range (App key text) = (name 32).fits key && (name 64).fits text
 
 -- whether a length in a reply is that of a text
 abbrev pub is_text_len : Reply → Bool

@@ -7,6 +7,7 @@ ghost use Rattle.std.specs.List.{list_all};
 ghost use Rattle.cx_base.specs.Name.{is_name_byte, IsName};
 ghost use Rattle.cx_base.specs.Grid.{IsGrid};
 ghost use Rattle.cx_wire.specs.Format as wire;
+ghost use Rattle.cx_wire.specs.Format.{◌▷◌};
 ghost use Rattle.cx_field.specs.Fields as field;
 ghost use Rattle.cx_field.specs.Reading.{Reads, Gives};
 
@@ -16,9 +17,13 @@ use crate::lists::{AnsweredItems, CommandItems, EntryItems, MemberItems, ValueIt
 use crate::parts::{Answers, Entries, LogValues, NackReason, Token, Votes};
 use crate::reader::Reader;
 use cx_base::{
-    Command, Commands, Few, Grid, MEMBERS, Name, Op, Reply, Round, SLOTS, Text, Value, is_name_byte,
+    Command, Commands, Few, Grid, Key, MEMBERS, Name, Op, Reply, Round, SLOTS, Text, Value,
+    is_name_byte,
 };
 use std::alloc::Global;
+
+// How far below its number a command's floor may be: the most numbers that a client has outstanding.
+const FLOOR_DEPTH: u64 = 64;
 
 /// A slot, below 2^40, in eight bytes.
 #[tactic(auto, unfolding(crate::specs::Fields::slot))]
@@ -62,7 +67,8 @@ pub fn at_from(reader: &mut Reader<'_>) -> Result<u64, ReadFault>
 /// A client's number of a request, 1 or more, in eight bytes.
 #[tactic(auto, unfolding(crate::specs::Fields::seq))]
 pub fn seq_from(reader: &mut Reader<'_>) -> Result<u64, ReadFault>
-    ensures { Reads field.seq reader.old result reader.new }
+    ensures read { Reads field.seq reader.old result reader.new }
+    ensures some { IfOk result (λ n. 1 ≤ n) }
 {
     let left = reader.left();
     let seq = reader.u64()?;
@@ -123,23 +129,61 @@ fn name_byte_from(reader: &mut Reader<'_>) -> Result<u8, ReadFault>
     Ok(byte)
 }
 
-/// An operation: a byte, 1 put, 2 del or 3 app, and its key and text.
-#[tactic(auto, unfolding(crate::specs::Fields::op))]
-pub fn op_from(reader: &mut Reader<'_>) -> Result<Op, ReadFault>
-    ensures { Reads field.op reader.old result reader.new }
+// A floor that is told with a client's number.
+#[tactic(auto, unfolding(crate::specs::Fields::floor_below))]
+fn floor_below_from(number: u64, reader: &mut Reader<'_>) -> Result<u64, ReadFault>
+    ensures { Reads (field.floor_below number) reader.old result reader.new }
+{
+    let left = reader.left();
+    let floor = reader.u64()?;
+    let below = number.saturating_sub(floor);
+    if below < 2 || below > FLOOR_DEPTH {
+        return Err(ReadFault::Bad { left });
+    }
+    Ok(floor)
+}
+
+fn key_text_from(reader: &mut Reader<'_>) -> Result<(Key, Text), ReadFault>
+    ensures { Reads (field.name 32 ▷ field.name 64) reader.old result reader.new }
+{
+    let key = name_from(reader)?;
+    let text = name_from(reader)?;
+    Ok((key, text))
+}
+
+// An operation of the command with this number, and the floor that is told before its key, if one is.
+#[tactic(auto, unfolding(crate::specs::Fields::told_op))]
+fn told_op_from(
+    floors: bool,
+    number: u64,
+    reader: &mut Reader<'_>,
+) -> Result<(Option<u64>, Op), ReadFault>
+    ensures { Reads (field.told_op floors number) reader.old result reader.new }
 {
     let left = reader.left();
     match reader.u8()? {
         1 => {
-            let key = name_from(reader)?;
-            let text = name_from(reader)?;
-            Ok(Op::Put(key, text))
+            let (key, text) = key_text_from(reader)?;
+            Ok((None, Op::Put(key, text)))
         }
-        2 => Ok(Op::Del(name_from(reader)?)),
+        2 => Ok((None, Op::Del(name_from(reader)?))),
         3 => {
-            let key = name_from(reader)?;
-            let text = name_from(reader)?;
-            Ok(Op::App(key, text))
+            let (key, text) = key_text_from(reader)?;
+            Ok((None, Op::App(key, text)))
+        }
+        4 if floors => {
+            let floor = floor_below_from(number, reader)?;
+            let (key, text) = key_text_from(reader)?;
+            Ok((Some(floor), Op::Put(key, text)))
+        }
+        5 if floors => {
+            let floor = floor_below_from(number, reader)?;
+            Ok((Some(floor), Op::Del(name_from(reader)?)))
+        }
+        6 if floors => {
+            let floor = floor_below_from(number, reader)?;
+            let (key, text) = key_text_from(reader)?;
+            Ok((Some(floor), Op::App(key, text)))
         }
         _ => Err(ReadFault::Bad { left }),
     }
@@ -187,35 +231,48 @@ fn name_bytes_from<'a>(count: usize, reader: &mut Reader<'a>) -> Result<&'a [u8]
     Ok(&bytes[..count])
 }
 
-/// A command: its client in two bytes, its number and its operation.
-#[tactic(auto, unfolding(crate::specs::Fields::command))]
-pub fn command_from(reader: &mut Reader<'_>) -> Result<Command, ReadFault>
-    ensures { Reads field.command reader.old result reader.new }
+/// A command: its client in two bytes, its number, a byte for its operation (1 put, 2 del, 3 app, with a floor 4 put,
+/// 5 del, 6 app), the floor in eight bytes where one is told, and the key and text. A floor that isn't told is the number
+/// just below the command's. One that is told is below that, and at most 64 below the command's; a floor may be told only
+/// where `floors` says so, else the operations 4 to 6 are out of range.
+#[tactic(auto, unfolding(crate::specs::Fields::command_with))]
+pub fn command_from(floors: bool, reader: &mut Reader<'_>) -> Result<Command, ReadFault>
+    ensures { Reads (field.command_with floors) reader.old result reader.new }
 {
     let client = reader.u16()?;
     let seq = seq_from(reader)?;
-    let op = op_from(reader)?;
-    Ok(Command { client, seq, op })
+    let (told, op) = told_op_from(floors, seq, reader)?;
+    let floor = told.unwrap_or(seq - 1);
+    Ok(Command {
+        client,
+        seq,
+        floor,
+        op,
+    })
 }
 
-/// Commands: how many in a byte, 1 to 8, and each.
-#[tactic(auto, unfolding(crate::specs::Fields::commands))]
-pub fn commands_from(alloc: Global, reader: &mut Reader<'_>) -> Result<Commands, ReadFault>
-    ensures { Reads field.commands reader.old result reader.new }
+/// Commands: how many in a byte, 1 to 8, and each, which may tell its floor where `floors` says so.
+#[tactic(auto, unfolding(crate::specs::Fields::commands_with))]
+pub fn commands_from(
+    alloc: Global,
+    floors: bool,
+    reader: &mut Reader<'_>,
+) -> Result<Commands, ReadFault>
+    ensures { Reads (field.commands_with floors) reader.old result reader.new }
 {
-    let list = list_from(alloc, &CommandItems, 1, 8, reader)?;
+    let list = list_from(alloc, &CommandItems { floors }, 1, 8, reader)?;
     Ok(Few::from_vec(list))
 }
 
-/// A value: a byte, 0 for none to do or 1 before commands.
-#[tactic(auto, unfolding(crate::specs::Fields::value))]
-pub fn value_from(alloc: Global, reader: &mut Reader<'_>) -> Result<Value, ReadFault>
-    ensures { Reads field.value reader.old result reader.new }
+/// A value: a byte, 0 for none to do or 1 before commands, which may tell their floors where `floors` says so.
+#[tactic(auto, unfolding(crate::specs::Fields::value_with))]
+pub fn value_from(alloc: Global, floors: bool, reader: &mut Reader<'_>) -> Result<Value, ReadFault>
+    ensures { Reads (field.value_with floors) reader.old result reader.new }
 {
     let left = reader.left();
     match reader.u8()? {
         0 => Ok(Value::Noop),
-        1 => Ok(Value::Batch(commands_from(alloc, reader)?)),
+        1 => Ok(Value::Batch(commands_from(alloc, floors, reader)?)),
         _ => Err(ReadFault::Bad { left }),
     }
 }
@@ -316,12 +373,17 @@ pub fn entries_from(alloc: Global, reader: &mut Reader<'_>) -> Result<Entries, R
 }
 
 /// Votes of an acceptor: how many in a byte, at most 32, and each: a round, a slot above the one before, at `cw` to
-/// `cw` + 31, and a value.
-#[tactic(auto, unfolding(crate::specs::Fields::votes))]
-pub fn votes_from(alloc: Global, cw: u64, reader: &mut Reader<'_>) -> Result<Votes, ReadFault>
-    ensures { Reads (field.votes cw) reader.old result reader.new }
+/// `cw` + 31, and a value, whose commands may tell their floors where `floors` says so.
+#[tactic(auto, unfolding(crate::specs::Fields::votes_with))]
+pub fn votes_from(
+    alloc: Global,
+    floors: bool,
+    cw: u64,
+    reader: &mut Reader<'_>,
+) -> Result<Votes, ReadFault>
+    ensures { Reads (field.votes_with floors cw) reader.old result reader.new }
 {
-    let list = list_from(alloc, &VoteItems { cw }, 0, 32, reader)?;
+    let list = list_from(alloc, &VoteItems { floors, cw }, 0, 32, reader)?;
     Ok(Few::from_vec(list))
 }
 
@@ -334,7 +396,7 @@ pub fn answers_from(alloc: Global, reader: &mut Reader<'_>) -> Result<Answers, R
     Ok(Few::from_vec(list))
 }
 
-/// Values: how many in a byte, 1 to 32, and each.
+/// Values: how many in a byte, 1 to 32, and each, whose commands may tell their floors.
 #[tactic(auto, unfolding(crate::specs::Fields::values))]
 pub fn values_from(alloc: Global, reader: &mut Reader<'_>) -> Result<LogValues, ReadFault>
     ensures { Reads field.values reader.old result reader.new }

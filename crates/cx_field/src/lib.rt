@@ -26,5 +26,5 @@ pub use put::{
     put_name, put_reason, put_reply, put_round, put_seq, put_slot, put_token, put_value,
     put_values, put_votes,
 };
-pub use ranges::{found_fits, grid_fits, name_fits, op_fits, reason_fits, reply_fits};
+pub use ranges::{command_fits, found_fits, grid_fits, name_fits, reason_fits, reply_fits};
 pub use reader::Reader;

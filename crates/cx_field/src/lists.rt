@@ -18,15 +18,18 @@ use cx_base::{Answered, Command, NoMemory, Value, WINDOW};
 use cx_wire::put_u16;
 use std::alloc::Global;
 
-/// Commands, one like the other.
-pub struct CommandItems;
+/// Commands, one like the other, which may tell their floors where `floors` says so.
+#[derive(Clone, Copy)]
+pub struct CommandItems {
+    pub floors: bool,
+}
 
 impl Items for CommandItems {
     type Item = Command;
 
-    ghost format = { λ _ _. field.command };
+    ghost format = { λ items _. field.command_with items.floors };
 
-    ghost most = { 109 };
+    ghost most = { 117 };
 
     fn next_from(
         &self,
@@ -34,9 +37,10 @@ impl Items for CommandItems {
         _before: &[Command],
         reader: &mut Reader<'_>,
     ) -> Result<Command, ReadFault> {
-        command_from(reader)
+        command_from(self.floors, reader)
     }
 
+    #[tactic(auto, using(crate::proofs::Floors::command_spells))]
     fn put_next(&self, command: &Command, out: &mut Vec<u8>) -> Result<(), NoMemory> {
         put_command(out, command)
     }
@@ -116,20 +120,22 @@ impl Items for EntryItems {
     }
 }
 
-/// Votes of an acceptor, of rising slots of the window that begins at `cw`.
+/// Votes of an acceptor, of rising slots of the window that begins at `cw`, whose commands may tell their floors where
+/// `floors` says so.
 #[derive(Clone, Copy)]
 pub struct VoteItems {
+    pub floors: bool,
     pub cw: u64,
 }
 
 impl Items for VoteItems {
     type Item = Vote;
 
-    ghost format = { λ items before. field.vote items.cw before };
+    ghost format = { λ items before. field.vote_with items.floors items.cw before };
 
-    ghost most = { 892 };
+    ghost most = { 956 };
 
-    #[tactic(auto, unfolding(crate::specs::Fields::vote))]
+    #[tactic(auto, unfolding(crate::specs::Fields::vote_with))]
     fn next_from(
         &self,
         alloc: Global,
@@ -143,11 +149,11 @@ impl Items for VoteItems {
         if slot < self.cw || slot - self.cw >= WINDOW || !rises {
             return Err(ReadFault::Bad { left });
         }
-        let value = value_from(alloc, reader)?;
+        let value = value_from(alloc, self.floors, reader)?;
         Ok(Vote { round, slot, value })
     }
 
-    #[tactic(auto, unfolding(crate::specs::Fields::vote))]
+    #[tactic(auto, unfolding(crate::specs::Fields::vote_with))]
     fn put_next(&self, vote: &Vote, out: &mut Vec<u8>) -> Result<(), NoMemory> {
         put_round(out, &vote.round)?;
         put_slot(out, vote.slot)?;
@@ -193,7 +199,7 @@ impl Items for AnsweredItems {
     }
 }
 
-/// Values, one like the other.
+/// Values, one like the other, whose commands may tell their floors.
 pub struct ValueItems;
 
 impl Items for ValueItems {
@@ -201,15 +207,16 @@ impl Items for ValueItems {
 
     ghost format = { λ _ _. field.value };
 
-    ghost most = { 874 };
+    ghost most = { 938 };
 
+    #[tactic(auto, unfolding(crate::specs::Fields::value))]
     fn next_from(
         &self,
         alloc: Global,
         _before: &[Value],
         reader: &mut Reader<'_>,
     ) -> Result<Value, ReadFault> {
-        value_from(alloc, reader)
+        value_from(alloc, true, reader)
     }
 
     fn put_next(&self, value: &Value, out: &mut Vec<u8>) -> Result<(), NoMemory> {

@@ -1,14 +1,15 @@
 //! The fields of messages and records, appended to bytes. Out of memory, it may leave a part appended.
 
-ghost use Rattle.std.specs.Prelude.{◌≡◌, ◌≤◌, ◌+◌, ◌*◌, ◌++◌, [], length, OnOk};
+ghost use Rattle.std.specs.Prelude.{◌≡◌, ◌≤◌, ◌+◌, ◌*◌, ◌++◌, ℕ, true, [], length, OnOk};
 ghost use Rattle.cx_wire.specs.Format as wire;
 ghost use Rattle.cx_field.specs.Fields as field;
-ghost use Rattle.cx_wire.specs.Format.{Appends};
+ghost use Rattle.cx_field.specs.Fields.{told_floor};
+ghost use Rattle.cx_wire.specs.Format.{Appends, ◌▷◌};
 
 use crate::items::put_items;
 use crate::lists::{AnsweredItems, CommandItems, EntryItems, MemberItems, ValueItems, VoteItems};
 use crate::parts::{Answers, Entries, LogValues, NackReason, Token, Votes};
-use cx_base::{Command, Commands, Grid, Name, NoMemory, Op, Reply, Round, Text, Value};
+use cx_base::{Command, Commands, Grid, Key, Name, NoMemory, Op, Reply, Round, Text, Value};
 use cx_wire::{put_u8, put_u16, put_u32, put_u64};
 
 /// Appends a slot, eight bytes.
@@ -84,53 +85,88 @@ pub fn put_name<const N: usize>(out: &mut Vec<u8>, name: &Name<N>) -> Result<(),
     put_name_bytes(out, bytes)
 }
 
-/// Appends an operation, at most 99 bytes.
-#[tactic(auto, unfolding(crate::specs::Fields::op))]
-pub fn put_op(out: &mut Vec<u8>, op: &Op) -> Result<(), NoMemory>
-    ensures { OnOk result (Appends field.op op.now 99 out.old.items out.new.items) }
+// The floor that is told with a number: none where it is the one just below.
+fn told_floor(number: u64, floor: u64) -> Option<u64>
+    ensures { result ≡ told_floor number floor }
 {
-    match op {
-        Op::Put(key, text) => {
-            put_u8(out, 1)?;
-            put_name(out, key)?;
-            put_name(out, text)
-        }
-        Op::Del(key) => {
-            put_u8(out, 2)?;
-            put_name(out, key)
-        }
-        Op::App(key, text) => {
-            put_u8(out, 3)?;
-            put_name(out, key)?;
-            put_name(out, text)
-        }
+    if number.checked_sub(floor) == Some(1) {
+        return None;
+    }
+    Some(floor)
+}
+
+fn put_key_text(out: &mut Vec<u8>, key: &Key, text: &Text) -> Result<(), NoMemory>
+    ensures { OnOk result (Appends (field.name 32 ▷ field.name 64) (key.now, text.now) 98 out.old.items out.new.items) }
+{
+    put_name(out, key)?;
+    put_name(out, text)
+}
+
+// Appends an operation, with the floor that is told before its key, if one is. The bytes are the same with each number.
+#[tactic(auto, unfolding(crate::specs::Fields::told_op, crate::specs::Fields::floor_below))]
+fn put_told_op(out: &mut Vec<u8>, told: Option<u64>, op: &Op) -> Result<(), NoMemory>
+    ensures { OnOk result ((number : ℕ) → Appends (field.told_op true number) (told, op.now) 107 out.old.items out.new.items) }
+{
+    match told {
+        None => match op {
+            Op::Put(key, text) => {
+                put_u8(out, 1)?;
+                put_key_text(out, key, text)
+            }
+            Op::Del(key) => {
+                put_u8(out, 2)?;
+                put_name(out, key)
+            }
+            Op::App(key, text) => {
+                put_u8(out, 3)?;
+                put_key_text(out, key, text)
+            }
+        },
+        Some(floor) => match op {
+            Op::Put(key, text) => {
+                put_u8(out, 4)?;
+                put_u64(out, floor)?;
+                put_key_text(out, key, text)
+            }
+            Op::Del(key) => {
+                put_u8(out, 5)?;
+                put_u64(out, floor)?;
+                put_name(out, key)
+            }
+            Op::App(key, text) => {
+                put_u8(out, 6)?;
+                put_u64(out, floor)?;
+                put_key_text(out, key, text)
+            }
+        },
     }
 }
 
-/// Appends a command, at most 109 bytes.
-#[tactic(auto, unfolding(crate::specs::Fields::command))]
+/// Appends a command, at most 117 bytes. Its floor is told exactly where it isn't the number just below the command's.
+#[tactic(auto, unfolding(crate::specs::Fields::command, crate::specs::Fields::command_with))]
 pub fn put_command(out: &mut Vec<u8>, command: &Command) -> Result<(), NoMemory>
-    ensures { OnOk result (Appends field.command command.now 109 out.old.items out.new.items) }
+    ensures { OnOk result (Appends field.command command.now 117 out.old.items out.new.items) }
 {
+    let told = told_floor(command.seq, command.floor);
     put_u16(out, command.client)?;
     put_seq(out, command.seq)?;
-    put_op(out, &command.op)
+    put_told_op(out, told, &command.op)
 }
 
-/// Appends commands, at most 873 bytes.
-#[tactic(auto, unfolding(crate::specs::Fields::commands))]
+/// Appends commands, at most 937 bytes.
+#[tactic(auto, unfolding(crate::specs::Fields::commands, crate::specs::Fields::commands_with))]
 pub fn put_commands(out: &mut Vec<u8>, commands: &Commands) -> Result<(), NoMemory>
-    ensures { OnOk result (Appends field.commands commands.now 873 out.old.items out.new.items) }
+    ensures { OnOk result (Appends field.commands commands.now 937 out.old.items out.new.items) }
 {
     let list = commands.as_slice();
     put_u8(out, list.len() as u8)?;
-    put_items(&CommandItems, list, out)
+    put_items(&CommandItems { floors: true }, list, out)
 }
 
-/// Appends a value, at most 874 bytes.
-#[tactic(auto, unfolding(crate::specs::Fields::value))]
+/// Appends a value, at most 938 bytes.
+#[tactic(auto, unfolding(crate::specs::Fields::value, crate::specs::Fields::value_with, crate::specs::Fields::commands))]
 pub fn put_value(out: &mut Vec<u8>, value: &Value) -> Result<(), NoMemory>
-    ensures { OnOk result (Appends field.value value.now 874 out.old.items out.new.items) }
+    ensures { OnOk result (Appends field.value value.now 938 out.old.items out.new.items) }
 {
     match value {
         Value::Noop => put_u8(out, 0),
@@ -171,14 +207,14 @@ pub fn put_entries(out: &mut Vec<u8>, entries: &Entries) -> Result<(), NoMemory>
     put_items(&EntryItems, list, out)
 }
 
-/// Appends votes of an acceptor, at most 28,545 bytes.
-#[tactic(auto, unfolding(crate::specs::Fields::votes))]
+/// Appends votes of an acceptor, at most 30,593 bytes.
+#[tactic(auto, unfolding(crate::specs::Fields::votes, crate::specs::Fields::votes_with))]
 pub fn put_votes(out: &mut Vec<u8>, cw: u64, votes: &Votes) -> Result<(), NoMemory>
-    ensures { OnOk result (Appends (field.votes cw) votes.now 28545 out.old.items out.new.items) }
+    ensures { OnOk result (Appends (field.votes cw) votes.now 30593 out.old.items out.new.items) }
 {
     let list = votes.as_slice();
     put_u8(out, list.len() as u8)?;
-    put_items(&VoteItems { cw }, list, out)
+    put_items(&VoteItems { floors: true, cw }, list, out)
 }
 
 /// Appends answers, at most 673 bytes.
@@ -226,10 +262,10 @@ pub fn put_token(out: &mut Vec<u8>, token: &Token) -> Result<(), NoMemory>
     put_seq(out, token.seq)
 }
 
-/// Appends values, at most 27,969 bytes.
+/// Appends values, at most 30,017 bytes.
 #[tactic(auto, unfolding(crate::specs::Fields::values))]
 pub fn put_values(out: &mut Vec<u8>, values: &LogValues) -> Result<(), NoMemory>
-    ensures { OnOk result (Appends field.values values.now 27969 out.old.items out.new.items) }
+    ensures { OnOk result (Appends field.values values.now 30017 out.old.items out.new.items) }
 {
     let list = values.as_slice();
     put_u8(out, list.len() as u8)?;

@@ -1,17 +1,24 @@
 //! What the types of fields say of their ranges. These calls do nothing when they run; they give their caller a fact.
 
-ghost use Rattle.std.specs.Prelude.{◌≡◌, ◌<◌, ◌≤◌, ℕ, slice_index, IsTrue};
+ghost use Rattle.std.specs.Prelude.{◌≡◌, ◌<◌, ◌≤◌, ◌^◌, ℕ, slice_index, IsTrue};
+ghost use Rattle.cx_base.specs.Asked.{floor_fits};
 ghost use Rattle.cx_base.specs.Grid.{IsGrid};
 ghost use Rattle.cx_base.specs.Name.{IsName};
 ghost use Rattle.cx_field.specs.Fields as field;
-ghost use Rattle.cx_field.specs.Ranges.{is_text_len};
+ghost use Rattle.cx_field.specs.Ranges.{is_text_len, op_in_range};
 
 use crate::parts::NackReason;
-use cx_base::{Grid, Name, Op, Reply, Text};
+use cx_base::{Command, Grid, Name, Op, Reply, Text};
 
 // Ids take two bytes.
 fn ids_fit(ids: &[u16])
     ensures { (i : ℕ) → slice_index ids.now i < 65536 }
+{}
+
+// A client takes two bytes, and its number eight.
+fn numbers_fit(client: u16, number: u64)
+    ensures client { client < 65536 }
+    ensures number { number < 2 ^ 64 }
 {}
 
 /// Each grid has a spelling.
@@ -29,10 +36,9 @@ pub fn name_fits<const N: usize>(name: &Name<N>)
     let _bytes = name.as_bytes();
 }
 
-/// Each operation has a spelling.
-#[tactic(auto, unfolding(crate::specs::Fields::op))]
-pub fn op_fits(op: &Op)
-    ensures { IsTrue (field.op.fits op.now) }
+// Each key and each text has a spelling.
+fn op_fits(op: &Op)
+    ensures { IsTrue (op_in_range op.now) }
 {
     match op {
         Op::Put(key, text) | Op::App(key, text) => {
@@ -41,6 +47,15 @@ pub fn op_fits(op: &Op)
         }
         Op::Del(key) => name_fits(key),
     }
+}
+
+/// A command has a spelling, where its floor fits its number.
+pub fn command_fits(command: &Command)
+    requires { IsTrue (floor_fits command.now.seq command.now.floor) }
+    ensures { IsTrue (field.command.fits command.now) }
+{
+    numbers_fit(command.client, command.seq);
+    op_fits(&command.op);
 }
 
 /// What a read found has a spelling.

@@ -1,10 +1,6 @@
 pub mod Among
+pub mod Asking
 pub mod Counting
-pub mod Covered
 pub mod Keeping
-pub mod Noting
-pub mod Numbered
-pub mod Owned
 pub mod Shorts
 pub mod Steps
-pub mod Walking

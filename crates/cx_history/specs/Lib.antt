@@ -2,6 +2,5 @@ pub mod Answers
 pub mod Begins
 pub mod Held
 pub mod Kept
-pub mod Own
 pub mod Requests
 pub mod Short

@@ -1,76 +1,239 @@
-//! The requests that were sent, held as bytes.
+//! What tells whether a request may not be made any more.
 
-ghost use Rattle.std.specs.Prelude.{◌≡◌, ◌++◌, ◌∷◌, [], OnOk, OnErr, Some, None, length, slice_get, option_map, if◌then◌else◌};
-ghost use Rattle.cx_history.specs.Requests.{Noted, asked, is_long, noted_at};
+ghost use Rattle.std.specs.Prelude.{◌≡◌, ◌<◌, ◌==◌, ◌||◌, ◌++◌, ◌∷◌, [], not, ℕ, List, Some, None, IfOk, OnOk, OnErr, if◌then◌else◌};
+ghost use Rattle.std.specs.Str.{bytes_eq};
+ghost use Rattle.indexmap.specs.IndexMap.{spare};
+ghost use Rattle.cx_field.specs.declared.parts.Token.{Token as Named};
+ghost use Rattle.cx_model.specs.Request.{floor_in, same_read, token_of};
+ghost use Rattle.cx_history.specs.Held.{ArePlaces, IsPlace, Notes, asked_with, asks_other, floor_told, is_stale_by, number_of, raised};
+ghost use Rattle.cx_history.specs.Requests.{asked, sent_token};
 
-use crate::scratch::held;
-use cx_base::{Event, NoMemory};
+use crate::scratch::Scratch;
+use cx_base::{Event, Happened, NoMemory, Why};
 use cx_field::Token;
 use cx_pieces::Pieces;
+use indexmap::IndexMap;
 use std::alloc::Global;
 use std::marker::Model;
 
-/// The requests that were sent, in the order of sending: of each its client, its number and what it asks, in one piece of bytes.
+// A client's number, under which the map finds what was asked with it.
+#[derive(Clone, Copy, PartialEq, Eq, Hash)]
+struct Number {
+    client: u16,
+    seq: u64,
+}
+
+// What was asked with a number.
+#[derive(Clone, Copy, Drop)]
+enum Asked {
+    // What the piece of this number says, each time.
+    One(u32),
+    // Not the same each time, which no run has.
+    Several,
+}
+
+/// The requests that were sent: what was asked with each client's number, and the greatest floor that each client told. A repeat
+/// takes no room.
 #[derive(Drop)]
 pub struct Requests {
+    asked: IndexMap<Number, Asked>,
+    // What was asked, as bytes.
     pieces: Pieces,
+    floors: IndexMap<u16, u64>,
 }
 
 impl Model for Requests {
-    ghost use Rattle.std.specs.Prelude.{◌≡◌, List, true, map};
-    ghost use Rattle.std.specs.List.{list_all};
-    ghost use Rattle.cx_history.specs.Requests.{Noted, is_long, noted_at};
+    ghost use Rattle.cx_history.specs.Held.{Held};
 
-    ghost Value = { List Noted };
+    ghost Value = { Held };
 
-    ghost view = { λ r. map noted_at r.pieces };
-
-    ghost invariant = { λ r. list_all is_long r.pieces ≡ true };
+    ghost view = { λ r. record { asked = r.asked.entries; pieces = r.pieces; floors = r.floors.entries } };
 }
 
-// The request that bytes hold; none where they are fewer than a client and a number take.
-fn read(piece: &[u8]) -> Option<(Token, &[u8])>
-    ensures { option_map (λ r. record { token = r.0; asks = r.1.now }) result ≡ (if is_long piece.now then Some (noted_at piece.now) else None) }
+fn number_of(token: Token) -> Number
+    ensures { result ≡ number_of token }
 {
-    let (client, rest) = piece.split_first_chunk::<2>()?;
-    let (seq, asks) = rest.split_first_chunk::<8>()?;
-    let token = Token {
-        client: u16::from_be_bytes(*client),
-        seq: u64::from_be_bytes(*seq),
+    Number {
+        client: token.client,
+        seq: token.seq,
+    }
+}
+
+// The client and the number of a request, of another event none.
+fn token_of(event: &Event) -> Option<Token>
+    ensures { result ≡ token_of event.now }
+{
+    match event {
+        Event::Write { command, .. } => Some(Token {
+            client: command.client,
+            seq: command.seq,
+        }),
+        Event::Read { client, seq, .. } => Some(Token {
+            client: *client,
+            seq: *seq,
+        }),
+        _ => None,
+    }
+}
+
+// The client and the number of a request that was sent, of another event none.
+fn sent_token(happened: &Happened) -> Option<Token>
+    ensures { result ≡ sent_token happened.now }
+{
+    if !matches!(happened.why, Why::Sent) {
+        return None;
+    }
+    token_of(&happened.event)
+}
+
+// The floor that a request tells, 0 of another event.
+fn floor_in(event: &Event) -> u64
+    ensures { result ≡ floor_in event.now }
+{
+    match event {
+        Event::Write { command, .. } => command.floor,
+        Event::Read { floor, .. } => *floor,
+        _ => 0,
+    }
+}
+
+// What was asked with a client's number.
+fn asked_with(asked: &IndexMap<Number, Asked>, token: Token) -> Option<Asked>
+    ensures { result ≡ asked_with token asked.now.entries }
+{
+    asked.get(&number_of(token)).copied()
+}
+
+// The greatest floor that a client told.
+fn floor_told(floors: &IndexMap<u16, u64>, client: u16) -> Option<u64>
+    ensures { result ≡ floor_told client floors.now.entries }
+{
+    floors.get(&client).copied()
+}
+
+// Whether something else was asked than this.
+fn asks_other(pieces: &Pieces, asked: Asked, asks: &[u8]) -> bool
+    ensures { result ≡ asks_other pieces.now (Some asked) asks.now }
+{
+    match asked {
+        Asked::One(piece) => match pieces.get(piece as usize) {
+            Some(others) => asks != others,
+            None => true,
+        },
+        Asked::Several => true,
+    }
+}
+
+// A number that four bytes hold; none is greater among pieces that memory holds.
+fn small(number: usize) -> Result<u32, NoMemory>
+    ensures { IfOk result (λ n. n ≡ number) }
+{
+    u32::try_from(number).map_err(|_| NoMemory)
+}
+
+// What was asked with a number, once this is asked with it too.
+fn ask(pieces: &mut Pieces, earlier: Option<Asked>, asks: &[u8]) -> Result<Asked, NoMemory>
+    requires { IsPlace pieces.old earlier }
+    ensures grows { OnOk result ((more : List (List ℕ)) × (pieces.new ≡ pieces.old ++ more)) }
+    ensures place { IfOk result (λ asked. IsPlace pieces.new (Some asked)) }
+    ensures others { IfOk result (λ asked. (other : List ℕ) → asks_other pieces.new (Some asked) other ≡ (asks_other pieces.old earlier other || not (bytes_eq other asks.now))) }
+    ensures err { OnErr result (pieces.new ≡ pieces.old) }
+{
+    match earlier {
+        None => {
+            let piece = small(pieces.len())?;
+            pieces.push(asks)?;
+            Ok(Asked::One(piece))
+        }
+        Some(asked) => {
+            if asks_other(pieces, asked, asks) {
+                return Ok(Asked::Several);
+            }
+            Ok(asked)
+        }
+    }
+}
+
+// Notes what is asked with a number. Room was taken beforehand.
+fn put_asked(map: &mut IndexMap<Number, Asked>, token: Token, asked: Asked)
+    requires { 0 < spare map.old }
+    ensures { (t : Named) → asked_with t map.new.entries ≡ (if same_read token t then Some asked else asked_with t map.old.entries) }
+{
+    match map.insert(number_of(token), asked) {
+        Ok(_) => {}
+        // There is room.
+        Err(_) => unreachable!(),
+    }
+}
+
+// Notes a floor that a client tells. Room was taken beforehand.
+fn raise(floors: &mut IndexMap<u16, u64>, client: u16, floor: u64)
+    requires { 0 < spare floors.old }
+    ensures { (c : ℕ) → floor_told c floors.new.entries ≡ (if client == c then Some (raised (floor_told client floors.old.entries) floor) else floor_told c floors.old.entries) }
+{
+    let greatest = match floor_told(floors, client) {
+        Some(told) => told.max(floor),
+        None => floor,
     };
-    Some((token, asks))
+    match floors.insert(client, greatest) {
+        Ok(_) => {}
+        // There is room.
+        Err(_) => unreachable!(),
+    }
 }
 
 impl Requests {
-    /// No requests. It takes no memory.
+    /// Nothing was sent. It takes no memory.
     pub fn new(alloc: Global) -> Self
-        ensures { result ≡ [] }
+        ensures { result ≡ record { asked = []; pieces = []; floors = [] } }
     {
         Requests {
+            asked: IndexMap::new(alloc),
             pieces: Pieces::new(alloc),
+            floors: IndexMap::new(alloc),
         }
     }
 
-    /// How many they are. It takes no memory.
-    pub fn len(&self) -> usize
-        ensures { result ≡ length self.now }
-    {
-        self.pieces.len()
-    }
-
-    /// The client and the number of a request, and what it asks. It takes no memory.
-    pub fn at(&self, number: usize) -> Option<(Token, &[u8])>
-        ensures { option_map (λ r. record { token = r.0; asks = r.1.now }) result ≡ slice_get self.now number }
-    {
-        read(self.pieces.get(number)?)
-    }
-
-    /// One request more. Out of memory, it changes nothing.
-    pub fn push(&mut self, token: Token, event: &Event) -> Result<(), NoMemory>
-        ensures ok { OnOk result (self.new ≡ self.old ++ record { token = token; asks = asked event.now } ∷ []) }
+    // Notes a request that was sent.
+    fn note(&mut self, token: Token, event: &Event) -> Result<(), NoMemory>
+        requires { ArePlaces self.old.pieces self.old.asked }
+        ensures ok { OnOk result (Notes (Some token) event.now self.old self.new) }
         ensures err { OnErr result (self.new ≡ self.old) }
     {
-        self.pieces.push(held(token, event).as_bytes())?;
+        self.asked.reserve(1)?;
+        self.floors.reserve(1)?;
+        let asks = Scratch::of(event);
+        let earlier = asked_with(&self.asked, token);
+        let asked = ask(&mut self.pieces, earlier, asks.as_bytes())?;
+        put_asked(&mut self.asked, token, asked);
+        raise(&mut self.floors, token.client, floor_in(event));
         Ok(())
+    }
+
+    /// Notes an event where it is a request that was sent. Out of memory, it changes nothing; more than 4,294,967,295 requests are
+    /// answered as out of memory too.
+    pub fn push(&mut self, happened: &Happened) -> Result<(), NoMemory>
+        requires { ArePlaces self.old.pieces self.old.asked }
+        ensures ok { OnOk result (Notes (sent_token happened.now) happened.now.event self.old self.new) }
+        ensures err { OnErr result (self.new ≡ self.old) }
+    {
+        match sent_token(happened) {
+            Some(token) => self.note(token, &happened.event),
+            None => Ok(()),
+        }
+    }
+
+    /// Whether a request may not be made any more: something else was asked with its number; or nothing was, and its client told a
+    /// floor that the number isn't above. It takes no memory.
+    pub fn is_stale(&self, token: Token, event: &Event) -> bool
+        ensures { result ≡ is_stale_by token (asked event.now) self.now }
+    {
+        match asked_with(&self.asked, token) {
+            Some(asked) => asks_other(&self.pieces, asked, Scratch::of(event).as_bytes()),
+            None => match floor_told(&self.floors, token.client) {
+                Some(floor) => token.seq <= floor,
+                None => false,
+            },
+        }
     }
 }

@@ -1,17 +1,15 @@
 //! What a request asks, as bytes.
 
-ghost use Rattle.std.specs.Prelude.{◌≡◌, ◌≤◌, ◌+◌, ◌++◌, ◌∷◌, [], true, length};
-ghost use Rattle.std.specs.Int.{w16, w64, to_be_bytes};
-ghost use Rattle.cx_history.specs.Requests.{Noted, asked, asked_op, noted_at, is_long};
+ghost use Rattle.std.specs.Prelude.{◌≡◌, ◌≤◌, ◌+◌, ◌++◌, ◌∷◌, [], length};
+ghost use Rattle.cx_history.specs.Requests.{asked, asked_op};
 
 use cx_base::{Event, Key, Op, Text};
-use cx_field::Token;
 use std::marker::Model;
 
-// A client, a number, two bytes, a key and a text.
-const MOST: usize = 108;
+// Two bytes, a key and a text.
+const MOST: usize = 98;
 
-/// A few bytes that take no memory: as many as a request needs, at most.
+/// A few bytes that take no memory: as many as what a request asks needs, at most.
 #[derive(Drop)]
 pub struct Scratch {
     bytes: [u8; MOST],
@@ -25,12 +23,12 @@ impl Model for Scratch {
 
     ghost view = { λ s. take s.len s.bytes };
 
-    ghost invariant = { λ s. (length s.bytes ≡ 108) × (s.len ≤ 108) };
+    ghost invariant = { λ s. (length s.bytes ≡ 98) × (s.len ≤ 98) };
 }
 
 impl Scratch {
-    /// No bytes.
-    pub fn new() -> Self
+    // No bytes.
+    fn new() -> Self
         ensures { result ≡ [] }
     {
         Scratch {
@@ -48,7 +46,7 @@ impl Scratch {
 
     // More bytes after them.
     fn add(&mut self, more: &[u8])
-        requires { length self.old + length more.now ≤ 108 }
+        requires { length self.old + length more.now ≤ 98 }
         ensures { self.new ≡ self.old ++ more.now }
     {
         let end = self.len + more.len();
@@ -56,16 +54,8 @@ impl Scratch {
         self.len = end;
     }
 
-    fn add_head(&mut self, client: u16, seq: u64)
-        requires { length self.old ≤ 98 }
-        ensures { self.new ≡ self.old ++ (to_be_bytes w16 client ++ to_be_bytes w64 seq) }
-    {
-        self.add(&client.to_be_bytes());
-        self.add(&seq.to_be_bytes());
-    }
-
     fn add_pair(&mut self, tag: u8, key: &Key, text: &Text)
-        requires { length self.old ≤ 10 }
+        requires { self.old ≡ [] }
         ensures { self.new ≡ self.old ++ tag ∷ length key.now ∷ (key.now ++ text.now) }
     {
         let key = key.as_bytes();
@@ -75,7 +65,7 @@ impl Scratch {
     }
 
     fn add_key(&mut self, tag: u8, key: &Key)
-        requires { length self.old ≤ 10 }
+        requires { self.old ≡ [] }
         ensures { self.new ≡ self.old ++ tag ∷ key.now }
     {
         self.add(&[tag]);
@@ -83,7 +73,7 @@ impl Scratch {
     }
 
     fn add_op(&mut self, op: &Op)
-        requires { length self.old ≤ 10 }
+        requires { self.old ≡ [] }
         ensures { self.new ≡ self.old ++ asked_op op.now }
     {
         match op {
@@ -93,26 +83,16 @@ impl Scratch {
         }
     }
 
-    /// What a request asks, after the bytes.
-    pub fn add_asked(&mut self, event: &Event)
-        requires { length self.old ≤ 10 }
-        ensures { self.new ≡ self.old ++ asked event.now }
+    /// What a request asks, as bytes; of another event none.
+    pub fn of(event: &Event) -> Self
+        ensures { result ≡ asked event.now }
     {
+        let mut bytes = Scratch::new();
         match event {
-            Event::Write { command, .. } => self.add_op(&command.op),
-            Event::Read { key, .. } => self.add_key(0, key),
+            Event::Write { command, .. } => bytes.add_op(&command.op),
+            Event::Read { key, .. } => bytes.add_key(0, key),
             _ => {}
         }
+        bytes
     }
-}
-
-/// A request, held: two bytes of the client, eight of the number, and what it asks. It takes no memory.
-pub fn held(token: Token, event: &Event) -> Scratch
-    ensures request { noted_at result ≡ record { token = token; asks = asked event.now } }
-    ensures long { is_long result ≡ true }
-{
-    let mut bytes = Scratch::new();
-    bytes.add_head(token.client, token.seq);
-    bytes.add_asked(event);
-    bytes
 }

@@ -229,7 +229,7 @@ module _ (c : Cluster) (w : World) (is_c : w.cluster ≡ c) (full : HoldsIn Full
 
     event_did : (e : Event) → DidSo (change w e)
     event_did (event.Write command batcher) = ask_did (event.Write command batcher) (record { client = command.client; seq = command.seq })
-    event_did (event.Read client seq reader replica key) = ask_did (event.Read client seq reader replica key) (record { client = client; seq = seq })
+    event_did (event.Read client seq floor reader replica key) = ask_did (event.Read client seq floor reader replica key) (record { client = client; seq = seq })
     event_did (event.Deliver n cut) = come_did cut (slice_get w.sent n)
     event_did (event.Tick r) = at_did (Give input.Tick Whole) r
     event_did (event.Order l order cut) = at_did (Give (input.Order order) cut) (role kind.Leader l)

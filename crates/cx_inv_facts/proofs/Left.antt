@@ -52,9 +52,9 @@ request_proposes : (e : Event) (j : Round) (s : ℕ) (v : Value) → IsProposed 
 request_proposes (event.Write command batcher) j s v (from, to, g, cw, inl p) =
     let q : msg.Propose j g s cw v ≡ msg.Submit command = ap (λ (x : Letter). x.msg) p in cc
 request_proposes (event.Write command batcher) j s v (from, to, g, cw, inr m) = m
-request_proposes (event.Read client seq reader replica key) j s v (from, to, g, cw, inl p) =
+request_proposes (event.Read client seq floor reader replica key) j s v (from, to, g, cw, inl p) =
     let q : msg.Propose j g s cw v ≡ msg.ReadReq seq replica key = ap (λ (x : Letter). x.msg) p in cc
-request_proposes (event.Read client seq reader replica key) j s v (from, to, g, cw, inr m) = m
+request_proposes (event.Read client seq floor reader replica key) j s v (from, to, g, cw, inr m) = m
 request_proposes (event.Deliver number cut) j s v x = x.4
 request_proposes (event.Tick r) j s v x = x.4
 request_proposes (event.Order leader order cut) j s v x = x.4

@@ -50,7 +50,7 @@ start_range c k s (inr e) = subst (λ (x : State). InRange c x) (sym e) (fresh_r
 
 request_in : (e : Event) → AllInWindow (request e)
 request_in (event.Write command batcher) = one_in _ tt
-request_in (event.Read client seq reader replica key) = one_in _ tt
+request_in (event.Read client seq floor reader replica key) = one_in _ tt
 request_in other = none_in
 
 fitting_laws : (c : Cluster) → Laws c (λ e. Unit {0}) (Known c) (Fitting c)

@@ -97,16 +97,8 @@ story =
     ∷ deliver 8 ⇒ why.Same
     sending letter (matchmaker 2) (leader 0) (msg.MatchB next next [])  -- 23
     ∷ deliver 2 ⇒ why.Collected
-<<<<<<< ours
-    sending letter (matchmaker 2) (leader 0) (msg.MatchNack first 0 next)  -- 24
-    ∷ event.Read 0 1 0 0 0 (codes "a") ⇒ why.Sent
-||||||| base
-    sending letter (matchmaker 2) (leader 0) (msg.MatchNack first 0 next)  -- 24
-    ∷ event.Read 0 1 0 0 (codes "a") ⇒ why.Sent
-=======
     sending letter (matchmaker 2) (leader 0) (msg.MatchNack first nack.Collected next)  -- 24
-    ∷ event.Read 0 1 0 0 (codes "a") ⇒ why.Sent
->>>>>>> theirs
+    ∷ event.Read 0 1 0 0 0 (codes "a") ⇒ why.Sent
     sending letter (client 0) (reader 0) (msg.ReadReq 1 0 (codes "a"))  -- 25
     ∷ deliver 25 ⇒ why.Started
     sending letter (reader 0) (matchmaker 0) (msg.MatchRead (token 0 1))  -- 26

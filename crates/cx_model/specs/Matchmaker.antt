@@ -1,5 +1,5 @@
 -- The matchmaker's rows: it records which grid each round uses (JSys 2021).
-use Rattle.std.specs.Prelude.{ℕ, ◌-◌, Bool, false, not, ◌&&◌, nat_lt, nat_le, filter, if◌then◌else◌, List, [], ◌∷◌, ◌++◌, length, slice_get, Some}
+use Rattle.std.specs.Prelude.{◌-◌, Bool, false, not, ◌&&◌, nat_lt, nat_le, filter, if◌then◌else◌, List, [], ◌∷◌, ◌++◌, length, slice_get, Some}
 use Rattle.std.specs.List.{list_all, list_any}
 use Rattle.std.specs.Option.{option_map_or}
 use Rattle.cx_base.specs.declared.cluster.Cluster.{Cluster}

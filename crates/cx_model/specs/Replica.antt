@@ -63,7 +63,7 @@ abbrev pub execute_noted : ℕ → Machine → Command → Option Answered → E
 execute_noted at m c None = acting at m c
 execute_noted at m c (Some a) = not_acting m c (a ∷ [])
 
--- a command with a number with which its client is done has none
+-- where its client is done with its number, a command doesn't act and has no answer
 abbrev pub execute : ℕ → Machine → Command → Executed
 execute at m c =
     if is_done c.seq (floor_of c.client m.table.floors) then not_acting m c []

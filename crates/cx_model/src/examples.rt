@@ -21,6 +21,7 @@ ghost use Rattle.cx_model.specs.ExamplesKeptAppend.{KeptAppend};
 ghost use Rattle.cx_model.specs.ExamplesLateRequestsAreRefused.{LateRequestsAreRefused};
 ghost use Rattle.cx_model.specs.ExamplesLaterRound.{LaterRound};
 ghost use Rattle.cx_model.specs.ExamplesLimits.{Limits};
+ghost use Rattle.cx_model.specs.ExamplesLowerNumberActs.{LowerNumberActs};
 ghost use Rattle.cx_model.specs.ExamplesLowerRoundIsRefused.{LowerRoundIsRefused};
 ghost use Rattle.cx_model.specs.ExamplesOldAnswerIsNotCounted.{OldAnswerIsNotCounted};
 ghost use Rattle.cx_model.specs.ExamplesOlderRoundIsRefused.{OlderRoundIsRefused};
@@ -29,6 +30,7 @@ ghost use Rattle.cx_model.specs.ExamplesOvertakenCommand.{OvertakenCommand};
 ghost use Rattle.cx_model.specs.ExamplesOwnEntryStays.{OwnEntryStays};
 ghost use Rattle.cx_model.specs.ExamplesReaderForgets.{ReaderForgets};
 ghost use Rattle.cx_model.specs.ExamplesRefusedChange.{RefusedChange};
+ghost use Rattle.cx_model.specs.ExamplesRepeatTellsItsFloor.{RepeatTellsItsFloor};
 ghost use Rattle.cx_model.specs.ExamplesRepeatsChangeNothing.{RepeatsChangeNothing};
 ghost use Rattle.cx_model.specs.ExamplesRetireEarlierRounds.{RetireEarlierRounds};
 ghost use Rattle.cx_model.specs.ExamplesRetiredGridIsNotAsked.{RetiredGridIsNotAsked};
@@ -113,13 +115,28 @@ pub fn command_acts_once()
     ensures { CommandActsOnce }
 {}
 
-/// A client's second command is chosen before its first. The first does not act any more, and has no answer.
+/// A client's second command is chosen before its first, with which the client is done. The first does not act any more, and
+/// has no answer.
 pub fn overtaken_command()
     ensures { OvertakenCommand }
 {}
 
-/// A client's request goes out where its number is above all of its earlier ones, or where it is one of them again; else it
-/// is stale. What comes to a role that is down is lost, and a read before any round asks no acceptor.
+/// A client's second command is chosen before its first, and tells that the client isn't done with the first: both act. Later
+/// requests go out by the floors that were told: one above all of them, though it is below the greatest number, and one again,
+/// whatever its floor.
+pub fn lower_number_acts()
+    ensures { LowerNumberActs }
+{}
+
+/// Two clients send a command again with another floor, one with a greater and one with a lesser one, and each is chosen in two
+/// slots. It acts once, and has the same answer again. The greater floor stays told, so that the client's earlier number does
+/// not act any more, and has no answer.
+pub fn repeat_tells_its_floor()
+    ensures { RepeatTellsItsFloor }
+{}
+
+/// A client that is done with all its earlier numbers makes a request: it goes out where its number is above them, or where it
+/// is one of them again; else it is stale. What comes to a role that is down is lost, and a read before any round asks no acceptor.
 pub fn stale_requests()
     ensures { StaleRequests }
 {}

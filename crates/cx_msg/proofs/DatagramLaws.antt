@@ -302,7 +302,7 @@ decoded-again d h =
     let own : (body_with floors d.msg).fits ≡ true = own_version floors d.msg refl f.msg in
     let back : by_tag (cases_with floors) (body_with floors d.msg).tag (length (body_with floors d.msg).bytes) ((body_with floors d.msg).bytes ++ []) ≡ Ok (d.msg, []) = body-again floors d.msg (length (body_with floors d.msg).bytes) [] own in
     let second : by_tag (cases_with floors) s.tag (length s.bytes) s.bytes ≡ Ok (d.msg, []) =
-        ap (by_tag (cases_with floors) s.tag (length s.bytes)) (sym (append-nil s.bytes)) ∙ (rw (← version_tag floors d.msg, ← version_bytes floors d.msg) back) in
+    ap (by_tag (cases_with floors) s.tag (length s.bytes)) (sym (append-nil s.bytes)) ∙ (rw (← version_tag floors d.msg, ← version_bytes floors d.msg) back) in
     let kind : is_kind s.tag ≡ true = has_kind d.msg in
     let done : Letter → Result Letter WireFault = λ x. Ok x in
     let known : (eqb (version_of d.msg) 1 || eqb (version_of d.msg) 2) ≡ true = version_known floors in

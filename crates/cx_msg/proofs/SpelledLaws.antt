@@ -14,7 +14,7 @@ use Rattle.cx_field.specs.Reading.{Fails}
 use Rattle.cx_field.specs.declared.fault.ReadFault.{ReadFault}
 use Rattle.cx_field.specs.declared.fault.ReadFault.TheVariants as faults
 use Rattle.cx_msg.specs.Letter.{Letter, body, fits, letter}
-use Rattle.cx_msg.specs.Messages.{body_cases, body_shape}
+use Rattle.cx_msg.specs.Messages.{body_shape, cases_with}
 use Rattle.cx_msg.specs.Spelled.{IsShort, IsSpelled, letter_of, letter_with, msg_or, role_at, short}
 use Rattle.cx_msg.specs.declared.message.Msg.{Msg}
 use Rattle.cx_msg.proofs.BodyLaws.{body-again}
@@ -22,23 +22,23 @@ use Rattle.cx_msg.proofs.DatagramLaws.{small_tag}
 use Rattle.cx_msg.proofs.PartsLaws.{fitting}
 
 -- its body is read as its message
-pub body_reads : (d : Letter) (kind : ℕ) (bytes : List ℕ) → IsSpelled d kind bytes → by_tag body_cases kind (length bytes) bytes ≡ Ok (d.msg, [])
+pub body_reads : (d : Letter) (kind : ℕ) (bytes : List ℕ) → IsSpelled d kind bytes → by_tag (cases_with true) kind (length bytes) bytes ≡ Ok (d.msg, [])
 body_reads d kind bytes is =
     let f = fitting d is.in_range in
     let s = body_shape d.msg in
-    let again : by_tag body_cases s.tag (length s.bytes) (s.bytes ++ []) ≡ Ok (d.msg, []) = body-again d.msg (length s.bytes) [] f.msg in
-    rw (is.kind_is, is.body_is) (ap (by_tag body_cases s.tag (length s.bytes)) (sym (append-nil s.bytes)) ∙ again)
+    let again : by_tag (cases_with true) s.tag (length s.bytes) (s.bytes ++ []) ≡ Ok (d.msg, []) = body-again true d.msg (length s.bytes) [] f.msg in
+    rw (is.kind_is, is.body_is) (ap (by_tag (cases_with true) s.tag (length s.bytes)) (sym (append-nil s.bytes)) ∙ again)
 
 -- reading it fails for memory alone
-pub fails_for_memory : (d : Letter) (kind : ℕ) (bytes left : List ℕ) (e : ReadFault) → IsSpelled d kind bytes → left ≡ bytes → Fails e (by_tag body_cases kind (length left) left) → e ≡ faults.NoMemory
+pub fails_for_memory : (d : Letter) (kind : ℕ) (bytes left : List ℕ) (e : ReadFault) → IsSpelled d kind bytes → left ≡ bytes → Fails e (by_tag (cases_with true) kind (length left) left) → e ≡ faults.NoMemory
 fails_for_memory d kind bytes left faults.NoMemory is same fails = refl
 fails_for_memory d kind bytes left (faults.Bad at) is same fails =
     let read = body_reads d kind bytes is in
-    let fault : by_tag body_cases kind (length bytes) bytes ≡ Err (bad at) = rw (← same) fails in
+    let fault : by_tag (cases_with true) kind (length bytes) bytes ≡ Err (bad at) = rw (← same) fails in
     absurd cc
 fails_for_memory d kind bytes left (faults.Cut at need) is same fails =
     let read = body_reads d kind bytes is in
-    let fault : by_tag body_cases kind (length bytes) bytes ≡ Err (cut at need) = rw (← same) fails in
+    let fault : by_tag (cases_with true) kind (length bytes) bytes ≡ Err (cut at need) = rw (← same) fails in
     absurd cc
 
 same_letter : (d : Letter) → fits d ≡ true → letter_with (body_shape d.msg).tag d.from d.to (body d) ≡ d

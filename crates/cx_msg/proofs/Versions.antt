@@ -1,21 +1,18 @@
 -- A message that tells no floor is read where none may be told, and its bytes are the same.
-use Rattle.std.proofs.Common.{◌≡◌, ℕ, Bool, true, false, not, ◌&&◌, List, refl, sym, ap, ◌∙◌}
+use Rattle.std.proofs.Common.{◌≡◌, ℕ, Bool, true, false, not, ◌&&◌, List, refl, sym, ◌∙◌}
 use Rattle.std.specs.List.{list_any}
 use Rattle.cx_base.specs.Grid.{Shape as GridShape}
 use Rattle.cx_base.specs.declared.round.Round.{Round}
 use Rattle.cx_base.specs.declared.command.Value.{Value}
 use Rattle.cx_wire.specs.Format.{Format, only, then_by, ◌▷◌, Shape}
 use Rattle.cx_wire.proofs.Laws.{both}
-use Rattle.cx_wire.proofs.Parts.{IsPart, IsShapePart, same-part, then_by-part, ▷-part, shape-part}
+use Rattle.cx_wire.proofs.Parts.{IsPart, IsShapePart, then_by-part, ▷-part, shape-part}
 use Rattle.cx_field.proofs.Floors.{command-part, commands-part, value-part, votes-part}
-use Rattle.cx_field.specs.Fields.{slot, mark, round, grid, command_with, commands_with, value_with, votes_with, in_window, tells_floor}
+use Rattle.cx_field.specs.Fields.{slot, mark, round, grid, command_with, commands_with, value_with, votes_with, in_window, tells_floor, value_tells}
 use Rattle.cx_field.specs.declared.parts.Vote.{Vote}
-use Rattle.cx_msg.specs.Messages.{phase1b, phase2a, propose, slot_value, value_tells, tells_floors, body_with, body_shape}
+use Rattle.cx_msg.specs.Messages.{phase1b, phase2a, propose, slot_value, tells_floors, body_with, body_shape}
 use Rattle.cx_msg.specs.declared.message.Msg.{Msg}
-use Rattle.cx_msg.specs.declared.message.Msg.TheVariants.{Leads, MatchA, MatchNack, Phase1A, Nack, Phase2B, Chosen, ChosenIn, Held, Fetch, Inform, Informed, GarbageA, GarbageB, ReadReq, MatchRead, MatchReadAck, PreRead, PreReadAck, Read, Phase2A, Submit, Batch, MatchB, Phase1B, Propose, Results, Answer, ReadAnswer}
-
-watched : Bool → Format (ℕ × (ℕ × Value))
-watched floors = then_by slot (λ s. only (λ cw. in_window cw s) mark ▷ value_with floors)
+use Rattle.cx_msg.specs.declared.message.Msg.TheVariants.{Chosen, Phase2A, Submit, Batch, Phase1B, Propose}
 
 watched-part : IsPart (λ (x : ℕ × (ℕ × Value)). value_tells x.1.1) (then_by slot (λ s. only (λ cw. in_window cw s) mark ▷ value_with false)) (then_by slot (λ s. only (λ cw. in_window cw s) mark ▷ value_with true))
 watched-part =

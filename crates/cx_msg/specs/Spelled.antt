@@ -1,11 +1,11 @@
 -- Datagrams whose bodies aren't read, and their bytes but for those that the others give.
-use Rattle.std.specs.Prelude.{◌≡◌, ℕ, ◌+◌, List, [], ◌∷◌, ◌++◌, Result, Ok, Err, IsTrue, drop, length, slice_index}
+use Rattle.std.specs.Prelude.{◌≡◌, ℕ, ◌+◌, true, List, [], ◌∷◌, ◌++◌, Result, Ok, Err, IsTrue, drop, length, slice_index}
 use Rattle.std.specs.Int.{w16, from_be_bytes}
 use Rattle.cx_base.specs.Role.{code_of, kind_of, role}
 use Rattle.cx_base.specs.declared.role.RoleId.{RoleId}
 use Rattle.cx_wire.specs.Format.{Miss, by_tag, u8, u16}
 use Rattle.cx_msg.specs.Letter.{Letter, body, fits, letter}
-use Rattle.cx_msg.specs.Messages.{body_cases, body_shape}
+use Rattle.cx_msg.specs.Messages.{body_shape, cases_with}
 use Rattle.cx_msg.specs.declared.message.Msg.{Msg}
 use Rattle.cx_msg.specs.declared.message.Msg.TheVariants.{Fetch}
 
@@ -16,7 +16,7 @@ msg_or (Err miss) = Fetch 0
 
 -- the datagram of this kind, with these roles and this body
 abbrev pub letter_with : ℕ → RoleId → RoleId → List ℕ → Letter
-letter_with kind from to bytes = letter from to (msg_or (by_tag body_cases kind (length bytes) bytes))
+letter_with kind from to bytes = letter from to (msg_or (by_tag (cases_with true) kind (length bytes) bytes))
 
 -- a kind and a body are a datagram's
 pub record IsSpelled (d : Letter) (kind : ℕ) (bytes : List ℕ) : Type 0 where

@@ -16,25 +16,30 @@ use cx_field::{
 };
 use std::alloc::Global;
 
-/// Reads the body of a message of this kind.
-#[tactic(auto, unfolding(crate::specs::Messages::body_cases))]
-pub fn body_from(kind: u8, alloc: Global, reader: &mut Reader<'_>) -> Result<Msg, ReadFault>
-    ensures { Gives (λ m. m) result (wire.by_tag message.body_cases kind (length reader.old) reader.old) reader.new }
+/// Reads the body of a message of this kind, in which commands may tell their floors or may not.
+#[tactic(auto, unfolding(crate::specs::Messages::cases_with))]
+pub fn body_from(
+    kind: u8,
+    alloc: Global,
+    floors: bool,
+    reader: &mut Reader<'_>,
+) -> Result<Msg, ReadFault>
+    ensures { Gives (λ m. m) result (wire.by_tag (message.cases_with floors) kind (length reader.old) reader.old) reader.new }
 {
     match kind {
-        1 => submit_from(reader),
-        2 => batch_from(alloc, reader),
+        1 => submit_from(floors, reader),
+        2 => batch_from(alloc, floors, reader),
         3 => leads_from(reader),
         4 => match_a_from(alloc, reader),
         5 => match_b_from(alloc, reader),
         6 => match_nack_from(reader),
         7 => phase1a_from(reader),
-        8 => phase1b_from(alloc, reader),
+        8 => phase1b_from(alloc, floors, reader),
         9 => nack_from(reader),
-        10 => propose_from(alloc, reader),
-        11 => phase2a_from(alloc, reader),
+        10 => propose_from(alloc, floors, reader),
+        11 => phase2a_from(alloc, floors, reader),
         12 => phase2b_from(reader),
-        13 => chosen_from(alloc, reader),
+        13 => chosen_from(alloc, floors, reader),
         14 => chosen_in_from(reader),
         15 => results_from(alloc, reader),
         16 => answer_from(reader),
@@ -57,17 +62,17 @@ pub fn body_from(kind: u8, alloc: Global, reader: &mut Reader<'_>) -> Result<Msg
     }
 }
 
-fn submit_from(reader: &mut Reader<'_>) -> Result<Msg, ReadFault>
-    ensures { Gives (λ m. m) result ((wire.case 1 field.command (λ x. Msg.Submit x)).read reader.old) reader.new }
+fn submit_from(floors: bool, reader: &mut Reader<'_>) -> Result<Msg, ReadFault>
+    ensures { Gives (λ m. m) result ((wire.case 1 (field.command_with floors) (λ x. Msg.Submit x)).read reader.old) reader.new }
 {
-    let command = command_from(reader)?;
+    let command = command_from(floors, reader)?;
     Ok(Msg::Submit { command })
 }
 
-fn batch_from(alloc: Global, reader: &mut Reader<'_>) -> Result<Msg, ReadFault>
-    ensures { Gives (λ m. m) result ((wire.case 2 field.commands (λ x. Msg.Batch x)).read reader.old) reader.new }
+fn batch_from(alloc: Global, floors: bool, reader: &mut Reader<'_>) -> Result<Msg, ReadFault>
+    ensures { Gives (λ m. m) result ((wire.case 2 (field.commands_with floors) (λ x. Msg.Batch x)).read reader.old) reader.new }
 {
-    let commands = commands_from(alloc, reader)?;
+    let commands = commands_from(alloc, floors, reader)?;
     Ok(Msg::Batch { commands })
 }
 
@@ -123,12 +128,12 @@ fn phase1a_from(reader: &mut Reader<'_>) -> Result<Msg, ReadFault>
 }
 
 #[tactic(auto, unfolding(crate::specs::Messages::phase1b))]
-fn phase1b_from(alloc: Global, reader: &mut Reader<'_>) -> Result<Msg, ReadFault>
-    ensures { Gives (λ m. m) result ((wire.case 8 message.phase1b (λ x. Msg.Phase1B x.0 x.1.0 x.1.1)).read reader.old) reader.new }
+fn phase1b_from(alloc: Global, floors: bool, reader: &mut Reader<'_>) -> Result<Msg, ReadFault>
+    ensures { Gives (λ m. m) result ((wire.case 8 (message.phase1b floors) (λ x. Msg.Phase1B x.0 x.1.0 x.1.1)).read reader.old) reader.new }
 {
     let round = round_from(reader)?;
     let cw = mark_from(reader)?;
-    let votes = votes_from(alloc, cw, reader)?;
+    let votes = votes_from(alloc, floors, cw, reader)?;
     Ok(Msg::Phase1B { round, cw, votes })
 }
 
@@ -154,14 +159,14 @@ fn window_from(slot: u64, reader: &mut Reader<'_>) -> Result<u64, ReadFault>
 }
 
 #[tactic(auto, unfolding(crate::specs::Messages::propose))]
-fn propose_from(alloc: Global, reader: &mut Reader<'_>) -> Result<Msg, ReadFault>
-    ensures { Gives (λ m. m) result ((wire.case 10 message.propose (λ x. Msg.Propose x.0 x.1.0 x.1.1.0 x.1.1.1.0 x.1.1.1.1)).read reader.old) reader.new }
+fn propose_from(alloc: Global, floors: bool, reader: &mut Reader<'_>) -> Result<Msg, ReadFault>
+    ensures { Gives (λ m. m) result ((wire.case 10 (message.propose floors) (λ x. Msg.Propose x.0 x.1.0 x.1.1.0 x.1.1.1.0 x.1.1.1.1)).read reader.old) reader.new }
 {
     let round = round_from(reader)?;
     let grid = grid_from(alloc, reader)?;
     let slot = slot_from(reader)?;
     let cw = window_from(slot, reader)?;
-    let value = value_from(alloc, reader)?;
+    let value = value_from(alloc, floors, reader)?;
     Ok(Msg::Propose {
         round,
         grid,
@@ -172,13 +177,13 @@ fn propose_from(alloc: Global, reader: &mut Reader<'_>) -> Result<Msg, ReadFault
 }
 
 #[tactic(auto, unfolding(crate::specs::Messages::phase2a))]
-fn phase2a_from(alloc: Global, reader: &mut Reader<'_>) -> Result<Msg, ReadFault>
-    ensures { Gives (λ m. m) result ((wire.case 11 message.phase2a (λ x. Msg.Phase2A x.0 x.1.0 x.1.1.0 x.1.1.1)).read reader.old) reader.new }
+fn phase2a_from(alloc: Global, floors: bool, reader: &mut Reader<'_>) -> Result<Msg, ReadFault>
+    ensures { Gives (λ m. m) result ((wire.case 11 (message.phase2a floors) (λ x. Msg.Phase2A x.0 x.1.0 x.1.1.0 x.1.1.1)).read reader.old) reader.new }
 {
     let round = round_from(reader)?;
     let slot = slot_from(reader)?;
     let cw = window_from(slot, reader)?;
-    let value = value_from(alloc, reader)?;
+    let value = value_from(alloc, floors, reader)?;
     Ok(Msg::Phase2A {
         round,
         slot,
@@ -197,11 +202,11 @@ fn phase2b_from(reader: &mut Reader<'_>) -> Result<Msg, ReadFault>
 }
 
 #[tactic(auto, unfolding(crate::specs::Messages::slot_value))]
-fn chosen_from(alloc: Global, reader: &mut Reader<'_>) -> Result<Msg, ReadFault>
-    ensures { Gives (λ m. m) result ((wire.case 13 message.slot_value (λ x. Msg.Chosen x.0 x.1)).read reader.old) reader.new }
+fn chosen_from(alloc: Global, floors: bool, reader: &mut Reader<'_>) -> Result<Msg, ReadFault>
+    ensures { Gives (λ m. m) result ((wire.case 13 (message.slot_value floors) (λ x. Msg.Chosen x.0 x.1)).read reader.old) reader.new }
 {
     let slot = slot_from(reader)?;
-    let value = value_from(alloc, reader)?;
+    let value = value_from(alloc, floors, reader)?;
     Ok(Msg::Chosen { slot, value })
 }
 

@@ -1,16 +1,17 @@
 //! Datagrams from bytes.
 
-ghost use Rattle.std.specs.Prelude.{◌≡◌, ◌≤◌, ◌++◌, ℕ, List, [], IfOk, IfErr, IsTrue, length};
+ghost use Rattle.std.specs.Prelude.{◌≡◌, ◌==◌, ◌≤◌, ◌++◌, ℕ, List, [], IfOk, IfErr, IsTrue, length};
 ghost use Rattle.cx_msg.specs.Letter.{Letter, spelling, fits};
 ghost use Rattle.cx_msg.specs.Parts.{DecodesParts};
 ghost use Rattle.cx_msg.specs.Decoding.{decoded, Decodes, finished, after_header};
-ghost use Rattle.cx_msg.specs.Messages.{body_cases};
+ghost use Rattle.cx_msg.specs.Messages.{cases_with};
 ghost use Rattle.cx_msg.specs.Places.{LiesIn};
 ghost use Rattle.cx_wire.specs.Format.{by_tag};
 
 use crate::bodies::body_from;
 use crate::datagram::Datagram;
 use crate::fault::WireFault;
+use crate::floors::version_of;
 use crate::header::{Header, MAGIC, header_from};
 use crate::message::Msg;
 use crate::roles::{is_kind, may_receive, may_send};
@@ -35,15 +36,18 @@ fn finish(
 ) -> Result<Parts, WireFault>
     requires from { header.now.from ≤ 9 }
     requires to { header.now.to ≤ 9 }
-    ensures { DecodesParts result (finished all header.now (by_tag body_cases header.now.kind (length reader.old) reader.old)) }
+    ensures { DecodesParts result (finished all header.now (by_tag (cases_with (header.now.version == 2)) header.now.kind (length reader.old) reader.old)) }
 {
-    match body_from(header.kind, alloc, reader) {
+    match body_from(header.kind, alloc, header.version == 2, reader) {
         Ok(msg) => {
             let left = reader.left();
             if left > 0 {
                 return Err(WireFault::Trailing {
                     at: all.saturating_sub(left),
                 });
+            }
+            if header.version != version_of(&msg) {
+                return Err(WireFault::Version(header.version));
             }
             let from = RoleId {
                 kind: Kind::from_code(header.from),
@@ -79,7 +83,7 @@ fn body_of(
     if header.magic != MAGIC {
         return Err(WireFault::Magic);
     }
-    if header.version != 1 {
+    if header.version != 1 && header.version != 2 {
         return Err(WireFault::Version(header.version));
     }
     if !is_kind(header.kind) {
@@ -122,10 +126,11 @@ fn read(alloc: Global, bytes: &[u8]) -> Result<Parts, WireFault>
 }
 
 /// The datagram that the bytes spell, all of the bytes; or the first test that they fail, in this order: fewer than 12
-/// bytes (`Short`), the letters CX (`Magic`), the version (`Version`), the kind, 1 to 29 (`Kind`), fewer bytes after the
-/// header than it says (`Length`), or more (`Trailing`), the roles of the kind (`Field` at 4 or 7), the body's fields in
-/// their order (`Field` at the first byte of the first bad one), and bytes after the last field (`Trailing`). The format is
-/// this project's own; its numbers have the highest byte first.
+/// bytes (`Short`), the letters CX (`Magic`), the version, 1 or 2 (`Version`), the kind, 1 to 29 (`Kind`), fewer bytes after
+/// the header than it says (`Length`), or more (`Trailing`), the roles of the kind (`Field` at 4 or 7), the body's fields in
+/// their order (`Field` at the first byte of the first bad one), bytes after the last field (`Trailing`), and the version
+/// again, which is 2 exactly where a command tells its floor (`Version`): operations with a floor are fields of version 2
+/// alone. The format is this project's own; its numbers have the highest byte first.
 pub fn decode(alloc: Global, bytes: &[u8]) -> Result<Datagram, WireFault>
     // What is read is spelled so, and has a spelling.
     ensures found { IfOk result (λ d. (bytes.now ≡ spelling d) × IsTrue (fits d)) }

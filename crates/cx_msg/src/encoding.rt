@@ -4,6 +4,7 @@ ghost use Rattle.std.specs.Prelude.{◌≡◌, ◌≤◌, ◌+◌, ◌++◌, len
 ghost use Rattle.cx_msg.specs.Letter.{body, spelling};
 
 use crate::datagram::Datagram;
+use crate::floors::version_of;
 use crate::header::{Header, MAGIC, put_header};
 use crate::put_bodies::{kind_of, put_body};
 use cx_base::NoMemory;
@@ -20,17 +21,17 @@ pub fn body_into(alloc: Global, datagram: &Datagram, out: &mut Vec<u8>) -> Resul
     Ok(())
 }
 
-/// Appends the bytes of a datagram, at most 28,575: a header of 12 and the body. Out of memory, it appends nothing.
+/// Appends the bytes of a datagram, at most 30,623: a header of 12 and the body. Out of memory, it appends nothing.
 pub fn encode_into(alloc: Global, datagram: &Datagram, out: &mut Vec<u8>) -> Result<(), NoMemory>
     ensures bytes { OnOk result (out.new.items ≡ out.old.items ++ spelling datagram.now) }
-    ensures room { OnOk result (length (spelling datagram.now) ≤ 28575) }
+    ensures room { OnOk result (length (spelling datagram.now) ≤ 30623) }
     ensures err { OnErr result (out.new.items ≡ out.old.items) }
 {
     let mut body = Vec::new(alloc);
     put_body(&mut body, datagram.msg())?;
     let header = Header {
         magic: MAGIC,
-        version: 1,
+        version: version_of(datagram.msg()),
         kind: kind_of(datagram.msg()),
         from: datagram.from().kind.code(),
         from_index: datagram.from().index,

@@ -2,6 +2,7 @@
 //! takes memory.
 
 ghost use Rattle.std.specs.Prelude.{◌≡◌, IsTrue};
+ghost use Rattle.cx_base.specs.Asked.{floor_fits};
 ghost use Rattle.cx_base.specs.Role.{role};
 ghost use Rattle.cx_base.specs.declared.role.Kind.{Kind};
 ghost use Rattle.cx_field.specs.Fields as field;
@@ -11,22 +12,22 @@ ghost use Rattle.cx_msg.specs.Letter.{letter};
 use crate::datagram::Datagram;
 use crate::message::Msg;
 use cx_base::{Command, Commands, Grid, Kind, Reply, RoleId, Round, Value};
-use cx_field::{Answers, Entries, NackReason, Votes, grid_fits, op_fits, reason_fits};
+use cx_field::{Answers, Entries, NackReason, Votes, command_fits, grid_fits, reason_fits};
 
 /// A client's command, handed to a batcher.
 #[tactic(auto, unfolding(cx_field::specs::Fields::command, cx_wire::specs::Format::u16))]
 pub fn submit(client: u16, batcher: u16, command: Command) -> Datagram
-    requires seq { IsTrue (field.seq.fits command.seq) }
+    requires floor { IsTrue (floor_fits command.seq command.floor) }
     ensures { result ≡ letter (role Kind.Client client) (role Kind.Batcher batcher) (Msg.Submit command) }
 {
-    op_fits(&command.op);
+    command_fits(&command);
     let from = RoleId::new(Kind::Client, client);
     let to = RoleId::new(Kind::Batcher, batcher);
     Datagram::new(from, to, Msg::Submit { command })
 }
 
 /// A batcher's commands, for a leader.
-#[tactic(auto, unfolding(cx_wire::specs::Format::u16))]
+#[tactic(auto, unfolding(cx_field::specs::Fields::commands, cx_wire::specs::Format::u16))]
 pub fn batch(batcher: u16, leader: u16, commands: Commands) -> Datagram
     requires commands { IsTrue (field.commands.fits commands) }
     ensures { result ≡ letter (role Kind.Batcher batcher) (role Kind.Leader leader) (Msg.Batch commands) }
@@ -125,7 +126,7 @@ pub fn phase1a(leader: u16, acceptor: u16, round: Round) -> Datagram
 }
 
 /// An acceptor's promise, with its votes from the slot `cw` on.
-#[tactic(auto, unfolding(crate::specs::Messages::phase1b, cx_wire::specs::Format::u16))]
+#[tactic(auto, unfolding(cx_field::specs::Fields::votes, crate::specs::Messages::phase1b, cx_wire::specs::Format::u16))]
 pub fn phase1b(acceptor: u16, leader: u16, round: Round, cw: u64, votes: Votes) -> Datagram
     requires round { IsTrue (field.round.fits round) }
     requires cw { IsTrue (field.mark.fits cw) }
@@ -150,7 +151,7 @@ pub fn nack(acceptor: u16, leader: u16, round: Round, promise: Round) -> Datagra
 }
 
 /// A leader's value for a slot, for a proxy; enough replicas hold all slots below `cw`.
-#[tactic(auto, unfolding(crate::specs::Messages::propose, cx_wire::specs::Format::u16))]
+#[tactic(auto, unfolding(cx_field::specs::Fields::value, crate::specs::Messages::propose, cx_wire::specs::Format::u16))]
 pub fn propose(
     leader: u16,
     proxy: u16,
@@ -184,7 +185,7 @@ pub fn propose(
 }
 
 /// A proxy's question whether an acceptor votes for the value.
-#[tactic(auto, unfolding(crate::specs::Messages::phase2a, cx_wire::specs::Format::u16))]
+#[tactic(auto, unfolding(cx_field::specs::Fields::value, crate::specs::Messages::phase2a, cx_wire::specs::Format::u16))]
 pub fn phase2a(
     proxy: u16,
     acceptor: u16,
@@ -227,7 +228,7 @@ pub fn phase2b(acceptor: u16, proxy: u16, round: Round, slot: u64) -> Datagram
 }
 
 /// A proxy's word to a replica that the value is chosen.
-#[tactic(auto, unfolding(crate::specs::Messages::slot_value, cx_wire::specs::Format::u16))]
+#[tactic(auto, unfolding(cx_field::specs::Fields::value, crate::specs::Messages::slot_value, cx_wire::specs::Format::u16))]
 pub fn chosen(proxy: u16, replica: u16, slot: u64, value: Value) -> Datagram
     requires slot { IsTrue (field.slot.fits slot) }
     requires value { IsTrue (field.value.fits value) }
@@ -239,7 +240,7 @@ pub fn chosen(proxy: u16, replica: u16, slot: u64, value: Value) -> Datagram
 }
 
 /// A replica's word to another that the value is chosen.
-#[tactic(auto, unfolding(crate::specs::Messages::slot_value, cx_wire::specs::Format::u16))]
+#[tactic(auto, unfolding(cx_field::specs::Fields::value, crate::specs::Messages::slot_value, cx_wire::specs::Format::u16))]
 pub fn fetched(from: u16, replica: u16, slot: u64, value: Value) -> Datagram
     requires slot { IsTrue (field.slot.fits slot) }
     requires value { IsTrue (field.value.fits value) }

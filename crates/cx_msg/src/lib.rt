@@ -12,6 +12,7 @@ mod datagram;
 mod decoding;
 mod encoding;
 mod fault;
+mod floors;
 mod header;
 mod input;
 mod kept;
@@ -29,6 +30,7 @@ pub use datagram::Datagram;
 pub use decoding::{decode, one_spelling};
 pub use encoding::{body_into, encode_into};
 pub use fault::WireFault;
+pub use floors::tells_floors;
 pub use input::{Act, Input, KeptRecord};
 pub use kept::Record;
 pub use letters::{

@@ -1,6 +1,6 @@
 //! The bodies of messages, appended to bytes.
 
-ghost use Rattle.std.specs.Prelude.{◌≡◌, ◌≤◌, ◌+◌, ◌++◌, length, OnOk};
+ghost use Rattle.std.specs.Prelude.{◌≡◌, ◌≤◌, ◌+◌, ◌++◌, true, length, OnOk};
 ghost use Rattle.cx_msg.specs.Messages as message;
 ghost use Rattle.cx_wire.specs.Format.{Appends};
 
@@ -102,16 +102,16 @@ fn put_match_nack(
     put_round(out, other)
 }
 
-#[tactic(auto, unfolding(crate::specs::Messages::phase1b))]
+#[tactic(auto, unfolding(crate::specs::Messages::phase1b, cx_field::specs::Fields::votes))]
 fn put_phase1b(out: &mut Vec<u8>, round: &Round, cw: u64, votes: &Votes) -> Result<(), NoMemory>
-    ensures { OnOk result (Appends message.phase1b (round.now, (cw, votes.now)) 28563 out.old.items out.new.items) }
+    ensures { OnOk result (Appends (message.phase1b true) (round.now, (cw, votes.now)) 30611 out.old.items out.new.items) }
 {
     put_round(out, round)?;
     put_mark(out, cw)?;
     put_votes(out, cw, votes)
 }
 
-#[tactic(auto, unfolding(crate::specs::Messages::propose))]
+#[tactic(auto, unfolding(crate::specs::Messages::propose, cx_field::specs::Fields::value))]
 fn put_propose(
     out: &mut Vec<u8>,
     round: &Round,
@@ -120,7 +120,7 @@ fn put_propose(
     cw: u64,
     value: &Value,
 ) -> Result<(), NoMemory>
-    ensures { OnOk result (Appends message.propose (round.now, (grid.now, (slot, (cw, value.now)))) 934 out.old.items out.new.items) }
+    ensures { OnOk result (Appends (message.propose true) (round.now, (grid.now, (slot, (cw, value.now)))) 998 out.old.items out.new.items) }
 {
     put_round(out, round)?;
     put_grid(out, grid)?;
@@ -129,7 +129,7 @@ fn put_propose(
     put_value(out, value)
 }
 
-#[tactic(auto, unfolding(crate::specs::Messages::phase2a))]
+#[tactic(auto, unfolding(crate::specs::Messages::phase2a, cx_field::specs::Fields::value))]
 fn put_phase2a(
     out: &mut Vec<u8>,
     round: &Round,
@@ -137,7 +137,7 @@ fn put_phase2a(
     cw: u64,
     value: &Value,
 ) -> Result<(), NoMemory>
-    ensures { OnOk result (Appends message.phase2a (round.now, (slot, (cw, value.now))) 900 out.old.items out.new.items) }
+    ensures { OnOk result (Appends (message.phase2a true) (round.now, (slot, (cw, value.now))) 964 out.old.items out.new.items) }
 {
     put_round(out, round)?;
     put_slot(out, slot)?;
@@ -145,9 +145,9 @@ fn put_phase2a(
     put_value(out, value)
 }
 
-#[tactic(auto, unfolding(crate::specs::Messages::slot_value))]
+#[tactic(auto, unfolding(crate::specs::Messages::slot_value, cx_field::specs::Fields::value))]
 fn put_slot_value(out: &mut Vec<u8>, slot: u64, value: &Value) -> Result<(), NoMemory>
-    ensures { OnOk result (Appends message.slot_value (slot, value.now) 882 out.old.items out.new.items) }
+    ensures { OnOk result (Appends (message.slot_value true) (slot, value.now) 946 out.old.items out.new.items) }
 {
     put_slot(out, slot)?;
     put_value(out, value)
@@ -246,10 +246,11 @@ fn put_read_answer(
     put_found(out, found)
 }
 
-/// Appends a message's body, at most 28,563 bytes.
+/// Appends a message's body, at most 30,611 bytes.
+#[tactic(auto, unfolding(cx_field::specs::Fields::command, cx_field::specs::Fields::commands))]
 pub fn put_body(out: &mut Vec<u8>, msg: &Msg) -> Result<(), NoMemory>
     ensures bytes { OnOk result (out.new.items ≡ out.old.items ++ (message.body_shape msg.now).bytes) }
-    ensures room { OnOk result (length out.new.items ≤ length out.old.items + 28563) }
+    ensures room { OnOk result (length out.new.items ≤ length out.old.items + 30611) }
 {
     match msg {
         Msg::Submit { command } => put_command(out, command),

@@ -18,7 +18,7 @@ use cx_field::{
 use cx_wire::put_u8;
 use std::alloc::Global;
 
-#[tactic(auto, unfolding(crate::specs::Records::record_cases))]
+#[tactic(auto, unfolding(crate::specs::Records::record_cases, cx_field::specs::Fields::value))]
 pub(crate) fn fields_from(
     tag: u8,
     alloc: Global,
@@ -34,7 +34,7 @@ pub(crate) fn fields_from(
             let round = round_from(reader)?;
             let slot = slot_from(reader)?;
             let cw = mark_from(reader)?;
-            let value = value_from(alloc, reader)?;
+            let value = value_from(alloc, true, reader)?;
             Ok(Record::Vote {
                 round,
                 slot,
@@ -108,7 +108,7 @@ fn read(alloc: Global, bytes: &[u8]) -> Result<Record, WireFault>
 
 /// The record that the bytes spell, all of the bytes; or the first test that they fail, in this order: no byte (`Short`), the
 /// tag, 1 to 7 (`Kind`), the fields in their order (`Field` at the first byte of the first bad one), and bytes after the
-/// last field (`Trailing`). The format is this project's own.
+/// last field (`Trailing`). The format is this project's own; it has no version, and commands may tell their floors.
 pub fn record_from(alloc: Global, bytes: &[u8]) -> Result<Record, WireFault>
     // What is read is spelled so, and has a spelling.
     ensures found { IfOk result (λ r. (bytes.now ≡ records.spelling r) × IsTrue (records.fits r)) }
@@ -129,7 +129,7 @@ fn put_vote(
     cw: u64,
     value: &Value,
 ) -> Result<(), NoMemory>
-    ensures { OnOk result (Appends records.vote (round.now, (slot, (cw, value.now))) 900 out.old.items out.new.items) }
+    ensures { OnOk result (Appends records.vote (round.now, (slot, (cw, value.now))) 964 out.old.items out.new.items) }
 {
     put_round(out, round)?;
     put_slot(out, slot)?;
@@ -139,7 +139,7 @@ fn put_vote(
 
 #[tactic(auto, unfolding(crate::specs::Records::kept_record))]
 fn put_record(out: &mut Vec<u8>, kept: &Record) -> Result<(), NoMemory>
-    ensures { OnOk result (Appends records.kept_record kept.now 27970 out.old.items out.new.items) }
+    ensures { OnOk result (Appends records.kept_record kept.now 30018 out.old.items out.new.items) }
 {
     match kept {
         Record::Promise { round } => {
@@ -182,11 +182,11 @@ fn put_record(out: &mut Vec<u8>, kept: &Record) -> Result<(), NoMemory>
     }
 }
 
-/// Appends the bytes of a record, at most 27,970. Out of memory, it appends nothing.
+/// Appends the bytes of a record, at most 30,018. Out of memory, it appends nothing.
 #[tactic(auto, unfolding(crate::specs::Records::kept_record))]
 pub fn record_into(alloc: Global, kept: &Record, out: &mut Vec<u8>) -> Result<(), NoMemory>
     ensures bytes { OnOk result (out.new.items ≡ out.old.items ++ records.spelling kept.now) }
-    ensures room { OnOk result (length (records.spelling kept.now) ≤ 27970) }
+    ensures room { OnOk result (length (records.spelling kept.now) ≤ 30018) }
     ensures err { OnErr result (out.new.items ≡ out.old.items) }
 {
     let mut whole = Vec::new(alloc);

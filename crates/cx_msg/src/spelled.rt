@@ -111,7 +111,7 @@ impl<'a> Spelled<'a> {
         ensures { IfOk result (λ datagram. datagram ≡ self.now) }
     {
         let mut reader = Reader::new(self.body);
-        match body_from(self.kind, alloc, &mut reader) {
+        match body_from(self.kind, alloc, true, &mut reader) {
             Ok(msg) => Ok(Datagram::new(self.from, self.to, msg)),
             Err(ReadFault::NoMemory) => Err(NoMemory),
             // What was spelled is read.
@@ -130,7 +130,7 @@ fn put_role(out: &mut Vec<u8>, role: RoleId) -> Result<(), NoMemory>
     put_u16(out, role.index)
 }
 
-/// Appends a datagram's bytes without those that the others give, at most 28,570: its kind, who sends and who gets it, and its
+/// Appends a datagram's bytes without those that the others give, at most 30,618: its kind, who sends and who gets it, and its
 /// body. Out of memory, a part may be appended.
 #[tactic(auto, unfolding(cx_wire::specs::Format::u8))]
 pub fn short_into(datagram: &Datagram, out: &mut Vec<u8>) -> Result<(), NoMemory>

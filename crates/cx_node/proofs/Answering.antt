@@ -28,9 +28,9 @@ says_heard roles (Some all) c spelled heard good named =
     let so = heard ∙ ap (λ b. Lines c (record { events = spelled.events; bad = b })) good in
     (so, ap (refused_of roles) so ∙ rw named refl)
 
-pub answered_so : (roles : List RoleId) (tend : Option ℕ) (c : Cluster) (events : List Event) (turns : ℕ) (old new : Outside) (s : Status) → Says roles old.left c events → AllRead old new
-    → HostAnswered roles tend c events turns old new s → Answered roles tend turns old new s
-answered_so roles tend c events turns old new s says reads host = record {
+pub answered_so : (roles : List RoleId) (tend : Option ℕ) (c : Cluster) (window : ℕ) (events : List Event) (turns : ℕ) (old new : Outside) (s : Status) → Says roles old.left c events → AllRead old new
+    → HostAnswered roles tend c window events turns old new s → Answered roles tend window turns old new s
+answered_so roles tend c window events turns old new s says reads host = record {
   done = λ e. let h = did status.Done e in (c, events, h.0, h.1, says, reads, h.2, h.3);
   turns_ended = λ e. let h = did status.Turns e in (c, events, h.0, h.1, says, reads, h.2, h.3);
   bad_words = λ e. absurd (did status.BadWords e);
@@ -48,8 +48,8 @@ answered_so roles tend c events turns old new s says reads host = record {
   stored = host.stored;
 }
   where
-    did : (t : Status) → s ≡ t → HostDid roles tend c events turns old new t
-    did t e = subst (HostDid roles tend c events turns old new) e host.did
+    did : (t : Status) → s ≡ t → HostDid roles tend c window events turns old new t
+    did t e = subst (HostDid roles tend c window events turns old new) e host.did
 
 -- a failed read of an input that is refused
 pub heard_so : (roles : List RoleId) (left left_after : Option (List ℕ)) (reads reads_after : ℕ) (why : Refusal) (s : Status) → s ≡ refused_status why
@@ -61,11 +61,11 @@ pub err_is : {A : Type 0} {why other : Refusal} → why ≡ other → ◌≡◌ 
 err_is e = ap Err e
 
 -- what is answered where the input is refused, and nothing else was used
-pub refused_so : (roles : List RoleId) (tend : Option ℕ) (turns : ℕ) (old new : Outside) (why : Refusal) (s : Status) → s ≡ refused_status why → IsUntouched old new
+pub refused_so : (roles : List RoleId) (tend : Option ℕ) (window turns : ℕ) (old new : Outside) (why : Refusal) (s : Status) → s ≡ refused_status why → IsUntouched old new
     → (why ≡ refusal.BadWords → IfSome old.left (λ all. refused_of roles (input_of all) ≡ Some refusal.BadWords))
     → ((line : ℕ) → why ≡ refusal.BadInput line → IfSome old.left (λ all. refused_of roles (input_of all) ≡ Some (refusal.BadInput line)))
-    → (why ≡ refusal.ReadFault → Rises old.reads new.reads) → (new.reads ≡ old.reads) ⊎ FailsRead roles old.left new.left why → Answered roles tend turns old new s
-refused_so roles tend turns old new why s is untouched words line fault fails = record {
+    → (why ≡ refusal.ReadFault → Rises old.reads new.reads) → (new.reads ≡ old.reads) ⊎ FailsRead roles old.left new.left why → Answered roles tend window turns old new s
+refused_so roles tend window turns old new why s is untouched words line fault fails = record {
   done = λ e. absurd (untrue (ran e));
   turns_ended = λ e. absurd (untrue (ran e));
   bad_words = λ e. (words (of_words why (sym is ∙ e)), untouched);
@@ -131,8 +131,8 @@ not_refused roles left why all known accepted refused =
     none_some e = cc
 
 -- what is answered where all is good and nothing fails
-pub completes_so : (roles : List RoleId) (tend : Option ℕ) (turns : ℕ) (old new : Outside) (s : Status) → Answered roles tend turns old new s → Completes roles old new s
-completes_so roles tend turns old new s is whole good = go s refl
+pub completes_so : (roles : List RoleId) (tend : Option ℕ) (window turns : ℕ) (old new : Outside) (s : Status) → Answered roles tend window turns old new s → Completes roles old new s
+completes_so roles tend window turns old new s is whole good = go s refl
   where
     go : (t : Status) → s ≡ t → EndsWell t
     go status.Done e = tt
@@ -159,15 +159,15 @@ one_cluster roles left all c d events more known one two = same_cluster (sym (sa
     same_cluster e = cc
 
 -- what is answered where the whole input is known and the store of a hosted role is none of its own
-pub tells_bad_so : (roles : List RoleId) (tend : Option ℕ) (c : Cluster) (events : List Event) (turns : ℕ) (old new : Outside) (s : Status) → Says roles old.left c events → HostAnswered roles tend c events turns old new s
+pub tells_bad_so : (roles : List RoleId) (tend : Option ℕ) (c : Cluster) (window : ℕ) (events : List Event) (turns : ℕ) (old new : Outside) (s : Status) → Says roles old.left c events → HostAnswered roles tend c window events turns old new s
     → TellsBad roles old new s
-tells_bad_so roles tend c events turns old new s says host whole tells all known d more role at said bad = go s refl
+tells_bad_so roles tend c window events turns old new s says host whole tells all known d more role at said bad = go s refl
   where
     first : IsFirstBad roles c old.held role at
     first = subst (λ e. IsFirstBad roles e old.held role at) (one_cluster roles old.left all d c more events known said says) bad
 
-    did : (t : Status) → s ≡ t → HostDid roles tend c events turns old new t
-    did t e = subst (HostDid roles tend c events turns old new) e host.did
+    did : (t : Status) → s ≡ t → HostDid roles tend c window events turns old new t
+    did t e = subst (HostDid roles tend c window events turns old new) e host.did
 
     not_run : (t : Status) → s ≡ t → HasRun t → ⊥
     not_run t e run = host.good (subst HasRun (sym e) run) tells first.place role at first.here first.bad
@@ -187,8 +187,8 @@ tells_bad_so roles tend c events turns old new s says host whole tells all known
         inl (e ∙ ap (λ r. status.BadStore r place) one.0 ∙ ap (λ n. status.BadStore role n) one.1)
 
 -- the same where the input was refused
-pub refused_tells_bad : (roles : List RoleId) (tend : Option ℕ) (turns : ℕ) (old new : Outside) (why : Refusal) (s : Status) → s ≡ refused_status why → Answered roles tend turns old new s → TellsBad roles old new s
-refused_tells_bad roles tend turns old new why s is answered whole tells all known c events role at said bad = go why is
+pub refused_tells_bad : (roles : List RoleId) (tend : Option ℕ) (window turns : ℕ) (old new : Outside) (why : Refusal) (s : Status) → s ≡ refused_status why → Answered roles tend window turns old new s → TellsBad roles old new s
+refused_tells_bad roles tend window turns old new why s is answered whole tells all known c events role at said bad = go why is
   where
     accepted : refused_of roles (input_of all) ≡ None
     accepted = (subst (λ o. Says roles o c events) known said).1

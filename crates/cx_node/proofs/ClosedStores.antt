@@ -82,7 +82,7 @@ owner role (g ∷ gs) = elim (cases_Bool (same_role (who g) role)) [
 ]
 
 module _ {D : Type 0} (seen : D → Option (List ℕ)) (may_leave : D → List ℕ → Type 0) (moment : D → ℕ) (left_since : D → ℕ → List ℕ → Type 0) (disk_faults : D → ℕ)
-    (c : Cluster) (events : List Event) (told_by : Bool) (held : RoleId → List ℕ) (held_mid held_after : RoleId → List ℕ) (faults faults_after : RoleId → ℕ) (roles : List RoleId) (guests : List (Guest (JournalState D))) where
+    (c : Cluster) (window : ℕ) (events : List Event) (told_by : Bool) (held : RoleId → List ℕ) (held_mid held_after : RoleId → List ℕ) (faults faults_after : RoleId → ℕ) (roles : List RoleId) (guests : List (Guest (JournalState D))) where
   -- what is held for a role is what its store holds
   closed_told : (after : List (Guest (JournalState D))) (i : ℕ) (me : RoleId) (h : Guest (JournalState D)) (j : JournalState D) → slice_get after i ≡ Some h → who h ≡ me → keeper_of h ≡ Some j
       → is_some (seen j.disk) ≡ true → told_by ≡ true → GivesBack seen disk_faults after told_by held_mid held_after faults faults_after → told_records (Some (held_after me)) ≡ told_records (seen j.disk)
@@ -94,7 +94,7 @@ module _ {D : Type 0} (seen : D → Option (List ℕ)) (may_leave : D → List �
           ap (λ m. told_records (Some (held_after m))) (sym name) ∙ ap (λ f. told_records (Some f)) (back.holds t i h j file at has e) ∙ ap told_records (sym e)
 
   -- a role that was opened keeps what its store held
-  pub opened_stays : AreApart roles → AreOpened seen disk_faults c events told_by held roles guests → GivesBack seen disk_faults guests told_by held_mid held_after faults faults_after
+  pub opened_stays : AreApart roles → AreOpened seen disk_faults c window events told_by held roles guests → GivesBack seen disk_faults guests told_by held_mid held_after faults faults_after
       → (told_by ≡ true → (me : RoleId) → told_records (Some (held_mid me)) ≡ told_records (Some (held me)))
       → told_by ≡ true → (i : ℕ) (me : RoleId) → slice_get roles i ≡ Some me → is_durable me.kind ≡ true → told_records (Some (held_after me)) ≡ told_records (Some (held me))
   opened_stays apart all back mid t i me here durable = go (slice_get guests i) refl
@@ -104,13 +104,13 @@ module _ {D : Type 0} (seen : D → Option (List ℕ)) (may_leave : D → List �
           let o = all i h at in
           let same : o.0 ≡ me = same_Some o.0 me (sym o.1 ∙ here) in
           let d : is_durable o.0.kind ≡ true = ap (λ m. is_durable m.kind) same ∙ durable in
-          let j = keeps_journal seen disk_faults c events told_by held o.0 h o.2 d in
-          closed_told guests i me h j.0 at (name_is seen disk_faults c events told_by held o.0 h o.2 ∙ same) j.1 (j.2.told t) t back
+          let j = keeps_journal seen disk_faults c window events told_by held o.0 h o.2 d in
+          closed_told guests i me h j.0 at (name_is seen disk_faults c window events told_by held o.0 h o.2 ∙ same) j.1 (j.2.told t) t back
           ∙ j.2.kept t ∙ sym (told_any o.0.kind (held o.0) o.2.records (o.2.read t d)) ∙ ap (λ m. told_records (Some (held m))) same
       go None none =
           ap (λ f. told_records (Some f)) (back.others me (λ k h j at has name.
           let o = all k h at in
-          let same : o.0 ≡ me = sym (name_is seen disk_faults c events told_by held o.0 h o.2) ∙ name in
+          let same : o.0 ≡ me = sym (name_is seen disk_faults c window events told_by held o.0 h o.2) ∙ name in
           let place = apart k i me (o.1 ∙ ap Some same) here in
           none-some h (sym none ∙ ap (slice_get guests) (sym place) ∙ at)))
           ∙ mid t me
@@ -126,14 +126,14 @@ module _ {D : Type 0} (seen : D → Option (List ℕ)) (may_leave : D → List �
       go (inl p) = subst (λ m. faults_after m ≡ faults m) p.5 (back.still p.0 p.1 p.2 p.3 p.4 (zeros p.0 p.1 p.2 p.3 p.4 p.5))
       go (inr none) = back.others_still role none
 
-  has_not_failed : (me : RoleId) (g : Guest (JournalState D)) → IsOpened seen disk_faults c events told_by (held me) me g → (j : JournalState D) → keeper_of g ≡ Some j → disk_faults j.disk ≡ 0
+  has_not_failed : (me : RoleId) (g : Guest (JournalState D)) → IsOpened seen disk_faults c window events told_by (held me) me g → (j : JournalState D) → keeper_of g ≡ Some j → disk_faults j.disk ≡ 0
   has_not_failed me g o j has = (has_records seen disk_faults told_by o.records (is_durable me.kind) (keeper_of g) j has o.journal).faultless
 
   -- roles that were opened, and given back at once
-  pub opened_still : AreOpened seen disk_faults c events told_by held roles guests → GivesBack seen disk_faults guests told_by held_mid held_after faults faults_after → (role : RoleId) → faults_after role ≡ faults role
+  pub opened_still : AreOpened seen disk_faults c window events told_by held roles guests → GivesBack seen disk_faults guests told_by held_mid held_after faults faults_after → (role : RoleId) → faults_after role ≡ faults role
   opened_still all back role = stands guests back role (λ i h k at has name. let o = all i h at in has_not_failed o.0 h o.2 k has)
 
-  module _ (told : RoleId → List Record) (from : AreOpenedFrom seen disk_faults c events told_by held told roles guests) (all : AreOpened seen disk_faults c events told_by held roles guests)
+  module _ (told : RoleId → List Record) (from : AreOpenedFrom seen disk_faults c window events told_by held told roles guests) (all : AreOpened seen disk_faults c window events told_by held roles guests)
       (count : length guests ≡ length roles) (apart : AreApart roles) (ks : List KeptRecord) (mid : List (Guest (JournalState D))) (names : map who mid ≡ map who guests)
       (grow : GuestsGrow (gives seen may_leave moment left_since disk_faults) ks guests mid) where
     -- what a role was opened from is what its store held
@@ -151,8 +151,8 @@ module _ {D : Type 0} (seen : D → Option (List ℕ)) (may_leave : D → List �
         let g = get_beside roles guests i me count here in
         let m = get_beside guests mid i g.0 grow.0 g.1 in
         let o = from i me g.0 here g.1 in
-        let j = keeps_journal seen disk_faults c events told_by held me g.0 o.0 durable in
-        let own = name_is seen disk_faults c events told_by held me g.0 o.0 in
+        let j = keeps_journal seen disk_faults c window events told_by held me g.0 o.0 durable in
+        let own = name_is seen disk_faults c window events told_by held me g.0 o.0 in
         let rs = records_of (who g.0) ks in
         let k = grows_some (gives seen may_leave moment left_since disk_faults) rs (keeper_of g.0) (keeper_of m.0) j.0 j.1 (grow.1 i g.0 m.0 g.1 m.1) in (
           m.0,
@@ -223,7 +223,7 @@ module _ {D : Type 0} (seen : D → Option (List ℕ)) (may_leave : D → List �
         only_role i me here is =
             let g = get_beside mid guests f.place f.guest (sym grow.0) f.here in
             let o = all f.place g.0 g.1 in
-            let name : o.0 ≡ role = sym (name_is seen disk_faults c events told_by held o.0 g.0 o.2) ∙ sym (same_at who guests mid f.place g.0 f.guest names g.1 f.here) ∙ f.name in
+            let name : o.0 ≡ role = sym (name_is seen disk_faults c window events told_by held o.0 g.0 o.2) ∙ sym (same_at who guests mid f.place g.0 f.guest names g.1 f.here) ∙ f.name in
             apart i f.place me here (o.1 ∙ ap Some (name ∙ sym is))
 
         keepers : (j : JournalState D) × (k : JournalState D) × (keeper_of f.guest ≡ Some j) × (keeper_of f.after ≡ Some k) × Fails (gives seen may_leave moment left_since disk_faults) (Some r) j k
@@ -333,6 +333,6 @@ module _ {D : Type 0} (seen : D → Option (List ℕ)) (may_leave : D → List �
       nobody i g j at has name = let r = named i g at in none i (r.1 ∙ ap Some (sym r.2 ∙ name))
 
   -- so it is where they were given back as they were opened
-  pub opened_unhosted : AreOpened seen disk_faults c events told_by held roles guests → GivesBack seen disk_faults guests told_by held_mid held_after faults faults_after
+  pub opened_unhosted : AreOpened seen disk_faults c window events told_by held roles guests → GivesBack seen disk_faults guests told_by held_mid held_after faults faults_after
       → (me : RoleId) → ((i : ℕ) → slice_get roles i ≡ Some me → ⊥) → (held_after me ≡ held_mid me) × (faults_after me ≡ faults me)
-  opened_unhosted all back = unhosted guests (λ i g at. let o = all i g at in (o.0, o.1, name_is seen disk_faults c events told_by held o.0 g o.2)) back
+  opened_unhosted all back = unhosted guests (λ i g at. let o = all i g at in (o.0, o.1, name_is seen disk_faults c window events told_by held o.0 g o.2)) back

@@ -95,7 +95,7 @@ pub cut_change : (w : World) (e : Event) (me : RoleId) (r : Record) → MayAppen
 cut_change w (event.Deliver n cut) me r may h = cut_come w me r (slice_get w.sent n) h
 cut_change w (event.Order l order cut) me r may h = cut_act w.cluster w.roles w.kept (input.Order order) (role kind.Leader l) me r kind.Leader h
 cut_change w (event.Write command batcher) me r may h = absurd may
-cut_change w (event.Read client seq reader replica key) me r may h = absurd may
+cut_change w (event.Read client seq floor reader replica key) me r may h = absurd may
 cut_change w (event.Tick who) me r may h = absurd may
 cut_change w (event.Crash who) me r may h = absurd may
 cut_change w (event.Restart who) me r may h = absurd may

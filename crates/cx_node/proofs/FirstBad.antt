@@ -71,10 +71,10 @@ one_first roles c held role other a b one two = go (by_order one.place two.place
 -- ---- where opening stops
 
 -- Behind roles that were opened, one whose store is none of its own is the first.
-pub first_bad : {S : Type 0} (seen : S → Option (List ℕ)) (disk_faults : S → ℕ) (c : Cluster) (events : List Event) (tells : Bool) (held : RoleId → List ℕ) (roles : List RoleId) (guests : List (Guest (JournalState S)))
-    → AreOpened seen disk_faults c events tells held roles guests → tells ≡ true → (role : RoleId) (at : ℕ) → slice_get roles (length guests) ≡ Some role → IsBadAs c role (held role) at role.kind
+pub first_bad : {S : Type 0} (seen : S → Option (List ℕ)) (disk_faults : S → ℕ) (c : Cluster) (window : ℕ) (events : List Event) (tells : Bool) (held : RoleId → List ℕ) (roles : List RoleId) (guests : List (Guest (JournalState S)))
+    → AreOpened seen disk_faults c window events tells held roles guests → tells ≡ true → (role : RoleId) (at : ℕ) → slice_get roles (length guests) ≡ Some role → IsBadAs c role (held role) at role.kind
     → IsFirstBad roles c held role at
-first_bad {S} seen disk_faults c events tells held roles guests all t role at next bad = record {
+first_bad {S} seen disk_faults c window events tells held roles guests all t role at next bad = record {
   place = length guests;
   here = next;
   bad = bad;
@@ -85,5 +85,5 @@ first_bad {S} seen disk_faults c events tells held roles guests all t role at ne
         → ((g : Guest (JournalState S)) × (i < length guests) × (slice_get guests i ≡ Some g) × (get_or guests i g ≡ g)) ⊎ ((length guests ≤ i) × (slice_get guests i ≡ None)) → ⊥
     own i other fault before there is (inl g) =
         let o = all i g.0 g.2 in
-        good_opened seen disk_faults c events tells held o.0 g.0 fault o.2 t (subst (λ (r : RoleId). IsBadAs c r (held r) fault r.kind) (same_Some other o.0 (sym there ∙ o.1)) is)
+        good_opened seen disk_faults c window events tells held o.0 g.0 fault o.2 t (subst (λ (r : RoleId). IsBadAs c r (held r) fault r.kind) (same_Some other o.0 (sym there ∙ o.1)) is)
     own i other fault before there is (inr past) = absurd (omega (arith, before, past.0))

@@ -52,15 +52,15 @@ only_printed (r ∷ rs) = only_printed rs
 abbrev IsUnhosted : List RoleId → RoleId → Type 0
 IsUnhosted roles me = (i : ℕ) → slice_get roles i ≡ Some me → ⊥
 
-module _ (tend : Option ℕ) (c : Cluster) (events : List Event) (turns : ℕ) (roles : List RoleId) (old new : Outside) where
+module _ (tend : Option ℕ) (c : Cluster) (window : ℕ) (events : List Event) (turns : ℕ) (roles : List RoleId) (old new : Outside) where
   -- only binds were made, and the stores hold what they held
   pub host_early : (n : ℕ) → new.link ≡ option_map (with_binds (map (bind_of c) (take n roles))) old.link → new.out ≡ old.out
       → (old.tells ≡ true → (i : ℕ) (me : RoleId) → slice_get roles i ≡ Some me → is_durable me.kind ≡ true → told_records (Some (new.held me)) ≡ told_records (Some (old.held me)))
       → ((me : RoleId) → IsUnhosted roles me → (new.held me ≡ old.held me) × (new.stores me ≡ old.stores me)) → new.tells ≡ old.tells
-      → HostEndsEarly roles tend c events turns old new
+      → HostEndsEarly roles tend c window events turns old new
   host_early n link out stays others tells =
       let told = told_to old.held in
-      let run = (node_run tend c [] (hosts c events told roles)).actions in
+      let run = (node_run tend c [] (hosts c window events told roles)).actions in
       let k = before (map Bound roles) run n in
       let only : take k.0 (map Bound roles ++ run) ≡ map Bound (take n roles) = k.1 ∙ take-map Bound n roles in (
         told,
@@ -78,14 +78,14 @@ module _ (tend : Option ℕ) (c : Cluster) (events : List Event) (turns : ℕ) (
             tells = tells;
           });
         },
-        no_end tend c turns (hosts c events told roles),
+        no_end tend c turns (hosts c window events told roles),
       )
 
   -- not all roles could be opened
-  pub host_unopened : (s : OpenStop) → HostEndsEarly roles tend c events turns old new → ((role : RoleId) → s ≡ open_stop.StoreFault role → Rises (old.stores role) (new.stores role))
+  pub host_unopened : (s : OpenStop) → HostEndsEarly roles tend c window events turns old new → ((role : RoleId) → s ≡ open_stop.StoreFault role → Rises (old.stores role) (new.stores role))
       → ((role : RoleId) (at : ℕ) → s ≡ open_stop.BadStore role at → old.tells ≡ true → IsFirstBad roles c old.held role at)
       → ((role : RoleId) → (s ≡ open_stop.StoreFault role → ⊥) → new.stores role ≡ old.stores role)
-      → new.writes ≡ old.writes → new.links ≡ old.links → HostAnswered roles tend c events turns old new (unopened_status s)
+      → new.writes ≡ old.writes → new.links ≡ old.links → HostAnswered roles tend c window events turns old new (unopened_status s)
   host_unopened s early failed bad stored writes links = record {
     did = did s failed bad;
     written = λ no. writes;
@@ -100,7 +100,7 @@ module _ (tend : Option ℕ) (c : Cluster) (events : List Event) (turns : ℕ) (
       none_ran (open_stop.BadStore role at) run = run
 
       did : (s : OpenStop) → ((role : RoleId) → s ≡ open_stop.StoreFault role → Rises (old.stores role) (new.stores role))
-          → ((role : RoleId) (at : ℕ) → s ≡ open_stop.BadStore role at → old.tells ≡ true → IsFirstBad roles c old.held role at) → HostDid roles tend c events turns old new (unopened_status s)
+          → ((role : RoleId) (at : ℕ) → s ≡ open_stop.BadStore role at → old.tells ≡ true → IsFirstBad roles c old.held role at) → HostDid roles tend c window events turns old new (unopened_status s)
       did open_stop.NoMemory failed bad = early
       did (open_stop.StoreFault role) failed bad = (early, failed role refl)
       did (open_stop.BadStore role at) failed bad = (early, bad role at refl)
@@ -118,34 +118,34 @@ linked_same c actions n k a b next linked =
     subst (λ l. Linked c l a b) (sym (take_next actions n (Kept k) next)) (linked_then c (take n actions) (Kept k ∷ []) a b b linked (linked_nothing c b))
 
 module _ {D : Type 0} (seen : D → Option (List ℕ)) (may_leave : D → List ℕ → Type 0) (moment : D → ℕ) (left_since : D → ℕ → List ℕ → Type 0) (disk_faults : D → ℕ)
-    (tend : Option ℕ) (c : Cluster) (events : List Event) (turns : ℕ) (roles : List RoleId) (old new : Outside) (mid : Option LinkHistory) (mid_links : ℕ) (held_mid : RoleId → List ℕ) (faults : RoleId → ℕ)
+    (tend : Option ℕ) (c : Cluster) (window : ℕ) (events : List Event) (turns : ℕ) (roles : List RoleId) (old new : Outside) (mid : Option LinkHistory) (mid_links : ℕ) (held_mid : RoleId → List ℕ) (faults : RoleId → ℕ)
     (guests after : List (Guest (JournalState D))) (answer : Result RunEnd Stop)
-    (apart : AreApart roles) (all : AreOpened seen disk_faults c events old.tells old.held roles guests) (count : length guests ≡ length roles)
+    (apart : AreApart roles) (all : AreOpened seen disk_faults c window events old.tells old.held roles guests) (count : length guests ≡ length roles)
     (link : mid ≡ option_map (with_binds (map (bind_of c) roles)) old.link) (links : mid_links ≡ old.links) (still : (role : RoleId) → faults role ≡ old.stores role)
     (unopened : (me : RoleId) → IsUnhosted roles me → held_mid me ≡ old.held me) (tells : new.tells ≡ old.tells)
     (ran : Ran (gives seen may_leave moment left_since disk_faults) tend c turns answer
     (scene guests mid old.out) (scene after new.link new.out) mid_links new.links old.writes new.writes)
     (back : GivesBack seen disk_faults after old.tells held_mid new.held faults new.stores) where
-  told : AreTold seen disk_faults c events old.tells old.held roles guests
-  told = told_opened seen disk_faults c events old.tells old.held roles guests apart all
+  told : AreTold seen disk_faults c window events old.tells old.held roles guests
+  told = told_opened seen disk_faults c window events old.tells old.held roles guests apart all
 
   steady : IsSteady guests after
   steady = steady_run (gives seen may_leave moment left_since disk_faults) tend c turns answer
       (scene guests mid old.out) (scene after new.link new.out) ran.done ran.part
 
-  same : hosted_in guests ≡ hosts c events told.0 roles
-  same = hosts_opened seen disk_faults c events old.tells old.held told.0 roles guests count told.2
+  same : hosted_in guests ≡ hosts c window events told.0 roles
+  same = hosts_opened seen disk_faults c window events old.tells old.held told.0 roles guests count told.2
 
   others : (me : RoleId) → IsUnhosted roles me → (new.held me ≡ old.held me) × (new.stores me ≡ old.stores me)
   others me none =
-      let stays = unhosted seen may_leave moment left_since disk_faults c events old.tells old.held held_mid new.held faults new.stores roles guests after named back me none in
+      let stays = unhosted seen may_leave moment left_since disk_faults c window events old.tells old.held held_mid new.held faults new.stores roles guests after named back me none in
       (stays.0 ∙ unopened me none, stays.1 ∙ still me)
     where
       named : (i : ℕ) (h : Guest (JournalState D)) → slice_get after i ≡ Some h → (me : RoleId) × (slice_get roles i ≡ Some me) × (who h ≡ me)
       named i h at =
           let g = get_beside after guests i h (sym steady.count) at in
           let o = all i g.0 g.1 in
-          (o.0, o.1, (steady.each i g.0 h g.1 at).0 ∙ name_is seen disk_faults c events old.tells old.held o.0 g.0 o.2)
+          (o.0, o.1, (steady.each i g.0 h g.1 at).0 ∙ name_is seen disk_faults c window events old.tells old.held o.0 g.0 o.2)
 
   -- each store has these records besides
   abbrev StoresTell : List KeptRecord → Type 0
@@ -163,7 +163,7 @@ module _ {D : Type 0} (seen : D → Option (List ℕ)) (may_leave : D → List �
         tells = tells;
       }
 
-  whole : (e : RunEnd) → Runs (gives seen may_leave moment left_since disk_faults) tend c turns e (scene guests mid old.out) (scene after new.link new.out) → HostEnds roles tend c events turns e old new
+  whole : (e : RunEnd) → Runs (gives seen may_leave moment left_since disk_faults) tend c turns e (scene guests mid old.out) (scene after new.link new.out) → HostEnds roles tend c window events turns e old new
   whole e runs =
       let takes = runs.0 in
       let actions = (node_run tend c takes (hosted_in guests)).actions in
@@ -172,11 +172,11 @@ module _ {D : Type 0} (seen : D → Option (List ℕ)) (may_leave : D → List �
         takes,
         record {
           told_by = told.1;
-          told_whole = told_whole seen may_leave moment left_since disk_faults c events old.tells old.held held_mid new.held faults new.stores roles guests told.0 told.2 all count apart (kept_in actions) after did.names did.kept;
+          told_whole = told_whole seen may_leave moment left_since disk_faults c window events old.tells old.held held_mid new.held faults new.stores roles guests told.0 told.2 all count apart (kept_in actions) after did.names did.kept;
           taken = subst (λ hs. HasTaken takes ((node_run tend c takes hs).actions)) same runs.3;
           did = subst (λ hs. Did roles c (map Bound roles ++ (node_run tend c takes hs).actions) old new) same
               (did_behind actions did.link did.printed
-              (ran_stores seen may_leave moment left_since disk_faults c events old.tells old.held held_mid new.held faults new.stores roles guests told.0 told.2 all count apart (kept_in actions) after did.names did.kept back));
+              (ran_stores seen may_leave moment left_since disk_faults c window events old.tells old.held held_mid new.held faults new.stores roles guests told.0 told.2 all count apart (kept_in actions) after did.names did.kept back));
         },
         subst (λ hs. IsEnd tend c turns hs takes e) same runs.2,
       )
@@ -192,12 +192,12 @@ module _ {D : Type 0} (seen : D → Option (List ℕ)) (may_leave : D → List �
   )
 
   front : (e : Stop) → RunsPart (gives seen may_leave moment left_since disk_faults) e tend c turns (scene guests mid old.out) (scene after new.link new.out)
-      → HostEndsEarly roles tend c events turns old new
+      → HostEndsEarly roles tend c window events turns old new
   front e runs =
       let takes = runs.0 in
       let p = runs.2 in
       let actions = (node_run tend c takes (hosted_in guests)).actions in
-      let part = cut actions p.count (stops_stores seen may_leave moment left_since disk_faults c events old.tells old.held held_mid new.held faults new.stores roles guests told.0 told.2 all count apart
+      let part = cut actions p.count (stops_stores seen may_leave moment left_since disk_faults c window events old.tells old.held held_mid new.held faults new.stores roles guests told.0 told.2 all count apart
       (kept_in (take p.count actions)) p.mid p.did.names p.did.kept after back e (slice_get actions p.count) p.stops) p.did.link p.did.printed in
       let k = behind (map Bound roles) actions part.0 in (
         told.0,
@@ -210,7 +210,7 @@ module _ {D : Type 0} (seen : D → Option (List ℕ)) (may_leave : D → List �
         subst (λ hs. IsUnderway tend c turns hs takes) same runs.1,
       )
 
-  did_so : (a : Result RunEnd Stop) → answer ≡ a → HostDid roles tend c events turns old new (ended_status a)
+  did_so : (a : Result RunEnd Stop) → answer ≡ a → HostDid roles tend c window events turns old new (ended_status a)
   did_so (Ok end.Done) e = whole end.Done (subst (λ a. IfOk a (λ x. Runs (gives seen may_leave moment left_since disk_faults) tend c turns x (scene guests mid old.out) (scene after new.link new.out))) e ran.done)
   did_so (Ok end.Turns) e = whole end.Turns (subst (λ a. IfOk a (λ x. Runs (gives seen may_leave moment left_since disk_faults) tend c turns x (scene guests mid old.out) (scene after new.link new.out))) e ran.done)
   did_so (Err s) e =
@@ -218,7 +218,7 @@ module _ {D : Type 0} (seen : D → Option (List ℕ)) (may_leave : D → List �
       stopped s e runs (front s runs)
     where
       stopped : (s : Stop) → answer ≡ Err s → RunsPart (gives seen may_leave moment left_since disk_faults) s tend c turns (scene guests mid old.out) (scene after new.link new.out)
-          → HostEndsEarly roles tend c events turns old new → HostDid roles tend c events turns old new (ended_status (Err s))
+          → HostEndsEarly roles tend c window events turns old new → HostDid roles tend c window events turns old new (ended_status (Err s))
       stopped stop.NoMemory e runs early = early
       stopped stop.WriteFault e runs early = (early, ran.written e)
       stopped stop.LinkFault e runs early = (early, subst (λ n. Rises n new.links) links (ran.linked e))
@@ -227,7 +227,7 @@ module _ {D : Type 0} (seen : D → Option (List ℕ)) (may_leave : D → List �
           let actions = (node_run tend c runs.0 (hosted_in guests)).actions in (
             early,
             subst (λ n. Rises n (new.stores role)) (still role)
-                (stops_rises seen may_leave moment left_since disk_faults c events old.tells old.held held_mid new.held faults new.stores roles guests told.0 told.2 all count apart
+                (stops_rises seen may_leave moment left_since disk_faults c window events old.tells old.held held_mid new.held faults new.stores roles guests told.0 told.2 all count apart
                 (kept_in (take p.count actions)) p.mid p.did.names p.did.kept after back role (slice_get actions p.count) p.stops),
           )
 
@@ -236,13 +236,13 @@ module _ {D : Type 0} (seen : D → Option (List ℕ)) (may_leave : D → List �
   stored_so (Ok e) is role unsaid =
       let runs = subst (λ a. IfOk a (λ x. Runs (gives seen may_leave moment left_since disk_faults) tend c turns x (scene guests mid old.out) (scene after new.link new.out))) is ran.done in
       let actions = (node_run tend c runs.0 (hosted_in guests)).actions in
-      ran_still seen may_leave moment left_since disk_faults c events old.tells old.held held_mid new.held faults new.stores roles guests told.0 told.2 all count apart (kept_in actions) after runs.1.did.names runs.1.did.kept back role
+      ran_still seen may_leave moment left_since disk_faults c window events old.tells old.held held_mid new.held faults new.stores roles guests told.0 told.2 all count apart (kept_in actions) after runs.1.did.names runs.1.did.kept back role
       ∙ still role
   stored_so (Err s) is role unsaid =
       let runs = subst (λ a. IfErr a (λ x. RunsPart (gives seen may_leave moment left_since disk_faults) x tend c turns (scene guests mid old.out) (scene after new.link new.out))) is ran.part in
       let p = runs.2 in
       let actions = (node_run tend c runs.0 (hosted_in guests)).actions in
-      stops_still seen may_leave moment left_since disk_faults c events old.tells old.held held_mid new.held faults new.stores roles guests told.0 told.2 all count apart
+      stops_still seen may_leave moment left_since disk_faults c window events old.tells old.held held_mid new.held faults new.stores roles guests told.0 told.2 all count apart
       (kept_in (take p.count actions)) p.mid p.did.names p.did.kept after back s (slice_get actions p.count) p.stops role (λ e. unsaid (ap ended_status (is ∙ ap Err e)))
       ∙ still role
 
@@ -251,10 +251,10 @@ module _ {D : Type 0} (seen : D → Option (List ℕ)) (may_leave : D → List �
   good_so t i role at here bad =
       let g = get_beside roles guests i role count here in
       let o = all i g.0 g.1 in
-      good_opened seen disk_faults c events old.tells old.held o.0 g.0 at o.2 t (subst (λ r. IsBadAs c r (old.held r) at r.kind) (same_Some role o.0 (sym here ∙ o.1)) bad)
+      good_opened seen disk_faults c window events old.tells old.held o.0 g.0 at o.2 t (subst (λ r. IsBadAs c r (old.held r) at r.kind) (same_Some role o.0 (sym here ∙ o.1)) bad)
 
   -- the roles ran to this answer
-  pub host_ran : HostAnswered roles tend c events turns old new (ended_status answer)
+  pub host_ran : HostAnswered roles tend c window events turns old new (ended_status answer)
   host_ran = record {
     did = did_so answer refl;
     written = λ no. ran.unwritten (λ e. no (ap ended_status e));

@@ -74,20 +74,20 @@ pub later_still : (before mid after : RoleId → ℕ) → ((a : RoleId) → befo
 later_still before mid after first second a = omega (arith, first a, second a)
 
 -- the name of a role that was opened
-name_opened : (c : Cluster) (events : List Event) (me : RoleId) (records : List Record) (k : Kind) → name_of (opened_as c events me records k) ≡ me
-name_opened c events me records Client = refl
-name_opened c events me records Batcher = refl
-name_opened c events me records Leader = refl
-name_opened c events me records Proxy = refl
-name_opened c events me records Acceptor = refl
-name_opened c events me records Matchmaker = refl
-name_opened c events me records Replica = refl
-name_opened c events me records Unbatcher = refl
-name_opened c events me records Reader = refl
+name_opened : (c : Cluster) (window : ℕ) (events : List Event) (me : RoleId) (records : List Record) (k : Kind) → name_of (opened_as c window events me records k) ≡ me
+name_opened c window events me records Client = refl
+name_opened c window events me records Batcher = refl
+name_opened c window events me records Leader = refl
+name_opened c window events me records Proxy = refl
+name_opened c window events me records Acceptor = refl
+name_opened c window events me records Matchmaker = refl
+name_opened c window events me records Replica = refl
+name_opened c window events me records Unbatcher = refl
+name_opened c window events me records Reader = refl
 
-pub who_opened : {S : Type 0} (seen : S → Option (List ℕ)) (disk_faults : S → ℕ) (c : Cluster) (events : List Event) (tells : Bool) (file : List ℕ) (me : RoleId) (guest : Guest (JournalState S))
-    → IsOpened seen disk_faults c events tells file me guest → who guest ≡ me
-who_opened seen disk_faults c events tells file me guest opened = ap name_of opened.hosted ∙ name_opened c events me opened.records me.kind
+pub who_opened : {S : Type 0} (seen : S → Option (List ℕ)) (disk_faults : S → ℕ) (c : Cluster) (window : ℕ) (events : List Event) (tells : Bool) (file : List ℕ) (me : RoleId) (guest : Guest (JournalState S))
+    → IsOpened seen disk_faults c window events tells file me guest → who guest ≡ me
+who_opened seen disk_faults c window events tells file me guest opened = ap name_of opened.hosted ∙ name_opened c window events me opened.records me.kind
 
 pub lent_append : {K : Type 0} (guests more : List (Guest K)) → lent_to (guests ++ more) ≡ lent_to guests ++ lent_to more
 lent_append [] more = refl
@@ -114,11 +114,11 @@ one_more P [] x each last (suc i) y e = cc
 one_more P (z ∷ zs) x each last zero y e = each zero y e
 one_more P (z ∷ zs) x each last (suc i) y e = one_more (λ k. P (suc k)) zs x (λ k. each (suc k)) last i y e
 
-module _ {S : Type 0} (seen : S → Option (List ℕ)) (disk_faults : S → ℕ) (c : Cluster) (events : List Event) (tells : Bool) (held : RoleId → List ℕ) (roles : List RoleId) (guests : List (Guest (JournalState S))) (me : RoleId) (next : slice_get roles (length guests) ≡ Some me) (all : AreOpened seen disk_faults c events tells held roles guests) where
+module _ {S : Type 0} (seen : S → Option (List ℕ)) (disk_faults : S → ℕ) (c : Cluster) (window : ℕ) (events : List Event) (tells : Bool) (held : RoleId → List ℕ) (roles : List RoleId) (guests : List (Guest (JournalState S))) (me : RoleId) (next : slice_get roles (length guests) ≡ Some me) (all : AreOpened seen disk_faults c window events tells held roles guests) where
   -- the next role of the list is opened
-  pub opened_more : (guest : Guest (JournalState S)) → IsOpened seen disk_faults c events tells (held me) me guest → AreOpened seen disk_faults c events tells held roles (guests ++ guest ∷ [])
+  pub opened_more : (guest : Guest (JournalState S)) → IsOpened seen disk_faults c window events tells (held me) me guest → AreOpened seen disk_faults c window events tells held roles (guests ++ guest ∷ [])
   opened_more guest opened =
-      one_more (λ i (g : Guest (JournalState S)). (a : RoleId) × (slice_get roles i ≡ Some a) × IsOpened seen disk_faults c events tells (held a) a g) guests guest all (me, next, opened)
+      one_more (λ i (g : Guest (JournalState S)). (a : RoleId) × (slice_get roles i ≡ Some a) × IsOpened seen disk_faults c window events tells (held a) a g) guests guest all (me, next, opened)
 
   -- its store isn't out yet
   pub next_in_depot : ((i j : ℕ) (a : RoleId) → slice_get roles i ≡ Some a → slice_get roles j ≡ Some a → i ≡ j) → list_any (same_role me) (lent_to guests) ≡ false
@@ -128,6 +128,6 @@ module _ {S : Type 0} (seen : S → Option (List ℕ)) (disk_faults : S → ℕ)
       other i g at false e = e
       other i g at true e =
           let one = all i g at in
-          let same : one.0 ≡ me = sym (who_opened seen disk_faults c events tells (held one.0) one.0 g one.2) ∙ sym (same_role-true me (who g) e) in
+          let same : one.0 ≡ me = sym (who_opened seen disk_faults c window events tells (held one.0) one.0 g one.2) ∙ sym (same_role-true me (who g) e) in
           let place : i ≡ length guests = distinct i (length guests) me (one.1 ∙ ap Some same) next in
           absurd (omega (arith, place, slice_get_within guests i g at))

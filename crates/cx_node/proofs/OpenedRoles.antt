@@ -56,27 +56,27 @@ AreApart roles = (i j : ℕ) (me : RoleId) → slice_get roles i ≡ Some me →
 
 -- ---- one role
 
-name_opened : (c : Cluster) (events : List Event) (me : RoleId) (records : List Record) (k : Kind) → name_of (opened_as c events me records k) ≡ me
-name_opened c events me records Client = refl
-name_opened c events me records Batcher = refl
-name_opened c events me records Leader = refl
-name_opened c events me records Proxy = refl
-name_opened c events me records Acceptor = refl
-name_opened c events me records Matchmaker = refl
-name_opened c events me records Replica = refl
-name_opened c events me records Unbatcher = refl
-name_opened c events me records Reader = refl
+name_opened : (c : Cluster) (window : ℕ) (events : List Event) (me : RoleId) (records : List Record) (k : Kind) → name_of (opened_as c window events me records k) ≡ me
+name_opened c window events me records Client = refl
+name_opened c window events me records Batcher = refl
+name_opened c window events me records Leader = refl
+name_opened c window events me records Proxy = refl
+name_opened c window events me records Acceptor = refl
+name_opened c window events me records Matchmaker = refl
+name_opened c window events me records Replica = refl
+name_opened c window events me records Unbatcher = refl
+name_opened c window events me records Reader = refl
 
-live_opened : (c : Cluster) (events : List Event) (me : RoleId) (records : List Record) (k : Kind) → is_live (opened_as c events me records k) ≡ true
-live_opened c events me records Client = refl
-live_opened c events me records Batcher = refl
-live_opened c events me records Leader = refl
-live_opened c events me records Proxy = refl
-live_opened c events me records Acceptor = refl
-live_opened c events me records Matchmaker = refl
-live_opened c events me records Replica = refl
-live_opened c events me records Unbatcher = refl
-live_opened c events me records Reader = refl
+live_opened : (c : Cluster) (window : ℕ) (events : List Event) (me : RoleId) (records : List Record) (k : Kind) → is_live (opened_as c window events me records k) ≡ true
+live_opened c window events me records Client = refl
+live_opened c window events me records Batcher = refl
+live_opened c window events me records Leader = refl
+live_opened c window events me records Proxy = refl
+live_opened c window events me records Acceptor = refl
+live_opened c window events me records Matchmaker = refl
+live_opened c window events me records Replica = refl
+live_opened c window events me records Unbatcher = refl
+live_opened c window events me records Reader = refl
 
 -- ---- stores of their own
 
@@ -118,21 +118,21 @@ module _ {D : Type 0} (seen : D → Option (List ℕ)) (disk_faults : D → ℕ)
   has_records records true (Some k) j e has = subst (HasRecords seen disk_faults tells records) (same_Some k j e) has
   has_records records false (Some k) j e has = absurd has
 
-module _ {D : Type 0} (seen : D → Option (List ℕ)) (disk_faults : D → ℕ) (c : Cluster) (events : List Event) (tells : Bool) (held : RoleId → List ℕ) where
-  pub name_is : (me : RoleId) (guest : Guest (JournalState D)) → IsOpened seen disk_faults c events tells (held me) me guest → who guest ≡ me
-  name_is me guest o = ap name_of o.hosted ∙ name_opened c events me o.records me.kind
+module _ {D : Type 0} (seen : D → Option (List ℕ)) (disk_faults : D → ℕ) (c : Cluster) (window : ℕ) (events : List Event) (tells : Bool) (held : RoleId → List ℕ) where
+  pub name_is : (me : RoleId) (guest : Guest (JournalState D)) → IsOpened seen disk_faults c window events tells (held me) me guest → who guest ≡ me
+  name_is me guest o = ap name_of o.hosted ∙ name_opened c window events me o.records me.kind
 
-  pub keeps_journal : (me : RoleId) (guest : Guest (JournalState D)) (o : IsOpened seen disk_faults c events tells (held me) me guest) → is_durable me.kind ≡ true
+  pub keeps_journal : (me : RoleId) (guest : Guest (JournalState D)) (o : IsOpened seen disk_faults c window events tells (held me) me guest) → is_durable me.kind ≡ true
       → (j : JournalState D) × (keeper_of guest ≡ Some j) × HasRecords seen disk_faults tells o.records j
   keeps_journal me guest o durable = has_journal seen disk_faults tells o.records (is_durable me.kind) (keeper_of guest) durable o.journal
 
   -- the store of a role that was opened is its own
-  pub good_opened : (me : RoleId) (guest : Guest (JournalState D)) (at : ℕ) → IsOpened seen disk_faults c events tells (held me) me guest → tells ≡ true → IsBadAs c me (held me) at me.kind → ⊥
+  pub good_opened : (me : RoleId) (guest : Guest (JournalState D)) (at : ℕ) → IsOpened seen disk_faults c window events tells (held me) me guest → tells ≡ true → IsBadAs c me (held me) at me.kind → ⊥
   good_opened me guest at o t bad = good_as c me (held me) o.records at me.kind (o.read t) o.accepted bad
 
   -- ---- all roles
 
-  pub distinct_opened : (roles : List RoleId) (guests : List (Guest (JournalState D))) → AreApart roles → AreOpened seen disk_faults c events tells held roles guests → AreDistinct (hosted_in guests)
+  pub distinct_opened : (roles : List RoleId) (guests : List (Guest (JournalState D))) → AreApart roles → AreOpened seen disk_faults c window events tells held roles guests → AreDistinct (hosted_in guests)
   distinct_opened roles guests apart all i j a b here there same =
       let g = get_map hosted_of guests i a here in
       let h = get_map hosted_of guests j b there in
@@ -142,10 +142,10 @@ module _ {D : Type 0} (seen : D → Option (List ℕ)) (disk_faults : D → ℕ)
       apart i j p.0 (o.1 ∙ ap Some name) p.1
 
   pub ready_opened : (roles : List RoleId) (guests : List (Guest (JournalState D))) → AreApart roles → ((i : ℕ) (me : RoleId) → slice_get roles i ≡ Some me → IsTrue (names_role c me))
-      → AreOpened seen disk_faults c events tells held roles guests → AreReady c guests
+      → AreOpened seen disk_faults c window events tells held roles guests → AreReady c guests
   ready_opened roles guests apart named all = record {
     each = λ i h at. let o = all i h at in record {
-      live = subst IsTrue (sym (ap is_live o.2.hosted ∙ live_opened c events o.0 o.2.records o.0.kind)) refl;
+      live = subst IsTrue (sym (ap is_live o.2.hosted ∙ live_opened c window events o.0 o.2.records o.0.kind)) refl;
       named = subst (λ me. IsTrue (names_role c me)) (sym (name_is o.0 h o.2)) (named i o.0 o.1);
     };
     distinct = distinct_opened roles guests apart all;
@@ -153,7 +153,7 @@ module _ {D : Type 0} (seen : D → Option (List ℕ)) (disk_faults : D → ℕ)
 
   -- a role was opened from these records
   abbrev pub IsOpenedFrom : List Record → RoleId → Guest (JournalState D) → Type 0
-  IsOpenedFrom records me guest = (o : IsOpened seen disk_faults c events tells (held me) me guest) × (o.records ≡ records)
+  IsOpenedFrom records me guest = (o : IsOpened seen disk_faults c window events tells (held me) me guest) × (o.records ≡ records)
 
   -- each role of a list was opened from its records
   abbrev pub AreOpenedFrom : (RoleId → List Record) → List RoleId → List (Guest (JournalState D)) → Type 0
@@ -167,7 +167,7 @@ module _ {D : Type 0} (seen : D → Option (List ℕ)) (disk_faults : D → ℕ)
   AreTold roles guests = (told : RoleId → List Record) × (tells ≡ true → (me : RoleId) → is_durable me.kind ≡ true → told me ≡ told_to held me) × AreOpenedFrom told roles guests
 
   told_more : (r : RoleId) (rs : List RoleId) (g : Guest (JournalState D)) (gs : List (Guest (JournalState D))) → AreApart (r ∷ rs)
-      → IsOpened seen disk_faults c events tells (held r) r g → AreTold rs gs → AreTold (r ∷ rs) (g ∷ gs)
+      → IsOpened seen disk_faults c window events tells (held r) r g → AreTold rs gs → AreTold (r ∷ rs) (g ∷ gs)
   told_more r rs g gs apart first rest = (told, is_told, from)
     where
       told : RoleId → List Record
@@ -190,21 +190,21 @@ module _ {D : Type 0} (seen : D → Option (List ℕ)) (disk_faults : D → ℕ)
           let same : told me ≡ rest.0 me = rw other refl in
           subst (λ rs. IsOpenedFrom rs me guest) (sym same) (rest.2 i me guest a b)
 
-  pub told_opened : (roles : List RoleId) (guests : List (Guest (JournalState D))) → AreApart roles → AreOpened seen disk_faults c events tells held roles guests → AreTold roles guests
+  pub told_opened : (roles : List RoleId) (guests : List (Guest (JournalState D))) → AreApart roles → AreOpened seen disk_faults c window events tells held roles guests → AreTold roles guests
   told_opened roles [] apart all = (told_to held, (λ t me d. refl), λ i me guest a b. absurd (none-some guest b))
   told_opened [] (g ∷ gs) apart all = let o = all 0 g refl in absurd (none-some o.0 o.1)
   told_opened (r ∷ rs) (g ∷ gs) apart all =
       let one = all 0 g refl in
-      told_more r rs g gs apart (subst (λ me. IsOpened seen disk_faults c events tells (held me) me g) (sym (same_Some r one.0 one.1)) one.2)
+      told_more r rs g gs apart (subst (λ me. IsOpened seen disk_faults c window events tells (held me) me g) (sym (same_Some r one.0 one.1)) one.2)
       (told_opened rs gs (λ i j me a b. let e = apart (suc i) (suc j) me a b in omega (arith, e)) (λ i. all (suc i)))
 
   pub hosts_opened : (told : RoleId → List Record) (roles : List RoleId) (guests : List (Guest (JournalState D))) → length guests ≡ length roles → AreOpenedFrom told roles guests
-      → hosted_in guests ≡ hosts c events told roles
+      → hosted_in guests ≡ hosts c window events told roles
   hosts_opened told [] [] same from = refl
   hosts_opened told [] (g ∷ gs) same from = absurd (omega (arith, same))
   hosts_opened told (r ∷ rs) [] same from = absurd (omega (arith, same))
   hosts_opened told (r ∷ rs) (g ∷ gs) same from =
       let o = from 0 r g refl refl in
       let fewer : length gs ≡ length rs = omega (arith, same) in
-      ap (λ (h : Hosted). h ∷ hosted_in gs) (o.0.hosted ∙ ap (λ rec. opened_as c events r rec r.kind) o.1)
-      ∙ ap (λ (hs : List Hosted). opened_as c events r (told r) r.kind ∷ hs) (hosts_opened told rs gs fewer (λ i. from (suc i)))
+      ap (λ (h : Hosted). h ∷ hosted_in gs) (o.0.hosted ∙ ap (λ rec. opened_as c window events r rec r.kind) o.1)
+      ∙ ap (λ (hs : List Hosted). opened_as c window events r (told r) r.kind ∷ hs) (hosts_opened told rs gs fewer (λ i. from (suc i)))

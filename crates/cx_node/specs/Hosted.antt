@@ -89,7 +89,7 @@ given (ReplicaAt s) i = by_row replica_rules ReplicaAt s i
 given (UnbatcherAt s) i = by_row unbatcher_rules UnbatcherAt s i
 given (ReaderAt s) i = by_row reader_rules ReaderAt s i
 
--- a client sends its first request; another role has nothing to begin with
+-- a client sends its outstanding requests; another role has nothing to begin with
 abbrev pub begun : Hosted → Step
 begun (ClientAt s) = record { next = ClientAt s; kept = []; sends = client_start s; text = [] }
 begun (BatcherAt s) = rests (BatcherAt s)

@@ -73,25 +73,25 @@ pub record Ran {K : Type 0} (gives : Appending K) (tend : Option ℕ) (c : Clust
   pub unlinked : (answer ≡ Err stop.LinkFault → ⊥) → links_after ≡ links
 
 -- the whole run was made, to this end
-abbrev pub HostEnds : List RoleId → Option ℕ → Cluster → List Event → ℕ → RunEnd → Outside → Outside → Type 0
-HostEnds roles tend c events turns e old new =
-    (told : RoleId → List Record) × (takes : Takes) × Served roles tend c events told takes old new × IsEnd tend c turns (hosts c events told roles) takes e
+abbrev pub HostEnds : List RoleId → Option ℕ → Cluster → ℕ → List Event → ℕ → RunEnd → Outside → Outside → Type 0
+HostEnds roles tend c window events turns e old new =
+    (told : RoleId → List Record) × (takes : Takes) × Served roles tend c window events told takes old new × IsEnd tend c turns (hosts c window events told roles) takes e
 
 -- the first of its actions were done
-abbrev pub HostEndsEarly : List RoleId → Option ℕ → Cluster → List Event → ℕ → Outside → Outside → Type 0
-HostEndsEarly roles tend c events turns old new =
-    (told : RoleId → List Record) × (takes : Takes) × ServedPart roles tend c events told takes old new × IsUnderway tend c turns (hosts c events told roles) takes
+abbrev pub HostEndsEarly : List RoleId → Option ℕ → Cluster → ℕ → List Event → ℕ → Outside → Outside → Type 0
+HostEndsEarly roles tend c window events turns old new =
+    (told : RoleId → List Record) × (takes : Takes) × ServedPart roles tend c window events told takes old new × IsUnderway tend c turns (hosts c window events told roles) takes
 
 -- what was done, and why, for each answer; hosting reads nothing
-abbrev pub HostDid : List RoleId → Option ℕ → Cluster → List Event → ℕ → Outside → Outside → Status → Type 0
-HostDid roles tend c events turns old new status.Done = HostEnds roles tend c events turns end.Done old new
-HostDid roles tend c events turns old new status.Turns = HostEnds roles tend c events turns end.Turns old new
-HostDid roles tend c events turns old new status.LinkFault = HostEndsEarly roles tend c events turns old new × Rises old.links new.links
-HostDid roles tend c events turns old new status.WriteFault = HostEndsEarly roles tend c events turns old new × Rises old.writes new.writes
-HostDid roles tend c events turns old new (status.StoreFault role) = HostEndsEarly roles tend c events turns old new × Rises (old.stores role) (new.stores role)
-HostDid roles tend c events turns old new (status.BadStore role at) = HostEndsEarly roles tend c events turns old new × (old.tells ≡ true → IsFirstBad roles c old.held role at)
-HostDid roles tend c events turns old new status.NoMemory = HostEndsEarly roles tend c events turns old new
-HostDid roles tend c events turns old new other = ⊥
+abbrev pub HostDid : List RoleId → Option ℕ → Cluster → ℕ → List Event → ℕ → Outside → Outside → Status → Type 0
+HostDid roles tend c window events turns old new status.Done = HostEnds roles tend c window events turns end.Done old new
+HostDid roles tend c window events turns old new status.Turns = HostEnds roles tend c window events turns end.Turns old new
+HostDid roles tend c window events turns old new status.LinkFault = HostEndsEarly roles tend c window events turns old new × Rises old.links new.links
+HostDid roles tend c window events turns old new status.WriteFault = HostEndsEarly roles tend c window events turns old new × Rises old.writes new.writes
+HostDid roles tend c window events turns old new (status.StoreFault role) = HostEndsEarly roles tend c window events turns old new × Rises (old.stores role) (new.stores role)
+HostDid roles tend c window events turns old new (status.BadStore role at) = HostEndsEarly roles tend c window events turns old new × (old.tells ≡ true → IsFirstBad roles c old.held role at)
+HostDid roles tend c window events turns old new status.NoMemory = HostEndsEarly roles tend c window events turns old new
+HostDid roles tend c window events turns old new other = ⊥
 
 -- the roles ran
 abbrev pub HasRun : Status → Type 0
@@ -101,8 +101,8 @@ HasRun status.WriteFault = Unit {0}
 HasRun other = ⊥
 
 -- what hosting answered; a failed write or take, and a store that failed, is always reported, and roles run only from stores of their own
-pub record HostAnswered (roles : List RoleId) (tend : Option ℕ) (c : Cluster) (events : List Event) (turns : ℕ) (old new : Outside) (s : Status) : Type 0 where
-  pub did : HostDid roles tend c events turns old new s
+pub record HostAnswered (roles : List RoleId) (tend : Option ℕ) (c : Cluster) (window : ℕ) (events : List Event) (turns : ℕ) (old new : Outside) (s : Status) : Type 0 where
+  pub did : HostDid roles tend c window events turns old new s
   pub written : (s ≡ status.WriteFault → ⊥) → new.writes ≡ old.writes
   pub linked : (s ≡ status.LinkFault → ⊥) → new.links ≡ old.links
   pub good : HasRun s → old.tells ≡ true → (i : ℕ) (role : RoleId) (at : ℕ) → slice_get roles i ≡ Some role → IsBadAs c role (old.held role) at role.kind → ⊥

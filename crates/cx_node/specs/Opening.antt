@@ -38,16 +38,16 @@ is_durable kind.Unbatcher = false
 is_durable kind.Reader = false
 
 -- A role of this kind as it is opened: a client with its requests among those of the input, another one from its records.
-abbrev pub opened_as : Cluster → List Event → RoleId → List Record → Kind → Hosted
-opened_as c events me records kind.Client = ClientAt (client_opened c me (script_of me.index events))
-opened_as c events me records kind.Batcher = BatcherAt (opened batcher_rules c me [])
-opened_as c events me records kind.Leader = LeaderAt (opened leader_rules c me records)
-opened_as c events me records kind.Proxy = ProxyAt (opened proxy_rules c me [])
-opened_as c events me records kind.Acceptor = AcceptorAt (opened acceptor_rules c me records)
-opened_as c events me records kind.Matchmaker = MatchmakerAt (opened matchmaker_rules c me records)
-opened_as c events me records kind.Replica = ReplicaAt (opened replica_rules c me records)
-opened_as c events me records kind.Unbatcher = UnbatcherAt (opened unbatcher_rules c me [])
-opened_as c events me records kind.Reader = ReaderAt (opened reader_rules c me [])
+abbrev pub opened_as : Cluster → ℕ → List Event → RoleId → List Record → Kind → Hosted
+opened_as c window events me records kind.Client = ClientAt (client_opened c me (script_of me.index events) window)
+opened_as c window events me records kind.Batcher = BatcherAt (opened batcher_rules c me [])
+opened_as c window events me records kind.Leader = LeaderAt (opened leader_rules c me records)
+opened_as c window events me records kind.Proxy = ProxyAt (opened proxy_rules c me [])
+opened_as c window events me records kind.Acceptor = AcceptorAt (opened acceptor_rules c me records)
+opened_as c window events me records kind.Matchmaker = MatchmakerAt (opened matchmaker_rules c me records)
+opened_as c window events me records kind.Replica = ReplicaAt (opened replica_rules c me records)
+opened_as c window events me records kind.Unbatcher = UnbatcherAt (opened unbatcher_rules c me [])
+opened_as c window events me records kind.Reader = ReaderAt (opened reader_rules c me [])
 
 -- the bytes are no store of a role of this kind, for the reason at this place
 abbrev pub IsBadAs : Cluster → RoleId → List ℕ → ℕ → Kind → Type 0
@@ -79,18 +79,18 @@ HasJournal seen disk_faults tells records false (Some j) = ⊥
 
 -- A role was opened from the bytes of its store, if it has one: they are the image of records none of which it refuses, and its
 -- journal has them.
-pub record IsOpened {D : Type 0} (seen : D → Option (List ℕ)) (disk_faults : D → ℕ) (c : Cluster) (events : List Event) (tells : Bool) (file : List ℕ) (me : RoleId) (guest : Guest (JournalState D)) : Type 0 where
+pub record IsOpened {D : Type 0} (seen : D → Option (List ℕ)) (disk_faults : D → ℕ) (c : Cluster) (window : ℕ) (events : List Event) (tells : Bool) (file : List ℕ) (me : RoleId) (guest : Guest (JournalState D)) : Type 0 where
   pub records : List Record
-  pub hosted : hosted_of guest ≡ opened_as c events me records me.kind
+  pub hosted : hosted_of guest ≡ opened_as c window events me records me.kind
   pub accepted : refused_as c me records me.kind ≡ None
   pub read : tells ≡ true → is_durable me.kind ≡ true → image (Some me.kind) file ≡ Ok records
   pub journal : HasJournal seen disk_faults tells records (is_durable me.kind) (keeper_of guest)
 
 -- the first roles of a list were opened, each from what its store held
-abbrev pub AreOpened : {D : Type 0} → (D → Option (List ℕ)) → (D → ℕ) → Cluster → List Event → Bool → (RoleId → List ℕ) → List RoleId → List (Guest (JournalState D)) → Type 0
-AreOpened {D} seen disk_faults c events tells held roles guests =
+abbrev pub AreOpened : {D : Type 0} → (D → Option (List ℕ)) → (D → ℕ) → Cluster → ℕ → List Event → Bool → (RoleId → List ℕ) → List RoleId → List (Guest (JournalState D)) → Type 0
+AreOpened {D} seen disk_faults c window events tells held roles guests =
     (i : ℕ) (guest : Guest (JournalState D)) → slice_get guests i ≡ Some guest
-    → (me : RoleId) × (slice_get roles i ≡ Some me) × IsOpened seen disk_faults c events tells (held me) me guest
+    → (me : RoleId) × (slice_get roles i ≡ Some me) × IsOpened seen disk_faults c window events tells (held me) me guest
 
 -- the names of those that have a store, in their order
 abbrev pub lent_to : {K : Type 0} → List (Guest K) → List RoleId

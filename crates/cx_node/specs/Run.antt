@@ -113,7 +113,7 @@ abbrev pub turns_from : {S : Type 0} → (ℕ → Option (List ℕ) → S → Mo
 turns_from step n [] s = stays s
 turns_from step n (what ∷ rest) s = then_do (step n what s) (λ after. turns_from step (n + 1) rest after)
 
--- The whole run: clients send their first requests, and then come the turns.
+-- The whole run: clients send their outstanding requests, and then come the turns.
 abbrev pub untended_run : Cluster → List (Option (List ℕ)) → List Hosted → Moved (List Hosted)
 untended_run c takes hs = then_do (all_do Begin hs) (λ after. turns_from (turn c) 1 takes after)
 

@@ -48,12 +48,12 @@ abbrev pub told_to : (RoleId → List ℕ) → RoleId → List Record
 told_to held me = records_or_none (image (Some me.kind) (held me))
 
 -- the hosted roles as they are opened, each from these records
-abbrev pub hosts : Cluster → List Event → (RoleId → List Record) → List RoleId → List Hosted
-hosts c events told roles = map (λ (me : RoleId). opened_as c events me (told me) me.kind) roles
+abbrev pub hosts : Cluster → ℕ → List Event → (RoleId → List Record) → List RoleId → List Hosted
+hosts c window events told roles = map (λ (me : RoleId). opened_as c window events me (told me) me.kind) roles
 
 -- the run of these roles over what the takes of a link gave
-abbrev pub run_of : Option ℕ → Cluster → List Event → (RoleId → List Record) → List RoleId → Takes → Moved (List Hosted)
-run_of tend c events told roles takes = node_run tend c takes (hosts c events told roles)
+abbrev pub run_of : Option ℕ → Cluster → ℕ → List Event → (RoleId → List Record) → List RoleId → Takes → Moved (List Hosted)
+run_of tend c window events told roles takes = node_run tend c takes (hosts c window events told roles)
 
 -- the input says this cluster and these requests, and is refused for nothing
 abbrev pub Says : List RoleId → Option (List ℕ) → Cluster → List Event → Type 0
@@ -64,8 +64,8 @@ abbrev pub IsTold : Outside → (RoleId → List Record) → Type 0
 IsTold old told = old.tells ≡ true → (me : RoleId) → is_durable me.kind ≡ true → told me ≡ told_to old.held me
 
 -- all that is done to the end of a run: each role is bound to its port, and then come the actions of the run
-abbrev pub whole_run : Option ℕ → Cluster → List Event → (RoleId → List Record) → List RoleId → Takes → List Action
-whole_run tend c events told roles takes = map Bound roles ++ (run_of tend c events told roles takes).actions
+abbrev pub whole_run : Option ℕ → Cluster → ℕ → List Event → (RoleId → List Record) → List RoleId → Takes → List Action
+whole_run tend c window events told roles takes = map Bound roles ++ (run_of tend c window events told roles takes).actions
 
 -- These actions were done, and no others: the link's history has their binds, takes and sends, their bytes are printed, and each hosted role's store
 -- has their records of it, after those that it had. Of a role that isn't hosted nothing was touched.
@@ -78,34 +78,34 @@ pub record Did (roles : List RoleId) (c : Cluster) (actions : List Action) (old 
   pub tells : new.tells ≡ old.tells
 
 -- A whole run was done: over what the takes of the link gave, and from the records that the stores had.
-pub record Served (roles : List RoleId) (tend : Option ℕ) (c : Cluster) (events : List Event) (told : RoleId → List Record) (takes : Takes) (old new : Outside) : Type 0 where
+pub record Served (roles : List RoleId) (tend : Option ℕ) (c : Cluster) (window : ℕ) (events : List Event) (told : RoleId → List Record) (takes : Takes) (old new : Outside) : Type 0 where
   pub told_by : IsTold old told
   pub told_whole : old.tells ≡ true → (i : ℕ) (me : RoleId) → slice_get roles i ≡ Some me → is_durable me.kind ≡ true → told_records (Some (old.held me)) ≡ told me
-  pub taken : HasTaken takes (run_of tend c events told roles takes).actions
-  pub did : Did roles c (whole_run tend c events told roles takes) old new
+  pub taken : HasTaken takes (run_of tend c window events told roles takes).actions
+  pub did : Did roles c (whole_run tend c window events told roles takes) old new
 
 -- The first actions of a run were done, one after the other, and no others. What the link gave is in them too, so each rests on what was
 -- taken and kept before it; what the takes to come would give is free.
-pub record ServedPart (roles : List RoleId) (tend : Option ℕ) (c : Cluster) (events : List Event) (told : RoleId → List Record) (takes : Takes) (old new : Outside) : Type 0 where
+pub record ServedPart (roles : List RoleId) (tend : Option ℕ) (c : Cluster) (window : ℕ) (events : List Event) (told : RoleId → List Record) (takes : Takes) (old new : Outside) : Type 0 where
   pub told_by : IsTold old told
   pub count : ℕ
-  pub did : Did roles c (take count (whole_run tend c events told roles takes)) old new
+  pub did : Did roles c (take count (whole_run tend c window events told roles takes)) old new
 
 -- the input was read to its end, and no read failed
 abbrev pub AllRead : Outside → Outside → Type 0
 AllRead old new = IsAtEnd new.left × (new.reads ≡ old.reads)
 
 -- the input was accepted, and the whole run was made, to this end
-abbrev pub Ends : List RoleId → Option ℕ → ℕ → RunEnd → Outside → Outside → Type 0
-Ends roles tend turns e old new =
+abbrev pub Ends : List RoleId → Option ℕ → ℕ → ℕ → RunEnd → Outside → Outside → Type 0
+Ends roles tend window turns e old new =
     (c : Cluster) × (events : List Event) × (told : RoleId → List Record) × (takes : Takes)
-    × Says roles old.left c events × AllRead old new × Served roles tend c events told takes old new × IsEnd tend c turns (hosts c events told roles) takes e
+    × Says roles old.left c events × AllRead old new × Served roles tend c window events told takes old new × IsEnd tend c turns (hosts c window events told roles) takes e
 
 -- the input was accepted, and the first actions of its run were done
-abbrev pub EndsEarly : List RoleId → Option ℕ → ℕ → Outside → Outside → Type 0
-EndsEarly roles tend turns old new =
+abbrev pub EndsEarly : List RoleId → Option ℕ → ℕ → ℕ → Outside → Outside → Type 0
+EndsEarly roles tend window turns old new =
     (c : Cluster) × (events : List Event) × (told : RoleId → List Record) × (takes : Takes)
-    × Says roles old.left c events × AllRead old new × ServedPart roles tend c events told takes old new × IsUnderway tend c turns (hosts c events told roles) takes
+    × Says roles old.left c events × AllRead old new × ServedPart roles tend c window events told takes old new × IsUnderway tend c turns (hosts c window events told roles) takes
 
 -- nothing but the source was used
 pub record IsUntouched (old new : Outside) : Type 0 where
@@ -129,22 +129,22 @@ abbrev pub AnswersPart : List RoleId → Option (List ℕ) → Option (List ℕ)
 AnswersPart roles left left_after s = (why : Refusal) × (s ≡ refused_status why) × FailsRead roles left left_after why
 
 -- What a node answered: what was done, and why.
-pub record Answered (roles : List RoleId) (tend : Option ℕ) (turns : ℕ) (old new : Outside) (s : Status) : Type 0 where
+pub record Answered (roles : List RoleId) (tend : Option ℕ) (window turns : ℕ) (old new : Outside) (s : Status) : Type 0 where
   -- Done: all hosted clients have finished, or none is hosted and all turns were made; Turns: all were made, and a client hasn't finished.
-  pub done : s ≡ status.Done → Ends roles tend turns end.Done old new
-  pub turns_ended : s ≡ status.Turns → Ends roles tend turns end.Turns old new
+  pub done : s ≡ status.Done → Ends roles tend window turns end.Done old new
+  pub turns_ended : s ≡ status.Turns → Ends roles tend window turns end.Turns old new
   -- The input is refused by a role outside the cluster, or its first bad line, or a read failed; nothing else was done.
   pub bad_words : s ≡ status.BadWords → IfSome old.left (λ all. refused_of roles (input_of all) ≡ Some refusal.BadWords) × IsUntouched old new
   pub bad_input : (line : ℕ) → s ≡ status.BadInput line → IfSome old.left (λ all. refused_of roles (input_of all) ≡ Some (refusal.BadInput line)) × IsUntouched old new
   pub read_fault : s ≡ status.ReadFault → Rises old.reads new.reads × IsUntouched old new
   -- A failure after that: its count has risen, and the first actions of the run were done.
-  pub link_fault : s ≡ status.LinkFault → Rises old.links new.links × EndsEarly roles tend turns old new
-  pub write_fault : s ≡ status.WriteFault → Rises old.writes new.writes × EndsEarly roles tend turns old new
-  pub store_fault : (role : RoleId) → s ≡ status.StoreFault role → Rises (old.stores role) (new.stores role) × EndsEarly roles tend turns old new
+  pub link_fault : s ≡ status.LinkFault → Rises old.links new.links × EndsEarly roles tend window turns old new
+  pub write_fault : s ≡ status.WriteFault → Rises old.writes new.writes × EndsEarly roles tend window turns old new
+  pub store_fault : (role : RoleId) → s ≡ status.StoreFault role → Rises (old.stores role) (new.stores role) × EndsEarly roles tend window turns old new
   -- The first store that isn't one of its role's is reported with the place of its first fault.
-  pub bad_store : (role : RoleId) (at : ℕ) → s ≡ status.BadStore role at → EndsEarly roles tend turns old new
+  pub bad_store : (role : RoleId) (at : ℕ) → s ≡ status.BadStore role at → EndsEarly roles tend window turns old new
   pub bad_place : (role : RoleId) (at : ℕ) → s ≡ status.BadStore role at → old.tells ≡ true → (c : Cluster) × (events : List Event) × Says roles old.left c events × IsFirstBad roles c old.held role at
-  pub no_memory : s ≡ status.NoMemory → IsUntouched old new ⊎ EndsEarly roles tend turns old new
+  pub no_memory : s ≡ status.NoMemory → IsUntouched old new ⊎ EndsEarly roles tend window turns old new
   -- A failed read is always reported, unless the whole lines before it are refused. A failed write or take, and a store that failed, is
   -- always reported.
   pub heard : (new.reads ≡ old.reads) ⊎ AnswersPart roles old.left new.left s

@@ -17,7 +17,7 @@ abbrev pub with_cut : Cut → Event → Event
 with_cut cut (event.Deliver n other) = event.Deliver n cut
 with_cut cut (event.Order l order other) = event.Order l order cut
 with_cut cut (event.Write command batcher) = event.Write command batcher
-with_cut cut (event.Read client seq reader replica key) = event.Read client seq reader replica key
+with_cut cut (event.Read client seq floor reader replica key) = event.Read client seq floor reader replica key
 with_cut cut (event.Tick r) = event.Tick r
 with_cut cut (event.Crash r) = event.Crash r
 with_cut cut (event.Restart r) = event.Restart r
@@ -27,7 +27,7 @@ abbrev pub MayAppend : Event → Type 0
 MayAppend (event.Deliver n cut) = Unit {0}
 MayAppend (event.Order l order cut) = Unit {0}
 MayAppend (event.Write command batcher) = ⊥
-MayAppend (event.Read client seq reader replica key) = ⊥
+MayAppend (event.Read client seq floor reader replica key) = ⊥
 MayAppend (event.Tick r) = ⊥
 MayAppend (event.Crash r) = ⊥
 MayAppend (event.Restart r) = ⊥

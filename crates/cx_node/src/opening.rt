@@ -98,16 +98,19 @@ fn open_client(
     alloc: Global,
     cluster: &Cluster,
     me: RoleId,
+    window: u8,
     events: &[Event],
 ) -> Result<Client, OpenStop>
     requires kind { me.kind ≡ kind.Client }
     requires named { IsTrue (names_role cluster.now me) }
     requires scripts { (client : ℕ) → IsScript cluster.now client (script_of client events.now) }
-    ensures role { IfOk result (λ role. role ≡ client_opened cluster.now me (script_of me.index events.now)) }
+    requires some_window { 1 ≤ window }
+    requires window { window ≤ 64 }
+    ensures role { IfOk result (λ role. role ≡ client_opened cluster.now me (script_of me.index events.now) window) }
     ensures only { OnErr result (result ≡ Err open_stop.NoMemory) }
 {
     match script(alloc, me.index, events) {
-        Ok(script) => Ok(Client::open(cluster, me, script)),
+        Ok(script) => Ok(Client::open(cluster, me, script, window)),
         Err(_) => Err(OpenStop::NoMemory),
     }
 }
@@ -117,13 +120,16 @@ fn open_guest<D: Depot>(
     alloc: Global,
     cluster: &Cluster,
     me: RoleId,
+    window: u8,
     events: &[Event],
     depot: &mut D,
 ) -> Result<Guest<Journal<D::Store>>, OpenStop>
     requires named { IsTrue (names_role cluster.now me) }
     requires scripts { (client : ℕ) → IsScript cluster.now client (script_of client events.now) }
+    requires some_window { 1 ≤ window }
+    requires window { window ≤ 64 }
     requires in_depot { list_any (same_role me) (D.out depot.old) ≡ false }
-    ensures opened { IfOk result (λ guest. IsOpened D.Store.Disk.seen D.Store.Disk.faults cluster.now events.now (D.tells depot.old) (D.held depot.old me) me guest) }
+    ensures opened { IfOk result (λ guest. IsOpened D.Store.Disk.seen D.Store.Disk.faults cluster.now window events.now (D.tells depot.old) (D.held depot.old me) me guest) }
     ensures out { IfOk result (λ guest. D.out depot.new ≡ D.out depot.old ++ lent_to (guest ∷ [])) }
     ensures given_back { OnErr result (D.out depot.new ≡ D.out depot.old) }
     ensures told { D.tells depot.new ≡ D.tells depot.old }
@@ -138,7 +144,7 @@ fn open_guest<D: Depot>(
 {
     match me.kind {
         Kind::Client => {
-            let role = open_client(alloc, cluster, me, events)?;
+            let role = open_client(alloc, cluster, me, window, events)?;
             Ok(Guest::Client { role })
         }
         Kind::Batcher => {
@@ -182,6 +188,7 @@ pub fn open_seats<D: Depot>(
     alloc: Global,
     cluster: &Cluster,
     roles: &[RoleId],
+    window: u8,
     events: &[Event],
     depot: &mut D,
     seats: &mut Vec<Seat<Journal<D::Store>>>,
@@ -189,9 +196,11 @@ pub fn open_seats<D: Depot>(
     requires named { (i : ℕ) (me : RoleId) → slice_get roles.now i ≡ Some me → IsTrue (names_role cluster.now me) }
     requires distinct { (i j : ℕ) (me : RoleId) → slice_get roles.now i ≡ Some me → slice_get roles.now j ≡ Some me → i ≡ j }
     requires scripts { (client : ℕ) → IsScript cluster.now client (script_of client events.now) }
+    requires some_window { 1 ≤ window }
+    requires window { window ≤ 64 }
     requires empty { seats.old.items ≡ [] }
     requires not_out { D.out depot.old ≡ [] }
-    ensures opened { AreOpened D.Store.Disk.seen D.Store.Disk.faults cluster.now events.now (D.tells depot.old) (D.held depot.old) roles.now seats.new.items }
+    ensures opened { AreOpened D.Store.Disk.seen D.Store.Disk.faults cluster.now window events.now (D.tells depot.old) (D.held depot.old) roles.now seats.new.items }
     ensures all { OnOk result (length seats.new.items ≡ length roles.now) }
     ensures out { D.out depot.new ≡ lent_to seats.new.items }
     ensures told { D.tells depot.new ≡ D.tells depot.old }
@@ -212,7 +221,7 @@ pub fn open_seats<D: Depot>(
         if seats.reserve(1).is_err() {
             return Err(OpenStop::NoMemory);
         }
-        let guest = open_guest(alloc, cluster, *role, events, depot)?;
+        let guest = open_guest(alloc, cluster, *role, window, events, depot)?;
         seats.push_reserved(Seat::new(alloc, *role, guest));
     }
     Ok(())

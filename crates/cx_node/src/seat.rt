@@ -128,7 +128,7 @@ fn give_client(
     Ok(())
 }
 
-// A client sends its first request; another role has nothing to begin with.
+// A client sends its outstanding requests; another role has nothing to begin with.
 fn begin<K>(guest: &mut Guest<K>, out: &mut Outbox) -> Result<(), NoMemory>
     requires empty { out.old.list ≡ [] }
     ensures state { guest.new ≡ guest.old }

@@ -1,6 +1,6 @@
 //! Serving: the input is read, ports are bound, stores are opened, and the node runs.
 
-ghost use Rattle.std.specs.Prelude.{◌≡◌, [], ℕ, Bool, List, Option, Result, is_some, slice_get, Some, IsTrue};
+ghost use Rattle.std.specs.Prelude.{◌≡◌, ◌≤◌, [], ℕ, Bool, List, Option, Result, is_some, slice_get, Some, IsTrue};
 ghost use Rattle.std.specs.List.{list_all};
 ghost use Rattle.cx_base.specs.declared.role.RoleId.{RoleId};
 ghost use Rattle.cx_journal.specs.Appends.{IsJournalAppend};
@@ -102,6 +102,7 @@ fn host<L: Link, D: Depot, W: Sink>(
     alloc: Global,
     cluster: &Cluster,
     roles: &[RoleId],
+    window: u8,
     events: &[Event],
     turns: u32,
     tend: Option<u32>,
@@ -112,8 +113,10 @@ fn host<L: Link, D: Depot, W: Sink>(
     requires named { IsTrue (list_all (λ (r : RoleId). names_role cluster.now r) roles.now) }
     requires distinct { (i j : ℕ) (me : RoleId) → slice_get roles.now i ≡ Some me → slice_get roles.now j ≡ Some me → i ≡ j }
     requires scripts { (client : ℕ) → IsScript cluster.now client (script_of client events.now) }
+    requires some_window { 1 ≤ window }
+    requires window { window ≤ 64 }
     requires lent { D.out depot.old ≡ [] }
-    ensures answered { (left left_after : Option (List ℕ)) (reads reads_after : ℕ) → HostAnswered roles.now tend cluster.now events.now turns
+    ensures answered { (left left_after : Option (List ℕ)) (reads reads_after : ℕ) → HostAnswered roles.now tend cluster.now window events.now turns
         (outside left reads (L.told link.old) (L.faults link.old) (W.taken out.old) (W.faults out.old) (D.tells depot.old) (D.held depot.old) (D.faults depot.old))
         (outside left_after reads_after (L.told link.new) (L.faults link.new) (W.taken out.new) (W.faults out.new) (D.tells depot.new) (D.held depot.new) (D.faults depot.new)) result }
     ensures given_back { D.out depot.new ≡ [] }
@@ -122,7 +125,7 @@ fn host<L: Link, D: Depot, W: Sink>(
         return Status::LinkFault;
     }
     let mut opened = Vec::new(alloc);
-    match open_seats(alloc, cluster, roles, events, depot, &mut opened) {
+    match open_seats(alloc, cluster, roles, window, events, depot, &mut opened) {
         Ok(()) => run_seats(alloc, cluster, opened, turns, tend, link, depot, out),
         Err(stop) => {
             close_seats(depot, opened);
@@ -133,13 +136,15 @@ fn host<L: Link, D: Depot, W: Sink>(
 
 /// Hosts these roles: the input is read to its end; each role is bound to its port and opened from its store; and they run `turns`
 /// turns, or until all hosted clients have finished. With `tend` the node tends them, with at most that many turns from one beat to
-/// the next (64 to 65,536 are of use). What was bound, sent, printed and kept is exactly the node's run, or a prefix of it where
-/// something failed, and every store is given back whatever happens. A role or a port that is bound already is a fault of the link.
+/// the next (64 to 65,536 are of use). A hosted client has up to `window` of its requests outstanding, 1 to 64. What was bound, sent,
+/// printed and kept is exactly the node's run, or a prefix of it where something failed, and every store is given back whatever
+/// happens. A role or a port that is bound already is a fault of the link.
 pub fn serve<S: Source, L: Link, D: Depot, W: Sink>(
     alloc: Global,
     roles: &[RoleId],
     turns: u32,
     tend: Option<u32>,
+    window: u8,
     input: &mut S,
     link: &mut L,
     depot: &mut D,
@@ -147,7 +152,9 @@ pub fn serve<S: Source, L: Link, D: Depot, W: Sink>(
 ) -> Status
     requires distinct { (i j : ℕ) (me : RoleId) → slice_get roles.now i ≡ Some me → slice_get roles.now j ≡ Some me → i ≡ j }
     requires lent { D.out depot.old ≡ [] }
-    ensures answered { Answered roles.now tend turns
+    requires some_window { 1 ≤ window }
+    requires window { window ≤ 64 }
+    ensures answered { Answered roles.now tend window turns
         (outside (S.left input.old) (S.faults input.old) (L.told link.old) (L.faults link.old) (W.taken out.old) (W.faults out.old) (D.tells depot.old) (D.held depot.old) (D.faults depot.old))
         (outside (S.left input.new) (S.faults input.new) (L.told link.new) (L.faults link.new) (W.taken out.new) (W.faults out.new) (D.tells depot.new) (D.held depot.new) (D.faults depot.new)) result }
     ensures complete { Completes roles.now
@@ -163,6 +170,7 @@ pub fn serve<S: Source, L: Link, D: Depot, W: Sink>(
             alloc,
             &cluster,
             roles,
+            window,
             schedule.events(),
             turns,
             tend,

@@ -70,7 +70,7 @@ greater_spelled v None fits rest = fits
 greater_spelled v (Some later) fits rest = either_way HasSpelling (is_before v.round later.round) later v rest fits
 
 best_spelled : (s : ℕ) (vs : List Vote) → All HasSpelling vs → IsSpelled (best_vote s vs)
-unfolding field.value
+unfolding field.value field.value_with
 best_spelled s [] all = refl
 best_spelled s (v ∷ vs) all =
     let rest = best_spelled s vs (All-tail HasSpelling v vs all) in

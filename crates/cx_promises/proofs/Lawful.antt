@@ -27,39 +27,6 @@ lawful c es = record {
   answers_are_right = one_list.answers_are_right c es;
   results_are_right = answers_are_of_a_log.results c es;
   commands_were_asked = one_list.commands_were_asked c es;
-<<<<<<< ours
-  order = λ then later e from to seq at reply told s before command stands unasked.
-      one_list.order c then later from to seq at reply told s before command (rw (← e) stands) (λ b m. unasked (b, m));
-  read_values = λ from to seq n found told floor reader replica key asked.
-      (fresh_reads.in_the_list c es from to seq n found told, fresh_reads.value c es from to seq n found told floor reader replica key asked);
-  reads_after_answers = λ then later e from to seq at reply told t unasked by client n found is answer.
-      fresh_reads.after_answers c then later from to seq at reply told t unasked by client n found is (rw (← e) answer);
-  reads_after_reads = λ then later e from to seq m told answer t unasked by client n found is other.
-      fresh_reads.after_reads c then later from to seq m told answer t unasked by client n found is (rw (← e) other);
-  chosen_below = safe_retirement.chosen_below c es;
-  held = safe_retirement.held c es;
-  rounds_ask_later = λ then later h e i retires k g config new from to sent.
-      rw e (safe_retirement.rounds_ask_later c then later h i retires k g (rw (← e) config) new from to (rw (← e) sent));
-  reads_ask_later = λ then later h e i retires t unasked from to w sent.
-      rw e (safe_retirement.reads_ask_later c then later h i retires t unasked from to w (rw (← e) sent));
-  announced = λ then later e h proxy i g s v asks keeps b rows cols votes. rw h (all_is_told.told c then later e proxy i g s v asks keeps b rows cols votes);
-||||||| base
-  order = λ then later e from to seq at reply told s before command stands unasked.
-      one_list.order c then later from to seq at reply told s before command (rw (← e) stands) (λ b m. unasked (b, m));
-  read_values = λ from to seq n found told reader replica key asked.
-      (fresh_reads.in_the_list c es from to seq n found told, fresh_reads.value c es from to seq n found told reader replica key asked);
-  reads_after_answers = λ then later e from to seq at reply told t unasked by client n found is answer.
-      fresh_reads.after_answers c then later from to seq at reply told t unasked by client n found is (rw (← e) answer);
-  reads_after_reads = λ then later e from to seq m told answer t unasked by client n found is other.
-      fresh_reads.after_reads c then later from to seq m told answer t unasked by client n found is (rw (← e) other);
-  chosen_below = safe_retirement.chosen_below c es;
-  held = safe_retirement.held c es;
-  rounds_ask_later = λ then later h e i retires k g config new from to sent.
-      rw e (safe_retirement.rounds_ask_later c then later h i retires k g (rw (← e) config) new from to (rw (← e) sent));
-  reads_ask_later = λ then later h e i retires t unasked from to w sent.
-      rw e (safe_retirement.reads_ask_later c then later h i retires t unasked from to w (rw (← e) sent));
-  announced = λ then later e h proxy i g s v asks keeps b rows cols votes. rw h (all_is_told.told c then later e proxy i g s v asks keeps b rows cols votes);
-=======
   order = one_list.order c es;
   reads_are_right = reads_tell c es;
   reads_of_their_replica = answers_are_of_a_log.read c es;
@@ -72,7 +39,6 @@ lawful c es = record {
   announced = announced c es;
   bypassed_rounds = bypassed_rounds c es;
   roles_reopen = roles_reopen c es;
->>>>>>> theirs
 }
 
 pub prefix_is_the_list : (c : Cluster) (es : List Event) → IsCommandList c (run c es).kept (chosen_prefix (run c es).kept)

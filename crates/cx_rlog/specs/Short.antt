@@ -1,5 +1,5 @@
 -- Short commands: what their fields mean.
-use Rattle.std.specs.Prelude.{◌≤◌, ℕ, List, length, take, drop}
+use Rattle.std.specs.Prelude.{◌-◌, ◌≤◌, ℕ, List, length, take, drop}
 use Rattle.cx_base.specs.Name.{IsName}
 use Rattle.cx_base.specs.declared.command.Command.{Command}
 use Rattle.cx_base.specs.declared.command.Op.{Op}
@@ -13,10 +13,10 @@ op_of Put key text = op.Put key text
 op_of Del key text = op.Del key
 op_of App key text = op.App key text
 
--- the command whose key is the first bytes, this many, and whose text is the others
+-- the command whose floor is the number before its own, whose key is the first bytes, this many, and whose text is the others
 abbrev pub command_of : ℕ → ℕ → Verb → ℕ → List ℕ → Command
 command_of client seq verb middle bytes =
-    record { client = client; seq = seq; op = op_of verb (take middle bytes) (drop middle bytes) }
+    record { client = client; seq = seq; floor = seq - 1; op = op_of verb (take middle bytes) (drop middle bytes) }
 
 -- bytes that are a text, where a text is needed
 abbrev pub HasText : Verb → List ℕ → Type 0

@@ -22,7 +22,7 @@ pub enum Verb {
     App,
 }
 
-/// A command whose key and text are short.
+/// A command whose key and text are short, and whose floor is the number before its own.
 #[derive(Drop)]
 pub struct Short {
     seq: u64,
@@ -87,6 +87,9 @@ impl Short {
     {
         let client = command.client;
         let seq = command.seq;
+        if command.floor.checked_add(1) != Some(seq) {
+            return None;
+        }
         match &command.op {
             Op::Put(key, text) => {
                 Short::of(client, seq, Verb::Put, key.as_bytes(), text.as_bytes())
@@ -113,6 +116,7 @@ impl Short {
         Command {
             client: self.client,
             seq: self.seq,
+            floor: self.seq.saturating_sub(1),
             op,
         }
     }

@@ -1,9 +1,10 @@
 -- The parts of a list round the first place where a test passes.
-use Rattle.std.proofs.Common.{◌≡◌, ℕ, ◌<◌, ◌+◌, Bool, true, false, List, [], ◌∷◌, take, drop, get_or, length, None, Some, refl, subst, if◌then◌else◌, nat_lt, arith}
-use Rattle.std.specs.List.{slice_split, position, position_or_len}
+use Rattle.std.proofs.Common.{◌≡◌, ℕ, ◌<◌, ◌+◌, Bool, true, false, List, [], ◌∷◌, take, drop, get_or, length, None, Some, refl, ap, subst, ◌∙◌, if◌then◌else◌, nat_lt, arith}
+use Rattle.std.specs.List.{slice_split, position, position_or_len, list_any, onto_first}
+use Rattle.std.proofs.lemmas.Bool.{or_parts}
 use Rattle.std.proofs.lemmas.Bool.Decides.{nat_tests}
 use Rattle.std.proofs.lemmas.List.Elements.{All-from_get_or}
-use Rattle.std.proofs.lemmas.List.Splits.{slice_split_none, slice_split_first}
+use Rattle.std.proofs.lemmas.List.Splits.{slice_split_none, slice_split_first, slice_split-cons_no}
 use Rattle.std.proofs.lemmas.List.Sums.{fails_before_first}
 
 -- a number that comes where a test passes
@@ -36,3 +37,9 @@ split_some p xs i h =
     let n = position_or_len p xs in
     let found = chosen (nat_lt n (length xs)) n i h in
     subst (λ (k : ℕ). slice_split p xs ≡ take k xs ∷ slice_split p (drop (k + 1) xs)) found.1 (slice_split_first p xs 0 (below n (length xs) found.0))
+
+pub split_free : (p : ℕ → Bool) (part : List ℕ) → list_any p part ≡ false → slice_split p part ≡ part ∷ []
+split_free p [] free = refl
+split_free p (b ∷ part) free =
+    let tests = or_parts (p b) (list_any p part) free in
+    slice_split-cons_no p b part tests.0 ∙ ap (onto_first b) (split_free p part tests.1)

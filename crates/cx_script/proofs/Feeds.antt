@@ -10,6 +10,7 @@ use Rattle.std.proofs.lemmas.List.Splits.{join_with_byte-slice_split, slice_spli
 use Rattle.cx_script.specs.Header.{is_rule}
 use Rattle.cx_script.specs.Lines.{lines_in, lines_of}
 use Rattle.cx_script.specs.Unended.{last_part, but_last, lines_text}
+use Rattle.cx_script.proofs.Cuts.{split_free}
 use Rattle.cx_script.proofs.Schedules.{before_others}
 use Rattle.cx_script.proofs.WholeLines.{parts, some_part}
 
@@ -26,12 +27,6 @@ split_feed [] bytes free = refl
 split_feed (b ∷ part) bytes free =
     let tests = or_parts (b == 10) (list_any (λ b. b == 10) part) free in
     slice_split-cons_no (λ b. b == 10) b (part ++ 10 ∷ bytes) tests.0 ∙ ap (onto_first b) (split_feed part bytes tests.1)
-
-pub split_free : (part : List ℕ) → IsFree part → parts part ≡ part ∷ []
-split_free [] free = refl
-split_free (b ∷ part) free =
-    let tests = or_parts (b == 10) (list_any (λ b. b == 10) part) free in
-    slice_split-cons_no (λ b. b == 10) b part tests.0 ∙ ap (onto_first b) (split_free part tests.1)
 
 -- a line that isn't ended goes on with the first of the parts after it
 pub record Begins (last more : List ℕ) : Type 0 where
@@ -127,7 +122,7 @@ long_no_rule line long = cond_both (is_rule line) true false (λ b. is_rule line
 -- the line that isn't ended as a line of its own, where it has a byte
 pub lines_of_unended : (last : List ℕ) → IsFree last → 0 < length last → lines_of last ≡ strip_carriage_return last ∷ []
 lines_of_unended [] free some = absurd (omega arith)
-lines_of_unended (b ∷ last) free some = ap (λ ps. map strip_carriage_return (lines_in ps)) (split_free (b ∷ last) free)
+lines_of_unended (b ∷ last) free some = ap (λ ps. map strip_carriage_return (lines_in ps)) (split_free (λ b. b == 10) (b ∷ last) free)
 
 -- and the first line of it and what comes after it
 pub record FirstLine (last more : List ℕ) : Type 0 where

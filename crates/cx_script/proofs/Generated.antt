@@ -3,6 +3,7 @@ use Rattle.std.proofs.Common.{◌≡◌, ◌<◌, ◌+◌, ◌%◌, ◌==◌, �
 use Rattle.std.proofs.lemmas.Bool.{cases_Bool}
 use Rattle.std.proofs.lemmas.Bool.Decides.{nat_tests}
 use Rattle.std.proofs.lemmas.List.Folds.{list_all_at}
+use Rattle.cx_base.specs.Asked.{floor_fits}
 use Rattle.cx_base.specs.declared.event.Event.{Event}
 use Rattle.cx_base.specs.declared.role.Kind.TheVariants.{Batcher}
 use Rattle.cx_base.specs.Grid.{Shape}
@@ -21,8 +22,11 @@ half n = grind (arith, nat_tests)
 quarter : (n : ℕ) → nat_lt (n % 4) 4 ≡ true
 quarter n = grind (arith, nat_tests)
 
-from_one : (n : ℕ) → nat_le 1 (n + 1) ≡ true
-from_one n = grind (arith, nat_tests)
+floor_before : (n : ℕ) → floor_fits (n + 1) n ≡ true
+floor_before n =
+    let below : nat_lt n (n + 1) ≡ true = grind (arith, nat_tests) in
+    let near : nat_le (n + 1) (n + 64) ≡ true = grind (arith, nat_tests) in
+    rw (below, near) refl
 
 server_named : (b : ℕ) → names_server gen_cluster (gen_server b) ≡ true
 server_named b =
@@ -46,8 +50,8 @@ later_good made sent a b c d =
     let grid = grid_named c in
     let server = server_named b in
     or_else (nat_le a 64) _ _ (record { taken = refl; named = refl }) (
-    or_else (nat_le a 76) _ _ (record { taken = from_one made; named = rw quarter_b refl }) (
-    or_else (nat_le a 81) _ _ (record { taken = from_one made; named = rw (quarter_b, half_d) refl }) (
+    or_else (nat_le a 76) _ _ (record { taken = floor_before made; named = rw quarter_b refl }) (
+    or_else (nat_le a 81) _ _ (record { taken = floor_before made; named = rw (quarter_b, half_d) refl }) (
     or_else (nat_le a 90) _ _ (record { taken = refl; named = server }) (
     or_else (nat_le a 91) _ _ (record { taken = refl; named = rw (half_b, grid) refl }) (
     or_else (nat_le a 92) _ _ (record { taken = refl; named = rw (half_b, grid) refl }) (

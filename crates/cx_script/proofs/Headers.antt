@@ -1,5 +1,5 @@
 -- The header of whole lines, as other bytes come after them, and how long it is.
-use Rattle.std.proofs.Common.{◌≡◌, ◌≤◌, ◌<◌, ◌+◌, ◌++◌, ℕ, Bool, true, false, List, [], ◌∷◌, length, map, refl, sym, ap, ◌∙◌, append_assoc, arith, nat_lt, nat_le, if◌then◌else◌, Option, Some, None, IfSome, option_map, option_and_then, length-append}
+use Rattle.std.proofs.Common.{◌≡◌, ◌==◌, ◌≤◌, ◌<◌, ◌+◌, ◌++◌, ℕ, Bool, true, false, List, [], ◌∷◌, length, map, refl, sym, ap, ◌∙◌, append_assoc, arith, nat_lt, nat_le, if◌then◌else◌, Option, Some, None, IfSome, option_map, option_and_then, length-append}
 use Rattle.std.specs.Str.Lines.{strip_carriage_return}
 use Rattle.std.proofs.lemmas.Bool.{cond_both}
 use Rattle.std.proofs.lemmas.Bool.Decides.{nat_tests}
@@ -7,7 +7,8 @@ use Rattle.std.proofs.lemmas.List.Splits.{join_with_byte-slice_split}
 use Rattle.cx_script.specs.Header.{header_in, header_of, of_length}
 use Rattle.cx_script.specs.Lines.{lines_of}
 use Rattle.cx_script.specs.Unended.{lines_text, is_long_header}
-use Rattle.cx_script.proofs.Feeds.{IsFree, AreFree, split_free, split_more, lines_of_text, strip_more, long_no_rule}
+use Rattle.cx_script.proofs.Cuts.{split_free}
+use Rattle.cx_script.proofs.Feeds.{IsFree, AreFree, split_more, lines_of_text, strip_more, long_no_rule}
 use Rattle.cx_script.proofs.GoesOn.{header_on, header_in_on, in_front, overlong}
 use Rattle.cx_script.proofs.WholeLines.{parts}
 
@@ -44,7 +45,7 @@ no_rule_in most last least free =
     cond_both (nat_lt most (length (strip_carriage_return last))) last [] (λ l. header_in (parts l) ≡ None)
     (λ e.
     let long : most < length (strip_carriage_return last) = grind (arith, nat_tests) in
-    rw (split_free last free, long_no_rule (strip_carriage_return last) (omega (arith, long))) refl)
+    rw (split_free (λ b. b == 10) last free, long_no_rule (strip_carriage_return last) (omega (arith, long))) refl)
     (λ e. refl)
 
 none_long : (found : Option (List ℕ × List (List ℕ))) (text : List ℕ) → found ≡ None → IfSome found (λ p. 16384 < length text + length p.0)

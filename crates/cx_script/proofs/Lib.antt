@@ -1,6 +1,7 @@
 pub mod Cuts
 pub mod Digits
 pub mod Feeds
+pub mod Floors
 pub mod Generated
 pub mod GoesOn
 pub mod Headers

@@ -1,9 +1,10 @@
 -- What holds of all that a part of a line may say.
-use Rattle.std.proofs.Common.{◌≡◌, ℕ, Bool, true, false, not, nat_lt, nat_le, List, [], ◌∷◌, Option, None, Some, option_map, option_and_then, ok_or, Result, Ok, Err, IfOk, IfSome, is_none, find, refl, inl, inr, ◌==◌, if◌then◌else◌}
+use Rattle.std.proofs.Common.{◌≡◌, ℕ, Bool, true, false, not, nat_lt, List, [], ◌∷◌, Option, None, Some, option_map, option_and_then, ok_or, Result, Ok, Err, IfOk, IfSome, is_none, find, refl, inl, inr, ◌-◌, ◌==◌, if◌then◌else◌}
 use Rattle.std.specs.Bool.{⊤}
 use Rattle.std.proofs.lemmas.Bool.{cases_Bool, and_parts}
 use Rattle.std.specs.List.{list_all, slice_split}
 use Rattle.std.specs.Str.{bytes_eq}
+use Rattle.cx_base.specs.Asked.{floor_fits}
 use Rattle.cx_base.specs.declared.cluster.Cluster.{Cluster}
 use Rattle.cx_base.specs.declared.role.Kind.{Kind}
 use Rattle.cx_base.specs.Grid.{grid_fault, make_grid}
@@ -13,7 +14,7 @@ use Rattle.cx_script.specs.declared.fault.LineFault.TheVariants.{Number, Role, G
 use Rattle.cx_script.specs.Grammar.{◌>>=◌, next, ended, grid_at}
 use Rattle.cx_base.specs.Cluster.{count_of}
 use Rattle.cx_script.specs.Names.{is_client, names_server, names_members}
-use Rattle.cx_script.specs.Places.{from_one, seq_word, below, index_below, kind_part, index_part, index_word, server_kinds, server_kind, server_in, server_word, sides_word, ids_of, grid_of, members_word}
+use Rattle.cx_script.specs.Places.{fitting, seq_and_floor, seq_word, below, index_below, kind_part, index_part, index_word, server_kinds, server_kind, server_in, server_word, sides_word, ids_of, grid_of, members_word}
 use Rattle.cx_script.specs.Words.{number_of}
 
 pub then_ok : {A B : Type 0} (P : A → Type 0) (Q : B → Type 0) (r : Result A LineFault) (more : A → Result B LineFault) → IfOk r P → ((a : A) → P a → IfOk (more a) Q) → IfOk (r >>= more) Q
@@ -32,20 +33,20 @@ pub ended_ok : {A : Type 0} (P : A → Type 0) (a : A) (words : List (List ℕ))
 ended_ok P a [] h = h
 ended_ok P a (word ∷ words) h = tt
 
-some_ok : {A : Type 0} (P : A → Type 0) (o : Option A) (fault : LineFault) → IfSome o P → IfOk (ok_or o fault) P
+pub some_ok : {A : Type 0} (P : A → Type 0) (o : Option A) (fault : LineFault) → IfSome o P → IfOk (ok_or o fault) P
 some_ok P None fault h = tt
 some_ok P (Some a) fault h = h
 
-and_then_some : {A B : Type 0} (P : A → Type 0) (Q : B → Type 0) (o : Option A) (f : A → Option B) → IfSome o P → ((a : A) → P a → IfSome (f a) Q) → IfSome (option_and_then f o) Q
+pub and_then_some : {A B : Type 0} (P : A → Type 0) (Q : B → Type 0) (o : Option A) (f : A → Option B) → IfSome o P → ((a : A) → P a → IfSome (f a) Q) → IfSome (option_and_then f o) Q
 and_then_some P Q None f first rest = tt
 and_then_some P Q (Some a) f first rest = rest a first
 
--- a number that passes a test
-tested : (test : ℕ → Bool) (n : ℕ) (b : Bool) → test n ≡ b → IfSome (if b then Some n else None) (λ m. test m ≡ true)
-tested test n true is = is
-tested test n false is = tt
+-- what passes a test
+tested : {A : Type 0} (test : A → Bool) (a : A) (b : Bool) → test a ≡ b → IfSome (if b then Some a else None) (λ c. test c ≡ true)
+tested test a true is = is
+tested test a false is = tt
 
-anything : {A : Type 0} (o : Option A) → IfSome o (λ a. ⊤)
+pub anything : {A : Type 0} (o : Option A) → IfSome o (λ a. ⊤)
 anything None = tt
 anything (Some a) = tt
 
@@ -53,10 +54,24 @@ pub whatever : {A : Type 0} (r : Result A LineFault) → IfOk r (λ a. ⊤)
 whatever (Ok a) = tt
 whatever (Err fault) = tt
 
-pub seq_ok : (word : List ℕ) → IfOk (seq_word word) (λ n. nat_le 1 n ≡ true)
-seq_ok word =
-    some_ok (λ n. nat_le 1 n ≡ true) (option_and_then from_one (number_of word)) Number
-    (and_then_some (λ n. ⊤) (λ n. nat_le 1 n ≡ true) (number_of word) from_one (anything (number_of word)) (λ n h. tested (λ m. nat_le 1 m) n (nat_le 1 n) refl))
+-- a floor that fits its number
+abbrev pub Fits : ℕ × ℕ → Type 0
+Fits told = floor_fits told.0 told.1 ≡ true
+
+fitting_some : (seq floor : ℕ) → IfSome (fitting seq floor) Fits
+fitting_some seq floor = tested (λ (told : ℕ × ℕ). floor_fits told.0 told.1) (seq, floor) (floor_fits seq floor) refl
+
+told_some : (parts : List (List ℕ)) → IfSome (seq_and_floor parts) Fits
+told_some [] = tt
+told_some (seq ∷ []) =
+    and_then_some (λ n. ⊤) Fits (number_of seq) (λ n. fitting n (n - 1)) (anything (number_of seq)) (λ n h. fitting_some n (n - 1))
+told_some (seq ∷ floor ∷ []) =
+    and_then_some (λ n. ⊤) Fits (number_of seq) (λ n. option_and_then (fitting n) (number_of floor)) (anything (number_of seq)) (λ n h.
+    and_then_some (λ m. ⊤) Fits (number_of floor) (fitting n) (anything (number_of floor)) (λ m k. fitting_some n m))
+told_some (seq ∷ floor ∷ part ∷ parts) = tt
+
+pub seq_ok : (word : List ℕ) → IfOk (seq_word word) Fits
+seq_ok word = some_ok Fits (seq_and_floor (slice_split (λ b. b == 47) word)) Number (told_some (slice_split (λ b. b == 47) word))
 
 index_below_some : (count : ℕ) (digits : List ℕ) → IfSome (index_below count digits) (λ i. nat_lt i count ≡ true)
 index_below_some count digits =

@@ -5,10 +5,10 @@ use Rattle.std.proofs.lemmas.Bool.{cond_both}
 use Rattle.cx_base.specs.declared.cluster.Cluster.{Cluster}
 use Rattle.cx_base.specs.declared.event.Event.{Event}
 use Rattle.cx_script.specs.declared.fault.LineFault.{LineFault}
-use Rattle.cx_script.specs.declared.fault.LineFault.TheVariants.{Word}
+use Rattle.cx_script.specs.declared.fault.LineFault.TheVariants.{Number, Word}
 use Rattle.cx_script.specs.Grammar.{line_event}
 use Rattle.cx_script.specs.Lines.{Spelled, with_line, spelled_from, lines_of, schedule_of}
-use Rattle.cx_script.specs.Requests.{request_behind, requests_from, requests_of, rises, with_event}
+use Rattle.cx_script.specs.Requests.{has_slash, request_behind, request_line, requests_from, requests_of, rises, with_event, without_floor}
 use Rattle.cx_script.specs.Unended.{lines_text}
 use Rattle.cx_script.proofs.Feeds.{IsFree, AreFree, lines_of_text}
 use Rattle.cx_script.proofs.GoesOn.{SpelledOn, last_on, long_line, on_line, on_test, overlong}
@@ -19,12 +19,12 @@ on_requests : (c : Cluster) (n : ℕ) (events : List Event) (ls before behind : 
     → SpelledOn (requests_from c n events (ls ++ before)) (requests_from c n events (ls ++ behind))
 on_requests c n events [] before behind on = on n events
 on_requests c n events (l ∷ ls) before behind on =
-    on_test (nat_lt 65535 n) n _ _ (on_line n (request_behind events (line_event c l)) _ _ (on_requests c (n + 1) (with_event events (line_event c l)) ls before behind on))
+    on_test (nat_lt 65535 n) n _ _ (on_line n (request_behind events (request_line c l)) _ _ (on_requests c (n + 1) (with_event events (request_line c l)) ls before behind on))
 
 requests_long : (c : Cluster) (n : ℕ) (events : List Event) (l : List ℕ) (ls : List (List ℕ)) → 1024 < length l → requests_from c n events (l ∷ ls) ≡ record { events = []; bad = Some n }
 requests_long c n events l ls long =
     let bad : Spelled = record { events = []; bad = Some n } in
-    cond_both (nat_lt 65535 n) bad (with_line n (request_behind events (line_event c l)) (requests_from c (n + 1) (with_event events (line_event c l)) ls)) (λ s. s ≡ bad) (λ e. refl) (λ e. rw (long_line c l long) refl)
+    cond_both (nat_lt 65535 n) bad (with_line n (request_behind events (request_line c l)) (requests_from c (n + 1) (with_event events (request_line c l)) ls)) (λ s. s ≡ bad) (λ e. refl) (λ e. rw (long_line c l long) refl)
 
 -- what the lines after a node's header spell goes on
 pub requests_on : (c : Cluster) (ls : List (List ℕ)) (last more : List ℕ) → AreFree ls → IsFree last
@@ -45,15 +45,22 @@ good_from c n before (l ∷ ls) good = by_count (nat_lt 65535 n) (line_event c l
     by_rise true e later schedule others good = others good
     by_rise false e later schedule others good = cc
 
-    by_line : (r : Result (Option Event) LineFault) → ((es : List Event) → (requests_from c (n + 1) es ls).bad ≡ None → (spelled_from c (n + 1) ls).bad ≡ None)
-        → (with_line n (request_behind before r) (requests_from c (n + 1) (with_event before r) ls)).bad ≡ None → (with_line n r (spelled_from c (n + 1) ls)).bad ≡ None
-    by_line (Err fault) others good = cc
-    by_line (Ok None) others good = others (with_event before (Ok None)) good
-    by_line (Ok (Some e)) others good =
+    by_slash : (slash : Bool) (e : Event) → ((es : List Event) → (requests_from c (n + 1) es ls).bad ≡ None → (spelled_from c (n + 1) ls).bad ≡ None)
+        → (with_line n (request_behind before (if slash then Err Number else Ok (Some e))) (requests_from c (n + 1) (with_event before (if slash then Err Number else Ok (Some e))) ls)).bad ≡ None
+        → (spelled_from c (n + 1) ls).bad ≡ None
+    by_slash true e others good = cc
+    by_slash false e others good =
         by_rise (rises before e) e (requests_from c (n + 1) (with_event before (Ok (Some e))) ls) (spelled_from c (n + 1) ls) (others (with_event before (Ok (Some e)))) good
 
+    by_line : (r : Result (Option Event) LineFault) → ((es : List Event) → (requests_from c (n + 1) es ls).bad ≡ None → (spelled_from c (n + 1) ls).bad ≡ None)
+        → (with_line n (request_behind before (without_floor l r)) (requests_from c (n + 1) (with_event before (without_floor l r)) ls)).bad ≡ None
+        → (with_line n r (spelled_from c (n + 1) ls)).bad ≡ None
+    by_line (Err fault) others good = cc
+    by_line (Ok None) others good = others (with_event before (Ok None)) good
+    by_line (Ok (Some e)) others good = by_slash (has_slash l) e others good
+
     by_count : (test : Bool) (r : Result (Option Event) LineFault) → ((es : List Event) → (requests_from c (n + 1) es ls).bad ≡ None → (spelled_from c (n + 1) ls).bad ≡ None)
-        → (if test then record { events = []; bad = Some n } else with_line n (request_behind before r) (requests_from c (n + 1) (with_event before r) ls)).bad ≡ None
+        → (if test then record { events = []; bad = Some n } else with_line n (request_behind before (without_floor l r)) (requests_from c (n + 1) (with_event before (without_floor l r)) ls)).bad ≡ None
         → (if test then record { events = []; bad = Some n } else with_line n r (spelled_from c (n + 1) ls)).bad ≡ None
     by_count true r others good = cc
     by_count false r others good = by_line r others good

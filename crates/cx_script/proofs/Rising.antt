@@ -5,17 +5,17 @@ use Rattle.std.specs.List.{list_all}
 use Rattle.std.proofs.lemmas.Bool.{cases_Bool, and_parts}
 use Rattle.std.proofs.lemmas.Bool.Decides.{nat_tests}
 use Rattle.std.proofs.lemmas.List.{get_or-set_same, get_or-set_other}
+use Rattle.cx_base.specs.Asked.{is_valid_event}
 use Rattle.cx_base.specs.declared.cluster.Cluster.{Cluster}
 use Rattle.cx_base.specs.declared.event.Event.{Event}
 use Rattle.cx_base.specs.declared.event.Event.TheVariants as event
 use Rattle.cx_base.specs.declared.event.Event.TheVariants.{Write, Read, Deliver, Tick, Crash, Restart}
 use Rattle.cx_script.specs.declared.fault.LineFault.{LineFault}
 use Rattle.cx_script.specs.declared.fault.LineFault.TheVariants.{Word}
-use Rattle.cx_script.specs.Grammar.{line_event}
 use Rattle.cx_script.specs.Lines.{Spelled, with_line, lines_of}
 use Rattle.cx_script.specs.Names.{names_event}
-use Rattle.cx_script.specs.Requests.{IsScript, Tells, asker, asks, greatest, is_above, is_of, number_in, number_of, request_behind, requests_from, requests_of, rise_above, rises, script_of, with_event}
-use Rattle.cx_script.proofs.Takes.{spelled_is_good}
+use Rattle.cx_script.specs.Requests.{IsScript, Tells, asker, asks, greatest, is_above, is_of, number_in, number_of, request_behind, request_line, requests_from, requests_of, rise_above, rises, script_of, tells_no_floor, with_event}
+use Rattle.cx_script.proofs.Floors.{request_is_good, request_is_plain}
 
 -- the client of a request
 abbrev client_in : Option (ℕ × ℕ) → ℕ
@@ -29,7 +29,7 @@ small c (Write command batcher) client seq named is =
     let least : command.client < c.clients = grind (arith, nat_tests) in
     let fit = c.clients_fit in
     omega (arith, own, least, fit)
-small c (Read other number reader replica key) client seq named is =
+small c (Read other number floor reader replica key) client seq named is =
     let own : other ≡ client = ap (λ (o : Option (ℕ × ℕ)). client_in o) is in
     let least : other < c.clients = grind (arith, nat_tests) in
     let fit = c.clients_fit in
@@ -40,8 +40,8 @@ small c (event.Order leader order cut) client seq named is = cc
 small c (Crash role) client seq named is = cc
 small c (Restart role) client seq named is = cc
 
-pub client_small : (c : Cluster) (line : List ℕ) (e : Event) (client seq : ℕ) → line_event c line ≡ Ok (Some e) → asker e ≡ Some (client, seq) → client < 64
-client_small c line e client seq spelled is = small c e client seq (spelled_is_good c line e spelled).named is
+pub client_small : (c : Cluster) (line : List ℕ) (e : Event) (client seq : ℕ) → request_line c line ≡ Ok (Some e) → asker e ≡ Some (client, seq) → client < 64
+client_small c line e client seq spelled is = small c e client seq (request_is_good c line e spelled).named is
 
 -- another client's request leaves a client's greatest number
 pub greatest_stays : (client : ℕ) (before : List Event) (e : Event) → asks client e ≡ false → greatest client (before ++ e ∷ []) ≡ greatest client before
@@ -102,16 +102,16 @@ on_line P before n (Ok None) later none blank taken = rw (append-nil before) bla
 on_line P before n (Ok (Some e)) later none blank taken = on_test P n e (rises before e) (later (before ++ e ∷ [])) none (taken e refl)
 
 of_requests : (c : Cluster) (P : List Event → List Event → Type 0) → ((before : List Event) → P before [])
-    → ((line : List ℕ) (before : List Event) (e : Event) (later : List Event) → line_event c line ≡ Ok (Some e) → rises before e ≡ true → P (before ++ e ∷ []) later → P before (e ∷ later))
+    → ((line : List ℕ) (before : List Event) (e : Event) (later : List Event) → request_line c line ≡ Ok (Some e) → rises before e ≡ true → P (before ++ e ∷ []) later → P before (e ∷ later))
     → (n : ℕ) (before : List Event) (lines : List (List ℕ)) → P before (requests_from c n before lines).events
 of_requests c P none one n before [] = none before
 of_requests c P none one n before (line ∷ lines) =
-    on_count (P before) (nat_lt 65535 n) n (with_line n (request_behind before (line_event c line)) (requests_from c (n + 1) (with_event before (line_event c line)) lines)) (none before)
-    (on_line (P before) before n (line_event c line) (λ events. requests_from c (n + 1) events lines) (none before) (of_requests c P none one (n + 1) before lines)
+    on_count (P before) (nat_lt 65535 n) n (with_line n (request_behind before (request_line c line)) (requests_from c (n + 1) (with_event before (request_line c line)) lines)) (none before)
+    (on_line (P before) before n (request_line c line) (λ events. requests_from c (n + 1) events lines) (none before) (of_requests c P none one (n + 1) before lines)
     (λ e spelled above. one line before e _ spelled above (of_requests c P none one (n + 1) (before ++ e ∷ []) lines)))
 
 all_named : (c : Cluster) (n : ℕ) (before : List Event) (lines : List (List ℕ)) → list_all (names_event c) (requests_from c n before lines).events ≡ true
-all_named c = of_requests c (λ before events. list_all (names_event c) events ≡ true) (λ before. refl) (λ line before e later spelled above rest. rw ((spelled_is_good c line e spelled).named, rest) refl)
+all_named c = of_requests c (λ before events. list_all (names_event c) events ≡ true) (λ before. refl) (λ line before e later spelled above rest. rw ((request_is_good c line e spelled).named, rest) refl)
 
 -- a request that rises, before others that rise, in its client's script
 above_own : (client : ℕ) (before : List Event) (o : Option (ℕ × ℕ)) → is_of client o ≡ true → is_above before o ≡ true → greatest client before < number_in o
@@ -168,3 +168,16 @@ requests_are_scripts c bytes client = record {
 pub requests_are_named : (c : Cluster) (bytes : List ℕ) → list_all (names_event c) (requests_of c bytes).events ≡ true
 unfolding requests_of
 requests_are_named c bytes = all_named c 1 [] (lines_of bytes)
+
+-- each request is one that the world takes, and tells no floor of its own
+pub requests_are_taken : (c : Cluster) (bytes : List ℕ) → list_all is_valid_event (requests_of c bytes).events ≡ true
+unfolding requests_of
+requests_are_taken c bytes =
+    of_requests c (λ before events. list_all is_valid_event events ≡ true) (λ before. refl) (λ line before e later spelled above rest. rw ((request_is_good c line e spelled).taken, rest) refl)
+    1 [] (lines_of bytes)
+
+pub requests_are_plain : (c : Cluster) (bytes : List ℕ) → list_all tells_no_floor (requests_of c bytes).events ≡ true
+unfolding requests_of
+requests_are_plain c bytes =
+    of_requests c (λ before events. list_all tells_no_floor events ≡ true) (λ before. refl) (λ line before e later spelled above rest. rw (request_is_plain c line e spelled, rest) refl)
+    1 [] (lines_of bytes)

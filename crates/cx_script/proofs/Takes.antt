@@ -33,20 +33,20 @@ write_ok : (c : Cluster) (words : List (List ℕ)) → IfOk (write_event c words
 unfolding write_event
 write_ok c words =
     then_ok _ (IsGood c) (next (index_word c Client) words) _ (next_ok _ (index_word c Client) (index_ok c Client) words) (λ (client, words) h.
-    then_ok _ (IsGood c) (next seq_word words) _ (next_ok _ seq_word seq_ok words) (λ (seq, words) k.
+    then_ok _ (IsGood c) (next seq_word words) _ (next_ok _ seq_word seq_ok words) (λ (told, words) k.
     then_ok _ (IsGood c) (next (index_word c Batcher) words) _ (next_ok _ (index_word c Batcher) (index_ok c Batcher) words) (λ (batcher, words) l.
     then_ok _ (IsGood c) (op_at words) _ (whatever (op_at words)) (λ (op, words) m.
-    ended_ok (IsGood c) (Write (record { client = client; seq = seq; op = op }) batcher) words (record { taken = k; named = rw (h, l) refl })))))
+    ended_ok (IsGood c) (Write (record { client = client; seq = told.0; floor = told.1; op = op }) batcher) words (record { taken = k; named = rw (h, l) refl })))))
 
 read_ok : (c : Cluster) (words : List (List ℕ)) → IfOk (read_event c words) (IsGood c)
 unfolding read_event
 read_ok c words =
     then_ok _ (IsGood c) (next (index_word c Client) words) _ (next_ok _ (index_word c Client) (index_ok c Client) words) (λ (client, words) h.
-    then_ok _ (IsGood c) (next seq_word words) _ (next_ok _ seq_word seq_ok words) (λ (seq, words) k.
+    then_ok _ (IsGood c) (next seq_word words) _ (next_ok _ seq_word seq_ok words) (λ (told, words) k.
     then_ok _ (IsGood c) (next (index_word c Reader) words) _ (next_ok _ (index_word c Reader) (index_ok c Reader) words) (λ (reader, words) l.
     then_ok _ (IsGood c) (next (index_word c Replica) words) _ (next_ok _ (index_word c Replica) (index_ok c Replica) words) (λ (replica, words) m.
     then_ok _ (IsGood c) (next key_word words) _ (whatever (next key_word words)) (λ (key, words) n.
-    ended_ok (IsGood c) (Read client seq reader replica key) words (record { taken = k; named = rw (h, l, m) refl }))))))
+    ended_ok (IsGood c) (Read client told.0 told.1 reader replica key) words (record { taken = k; named = rw (h, l, m) refl }))))))
 
 deliver_ok : (c : Cluster) (words : List (List ℕ)) → IfOk (deliver_event words) (IsGood c)
 unfolding deliver_event

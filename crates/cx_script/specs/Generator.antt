@@ -90,12 +90,12 @@ gen_op c d =
     else if d % 3 == 1 then Del (gen_key c)
     else App (gen_key c) (gen_text d)
 
--- an event after the first, by what is left of the first draw over 100
+-- an event after the first, by what is left of the first draw over 100; a request's floor is the number before its own
 abbrev pub later_event : ℕ → ℕ → ℕ → ℕ → ℕ → ℕ → Event
 later_event made sent a b c d =
     if nat_le a 64 then Deliver (gen_number sent b) (gen_cut c)
-    else if nat_le a 76 then Write (record { client = b % 4; seq = made + 1; op = gen_op c d }) 0
-    else if nat_le a 81 then Read (b % 4) (made + 1) 0 (d % 2) (gen_key c)
+    else if nat_le a 76 then Write (record { client = b % 4; seq = made + 1; floor = made; op = gen_op c d }) 0
+    else if nat_le a 81 then Read (b % 4) (made + 1) made 0 (d % 2) (gen_key c)
     else if nat_le a 90 then Tick (gen_server b)
     else if nat_le a 91 then Order (b % 2) (Lead (gen_grid c)) Whole
     else if nat_le a 92 then Order (b % 2) (Change (gen_grid c)) Whole

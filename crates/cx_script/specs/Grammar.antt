@@ -71,20 +71,20 @@ op_at (verb ∷ words) =
 unfoldable pub write_event : Cluster → List (List ℕ) → Result Event LineFault
 write_event c words =
     next (index_word c Client) words >>= (λ (client, words).
-    next seq_word words >>= (λ (seq, words).
+    next seq_word words >>= (λ (told, words).
     next (index_word c Batcher) words >>= (λ (batcher, words).
     op_at words >>= (λ (op, words).
-    ended (Write (record { client = client; seq = seq; op = op }) batcher) words))))
+    ended (Write (record { client = client; seq = told.0; floor = told.1; op = op }) batcher) words))))
 
 -- client:C SEQ reader:R replica:P K
 unfoldable pub read_event : Cluster → List (List ℕ) → Result Event LineFault
 read_event c words =
     next (index_word c Client) words >>= (λ (client, words).
-    next seq_word words >>= (λ (seq, words).
+    next seq_word words >>= (λ (told, words).
     next (index_word c Reader) words >>= (λ (reader, words).
     next (index_word c Replica) words >>= (λ (replica, words).
     next key_word words >>= (λ (key, words).
-    ended (Read client seq reader replica key) words)))))
+    ended (Read client told.0 told.1 reader replica key) words)))))
 
 -- N, and a cut
 unfoldable pub deliver_event : List (List ℕ) → Result Event LineFault

@@ -40,7 +40,7 @@ names_order c Collect = true
 -- whether each name of an event lies in the cluster, and each role that ticks, crashes or restarts is no client
 abbrev pub names_event : Cluster → Event → Bool
 names_event c (Write command batcher) = nat_lt command.client c.clients && nat_lt batcher c.batchers
-names_event c (Read client seq reader replica key) = nat_lt client c.clients && nat_lt reader c.readers && nat_lt replica c.replicas
+names_event c (Read client seq floor reader replica key) = nat_lt client c.clients && nat_lt reader c.readers && nat_lt replica c.replicas
 names_event c (Deliver number cut) = true
 names_event c (Tick role) = names_server c role
 names_event c (event.Order leader order cut) = nat_lt leader c.leaders && names_order c order

@@ -1,7 +1,8 @@
 -- What a word says in its place, or the place's fault.
-use Rattle.std.specs.Prelude.{ℕ, ◌*◌, Bool, ◌==◌, ◌&&◌, nat_le, nat_lt, List, [], ◌∷◌, find, is_none, Option, Some, None, option_map, option_and_then, ok_or, Result, Err, if◌then◌else◌}
+use Rattle.std.specs.Prelude.{ℕ, ◌-◌, ◌*◌, Bool, ◌==◌, ◌&&◌, nat_le, nat_lt, List, [], ◌∷◌, find, is_none, Option, Some, None, option_map, option_and_then, ok_or, Result, Err, if◌then◌else◌}
 use Rattle.std.specs.List.{before_first, after_first, slice_split}
 use Rattle.std.specs.Str.{bytes_eq}
+use Rattle.cx_base.specs.Asked.{floor_fits}
 use Rattle.cx_base.specs.declared.cluster.Cluster.{Cluster}
 use Rattle.cx_base.specs.declared.role.Kind.{Kind}
 use Rattle.cx_base.specs.declared.role.Kind.TheVariants.{Batcher, Leader, Proxy, Acceptor, Matchmaker, Replica, Unbatcher, Reader}
@@ -14,12 +15,17 @@ use Rattle.cx_script.specs.declared.fault.LineFault.TheVariants.{Number, Role, G
 use Rattle.cx_base.specs.Cluster.{count_of}
 use Rattle.cx_script.specs.Words.{number_of}
 
--- SEQ: a request's number, at least 1
-abbrev pub from_one : ℕ → Option ℕ
-from_one number = if nat_le 1 number then Some number else None
+-- SEQ or SEQ/FLOOR: a request's number and the floor that it tells, which is the number before where SEQ stands alone
+abbrev pub fitting : ℕ → ℕ → Option (ℕ × ℕ)
+fitting seq floor = if floor_fits seq floor then Some (seq, floor) else None
 
-abbrev pub seq_word : List ℕ → Result ℕ LineFault
-seq_word word = ok_or (option_and_then from_one (number_of word)) Number
+abbrev pub seq_and_floor : List (List ℕ) → Option (ℕ × ℕ)
+seq_and_floor (seq ∷ []) = option_and_then (λ n. fitting n (n - 1)) (number_of seq)
+seq_and_floor (seq ∷ floor ∷ []) = option_and_then (λ n. option_and_then (fitting n) (number_of floor)) (number_of seq)
+seq_and_floor other = None
+
+abbrev pub seq_word : List ℕ → Result (ℕ × ℕ) LineFault
+seq_word word = ok_or (seq_and_floor (slice_split (λ b. b == 47) word)) Number
 
 -- N: any number
 abbrev pub number_word : List ℕ → Result ℕ LineFault

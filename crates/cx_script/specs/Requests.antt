@@ -1,12 +1,12 @@
 -- The lines of a node: requests alone, the numbers of each client rising.
 use Rattle.std.specs.Prelude.{◌≡◌, ℕ, ◌+◌, ◌<◌, Bool, true, false, ◌==◌, ◌&&◌, nat_lt, max, get_or, List, [], ◌∷◌, ◌++◌, filter, Option, None, Some, option_to_list, Result, Ok, Err, if◌then◌else◌}
-use Rattle.std.specs.List.{list_all}
+use Rattle.std.specs.List.{list_all, list_any}
 use Rattle.cx_base.specs.declared.cluster.Cluster.{Cluster}
 use Rattle.cx_base.specs.declared.event.Event.{Event}
 use Rattle.cx_base.specs.declared.event.Event.TheVariants as event
 use Rattle.cx_base.specs.declared.event.Event.TheVariants.{Write, Read, Deliver, Tick, Crash, Restart}
 use Rattle.cx_script.specs.declared.fault.LineFault.{LineFault}
-use Rattle.cx_script.specs.declared.fault.LineFault.TheVariants.{Word}
+use Rattle.cx_script.specs.declared.fault.LineFault.TheVariants.{Number, Word}
 use Rattle.cx_script.specs.Grammar.{line_event}
 use Rattle.cx_script.specs.Lines.{Spelled, with_line, lines_of}
 use Rattle.cx_script.specs.Names.{names_event}
@@ -14,7 +14,7 @@ use Rattle.cx_script.specs.Names.{names_event}
 -- the client and the number of a request, none of another event
 abbrev pub asker : Event → Option (ℕ × ℕ)
 asker (Write command batcher) = Some (command.client, command.seq)
-asker (Read client seq reader replica key) = Some (client, seq)
+asker (Read client seq floor reader replica key) = Some (client, seq)
 asker (Deliver number cut) = None
 asker (Tick role) = None
 asker (event.Order leader order cut) = None
@@ -54,6 +54,19 @@ is_above before (Some (client, seq)) = nat_lt (greatest client before) seq
 abbrev pub rises : List Event → Event → Bool
 rises before e = is_above before (asker e)
 
+-- whether a line has a slash, as one has that tells a floor
+abbrev pub has_slash : List ℕ → Bool
+has_slash line = list_any (λ b. b == 47) line
+
+-- a line of a node's file, whose event or fault is known: a request that tells a floor is bad, since its client chooses floors
+abbrev pub without_floor : List ℕ → Result (Option Event) LineFault → Result (Option Event) LineFault
+without_floor line (Err fault) = Err fault
+without_floor line (Ok None) = Ok None
+without_floor line (Ok (Some e)) = if has_slash line then Err Number else Ok (Some e)
+
+abbrev pub request_line : Cluster → List ℕ → Result (Option Event) LineFault
+request_line c line = without_floor line (line_event c line)
+
 -- a line after others, whose events are known: an event is a request whose number rises
 abbrev pub request_behind : List Event → Result (Option Event) LineFault → Result (Option Event) LineFault
 request_behind before (Err fault) = Err fault
@@ -70,7 +83,7 @@ abbrev pub requests_from : Cluster → ℕ → List Event → List (List ℕ) �
 requests_from c n before [] = record { events = []; bad = None }
 requests_from c n before (line ∷ lines) =
     if nat_lt 65535 n then record { events = []; bad = Some n }
-    else with_line n (request_behind before (line_event c line)) (requests_from c (n + 1) (with_event before (line_event c line)) lines)
+    else with_line n (request_behind before (request_line c line)) (requests_from c (n + 1) (with_event before (request_line c line)) lines)
 
 -- what the bytes after a node's header spell; lines count from 1
 unfoldable pub requests_of : Cluster → List ℕ → Spelled
@@ -79,6 +92,16 @@ requests_of c bytes = requests_from c 1 [] (lines_of bytes)
 -- the requests of one client, in their order
 abbrev pub script_of : ℕ → List Event → List Event
 script_of client events = filter (asks client) events
+
+-- whether a request tells no floor of its own, which is then the number before; other events tell none
+abbrev pub tells_no_floor : Event → Bool
+tells_no_floor (Write command batcher) = command.floor + 1 == command.seq
+tells_no_floor (Read client seq floor reader replica key) = floor + 1 == seq
+tells_no_floor (Deliver number cut) = true
+tells_no_floor (Tick role) = true
+tells_no_floor (event.Order leader order cut) = true
+tells_no_floor (Crash role) = true
+tells_no_floor (Restart role) = true
 
 -- whether the numbers of requests rise, the first one above this
 abbrev pub rise_above : ℕ → List Event → Bool

@@ -14,12 +14,17 @@ fn write_event(cluster: &Cluster, mut words: Words) -> Result<Event, LineFault>
     ensures { result ≡ write_event cluster.now words.entry }
 {
     let client = words.index(cluster, Kind::Client)?;
-    let seq = words.seq()?;
+    let (seq, floor) = words.seq()?;
     let batcher = words.index(cluster, Kind::Batcher)?;
     let op = words.op()?;
     words.end()?;
     Ok(Event::Write {
-        command: Command { client, seq, op },
+        command: Command {
+            client,
+            seq,
+            floor,
+            op,
+        },
         batcher,
     })
 }
@@ -29,7 +34,7 @@ fn read_event(cluster: &Cluster, mut words: Words) -> Result<Event, LineFault>
     ensures { result ≡ read_event cluster.now words.entry }
 {
     let client = words.index(cluster, Kind::Client)?;
-    let seq = words.seq()?;
+    let (seq, floor) = words.seq()?;
     let reader = words.index(cluster, Kind::Reader)?;
     let replica = words.index(cluster, Kind::Replica)?;
     let key = words.key()?;
@@ -37,6 +42,7 @@ fn read_event(cluster: &Cluster, mut words: Words) -> Result<Event, LineFault>
     Ok(Event::Read {
         client,
         seq,
+        floor,
         reader,
         replica,
         key,
@@ -128,10 +134,11 @@ fn event(cluster: &Cluster, verb: &[u8], words: Words) -> Result<Event, LineFaul
 /// - `collect leader:L`
 /// - `tick ROLE`, `crash ROLE` and `restart ROLE`, any role but a client
 ///
-/// Numbers are decimal digits, of 64 bits at most, and SEQ is at least 1; K is a key and T a text; a grid has R rows and C
-/// columns. Every name lies in the cluster. A line of more than 1,024 bytes is too long, also a comment; else the first word
-/// from the left that its place doesn't take names the fault. Sides of a grid that no members fill are refused before the
-/// members are looked at.
+/// Numbers are decimal digits, of 64 bits at most. SEQ is a request's number, at least 1, or its number and its floor, as in
+/// `5/3`: the floor is below the number, and at most 64 below it. A number alone has the number before it for a floor. K is a
+/// key and T a text; a grid has R rows and C columns. Every name lies in the cluster. A line of more than 1,024 bytes is too
+/// long, also a comment; else the first word from the left that its place doesn't take names the fault. Sides of a grid that no
+/// members fill are refused before the members are looked at.
 #[tactic(auto, unfolding(crate::specs::Grammar::line_event))]
 pub fn line(cluster: &Cluster, bytes: &[u8]) -> Result<Option<Event>, LineFault>
     ensures { result ≡ line_event cluster.now bytes.now }

@@ -132,6 +132,7 @@ fn later_event(made: u64, sent: u64, a: u64, b: u64, c: u64, d: u64) -> Event
             command: Command {
                 client,
                 seq,
+                floor: made,
                 op: op(c, d),
             },
             batcher: 0,
@@ -139,6 +140,7 @@ fn later_event(made: u64, sent: u64, a: u64, b: u64, c: u64, d: u64) -> Event
         77..=81 => Event::Read {
             client,
             seq,
+            floor: made,
             reader: 0,
             replica: (d % 2) as u16,
             key: key(c),

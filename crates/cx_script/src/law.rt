@@ -9,7 +9,7 @@ ghost use Rattle.cx_script.specs.Generator.{State, next_event, gen_cluster};
 ghost use Rattle.cx_script.specs.Grammar.{line_event};
 ghost use Rattle.cx_script.specs.Lines.{schedule_of};
 ghost use Rattle.cx_script.specs.Names.{names_event};
-ghost use Rattle.cx_script.specs.Requests.{IsScript, requests_of, script_of};
+ghost use Rattle.cx_script.specs.Requests.{IsScript, requests_of, script_of, tells_no_floor};
 
 /// A law, whatever the bytes: each event that they spell is one that the world takes, and its names lie in the cluster.
 pub fn spelled_events_are_taken()
@@ -25,8 +25,11 @@ pub fn generated_events_are_taken()
     ensures named { (g : State) (sent : ℕ) → names_event gen_cluster (next_event g sent) ≡ true }
 {}
 
-/// A law, whatever the bytes: the requests of each client are a script, and the names of all lie in the cluster.
+/// A law, whatever the bytes: the requests of each client are a script; each of them is one that the world takes, tells no floor
+/// of its own, and has its names in the cluster.
 pub fn requests_rise()
     ensures scripts { (c : Cluster) (bytes : List ℕ) (client : ℕ) → IsScript c client (script_of client (requests_of c bytes).events) }
+    ensures all_taken { (c : Cluster) (bytes : List ℕ) → list_all is_valid_event (requests_of c bytes).events ≡ true }
+    ensures floors { (c : Cluster) (bytes : List ℕ) → list_all tells_no_floor (requests_of c bytes).events ≡ true }
     ensures all_named { (c : Cluster) (bytes : List ℕ) → list_all (names_event c) (requests_of c bytes).events ≡ true }
 {}

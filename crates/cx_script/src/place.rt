@@ -1,12 +1,15 @@
 //! What a word says in its place.
 
-ghost use Rattle.std.specs.Prelude.{◌≡◌};
+ghost use Rattle.std.specs.Prelude.{◌≡◌, ◌==◌, ◌-◌, Some};
+ghost use Rattle.std.specs.List.{slice_split};
+ghost use Rattle.std.specs.Option.{option_copied, option_map_or};
 ghost use Rattle.std.specs.Str.{bytes_eq};
-ghost use Rattle.cx_script.specs.Places.{seq_word, number_word, key_word, text_word, index_below, index_word, server_kind, server_word};
+ghost use Rattle.cx_script.specs.Places.{fitting, seq_and_floor, seq_word, number_word, key_word, text_word, index_below, index_word, server_kind, server_word};
+ghost use Rattle.cx_script.specs.Words.{number_of};
 
 use crate::decimal::number;
 use crate::fault::LineFault;
-use crate::split::parted;
+use crate::split::{first_part, parted};
 use cx_base::{Cluster, Key, Kind, RoleId, Text, count_of};
 
 /// Whether a word is a text.
@@ -16,14 +19,43 @@ pub fn is(word: &[u8], text: &str) -> bool
     word == text.as_bytes()
 }
 
-/// A request's number.
-pub fn seq_word(word: &[u8]) -> Result<u64, LineFault>
+/// A client may have this many numbers outstanding: a floor is at most this far below the number that tells it.
+const OUTSTANDING: u64 = 64;
+
+fn fitting(seq: u64, floor: u64) -> Option<(u64, u64)>
+    ensures { result ≡ fitting seq floor }
+{
+    if floor < seq && seq - floor <= OUTSTANDING {
+        Some((seq, floor))
+    } else {
+        None
+    }
+}
+
+// The floor that goes with a number: what a slash has behind it, or the number before where there is no slash.
+fn floor_behind(seq: u64, behind: Option<&[u8]>) -> Option<u64>
+    ensures { result ≡ option_map_or number_of (option_copied behind.entry) (Some (seq - 1)) }
+{
+    match behind {
+        None => Some(seq.saturating_sub(1)),
+        Some(word) => number(word),
+    }
+}
+
+fn seq_and_floor(word: &[u8]) -> Option<(u64, u64)>
+    ensures { result ≡ seq_and_floor (slice_split (λ b. b == 47) word.now) }
+{
+    let (front, behind) = first_part(word, b'/');
+    let seq = number(front)?;
+    let floor = floor_behind(seq, behind)?;
+    fitting(seq, floor)
+}
+
+/// A request's number, and the floor that it tells.
+pub fn seq_word(word: &[u8]) -> Result<(u64, u64), LineFault>
     ensures { result ≡ seq_word word.now }
 {
-    match number(word) {
-        Some(seq) if seq >= 1 => Ok(seq),
-        _ => Err(LineFault::Number),
-    }
+    seq_and_floor(word).ok_or(LineFault::Number)
 }
 
 /// Any number.

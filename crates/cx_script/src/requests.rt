@@ -2,8 +2,7 @@
 
 ghost use Rattle.std.specs.Prelude.{◌≡◌, ◌<◌, ◌++◌, List, IfOk, nat_lt, get_or, length, option_to_list, slice_set, if◌then◌else◌};
 ghost use Rattle.cx_base.specs.declared.event.Event.{Event as Happening};
-ghost use Rattle.cx_script.specs.Grammar.{line_event};
-ghost use Rattle.cx_script.specs.Requests.{Tells, asker, asks, request_behind, requests_of, script_of};
+ghost use Rattle.cx_script.specs.Requests.{Tells, asker, asks, has_slash, request_behind, request_line, requests_of, script_of};
 
 use crate::event::line;
 use crate::fault::LineFault;
@@ -34,16 +33,32 @@ fn rises(greatest: &mut Greatest, client: u16, seq: u64) -> bool
     above
 }
 
+fn has_slash(text: &[u8]) -> bool
+    ensures { result ≡ has_slash text.now }
+{
+    text.iter().any(|byte| *byte == b'/')
+}
+
+// A line by itself. Its client chooses the floors of its requests, so a line may not tell one.
+fn request_line(cluster: &Cluster, text: &[u8]) -> Result<Option<Event>, LineFault>
+    ensures { result ≡ request_line cluster.now text.now }
+{
+    match line(cluster, text)? {
+        Some(_) if has_slash(text) => Err(LineFault::Number),
+        event => Ok(event),
+    }
+}
+
 // A line after others, of which the greatest number of each client is known.
 fn request(
     cluster: &Cluster,
     greatest: &mut Greatest,
     text: &[u8],
 ) -> Result<Option<Event>, LineFault>
-    ensures request { (before : List Happening) → Tells before greatest.old → result ≡ request_behind before (line_event cluster.now text.now) }
+    ensures request { (before : List Happening) → Tells before greatest.old → result ≡ request_behind before (request_line cluster.now text.now) }
     ensures told { (before : List Happening) → Tells before greatest.old → IfOk result (λ event. Tells (before ++ option_to_list event) greatest.new) }
 {
-    let Some(event) = line(cluster, text)? else {
+    let Some(event) = request_line(cluster, text)? else {
         return Ok(None);
     };
     match asker(&event) {
@@ -53,8 +68,8 @@ fn request(
 }
 
 /// What the bytes after a node's header spell: requests. A line ends with a line feed, which the last may lack, and loses one
-/// carriage return at its end. Lines count from 1, comments and blank ones too. A line of another kind is bad, one whose number
-/// isn't above its client's earlier ones, and the 65,536th.
+/// carriage return at its end. Lines count from 1, comments and blank ones too. A line of another kind is bad, one that tells a
+/// floor, one whose number isn't above its client's earlier ones, and the 65,536th.
 #[tactic(auto, unfolding(crate::specs::Requests::requests_of))]
 pub fn read_requests(alloc: Global, cluster: &Cluster, bytes: &[u8]) -> Result<Schedule, NoMemory>
     ensures { IfOk result (λ schedule. schedule ≡ requests_of cluster.now bytes.now) }

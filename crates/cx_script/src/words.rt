@@ -47,8 +47,8 @@ impl<'a> Words<'a> {
         Ok(word)
     }
 
-    /// A request's number.
-    pub fn seq(&mut self) -> Result<u64, LineFault>
+    /// A request's number, and the floor that it tells.
+    pub fn seq(&mut self) -> Result<(u64, u64), LineFault>
         ensures { Reads result self.new (next seq_word self.old) }
     {
         seq_word(self.next()?)

@@ -10,3 +10,5 @@ mod log_tests;
 mod message_tests;
 #[cfg(test)]
 mod vectors;
+#[cfg(test)]
+mod version_tests;

@@ -16,7 +16,7 @@ fn digit(letter: u8) -> u8 {
 }
 
 // An entry's bytes, and where their fields begin.
-fn unhex(alloc: Global, entry: &[u8]) -> Result<(Vec<u8>, Vec<usize>), Fail> {
+pub(crate) fn unhex(alloc: Global, entry: &[u8]) -> Result<(Vec<u8>, Vec<usize>), Fail> {
     let mut bytes = Vec::new(alloc);
     let mut begins = Vec::new(alloc);
     let mut high = None;
@@ -178,6 +178,6 @@ fn another_implementation(rt: HostRuntime) -> Result<(), Fail> {
         assert!(rt; changes_are_refused(alloc, &bytes)?, "entry {count}");
         count = count.saturating_add(1);
     }
-    assert_eq!(rt; count, 274);
+    assert_eq!(rt; count, 286);
     Ok(())
 }

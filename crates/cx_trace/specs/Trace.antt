@@ -1,5 +1,5 @@
 -- The lines of the trace: events, and the datagrams that they send.
-use Rattle.std.specs.Prelude.{ℕ, Bool, ◌+◌, ◌==◌, ◌||◌, List, [], ◌∷◌, ◌++◌, codes, decimal, Option, None, Some}
+use Rattle.std.specs.Prelude.{ℕ, Bool, ◌+◌, ◌==◌, ◌||◌, List, [], ◌∷◌, ◌++◌, codes, decimal, Option, None, Some, if◌then◌else◌}
 use Rattle.cx_base.specs.Role.{role, role_text}
 use Rattle.cx_base.specs.Why.{why_text}
 use Rattle.cx_base.specs.declared.event.Event.{Event}
@@ -16,9 +16,17 @@ use Rattle.cx_trace.specs.Put.{hex}
 use Rattle.cx_trace.specs.Reply.{reply_text, found_text}
 use Rattle.cx_trace.specs.declared.effect.Effect.{Effect}
 
--- a request of a client: who, and its number
-unfoldable pub request_text : ℕ → ℕ → List ℕ
-request_text client seq = role_text (role Client client) ++ codes " " ++ decimal seq
+-- a request's number, and after a slash the floor that it tells, where that isn't the number before
+unfoldable pub seq_text : ℕ → ℕ → List ℕ
+seq_text seq floor = if floor + 1 == seq then decimal seq else decimal seq ++ codes "/" ++ decimal floor
+
+-- a request of a client: who, its number and its floor
+unfoldable pub request_text : ℕ → ℕ → ℕ → List ℕ
+request_text client seq floor = role_text (role Client client) ++ codes " " ++ seq_text seq floor
+
+-- the request that an answer is for: whose, and its number
+unfoldable pub answered_text : ℕ → ℕ → List ℕ
+answered_text client seq = role_text (role Client client) ++ codes " " ++ decimal seq
 
 abbrev pub order_text : Order → List ℕ
 order_text (Lead grid) = codes "lead "
@@ -32,8 +40,8 @@ reached_text (Some who) = codes " " ++ role_text who
 
 -- what happened, and to whom
 abbrev pub happening_text : Event → Option RoleId → List ℕ
-happening_text (event.Write command batcher) who = codes "write " ++ request_text command.client command.seq
-happening_text (event.Read client seq reader replica key) who = codes "read " ++ request_text client seq
+happening_text (event.Write command batcher) who = codes "write " ++ request_text command.client command.seq command.floor
+happening_text (event.Read client seq floor reader replica key) who = codes "read " ++ request_text client seq floor
 happening_text (event.Deliver number cut) who = codes "deliver " ++ decimal number ++ reached_text who
 happening_text (event.Tick r) who = codes "tick " ++ role_text r
 happening_text (event.Order leader order cut) who = order_text order ++ role_text (role Leader leader)
@@ -48,12 +56,12 @@ event_text e effect =
 -- the line of a client's answer
 unfoldable pub answer_line : ℕ → ℕ → ℕ → List ℕ → List ℕ
 answer_line client seq at reply =
-    codes "answer " ++ request_text client seq ++ codes " at " ++ decimal at ++ codes " " ++ reply ++ codes "\n"
+    codes "answer " ++ answered_text client seq ++ codes " at " ++ decimal at ++ codes " " ++ reply ++ codes "\n"
 
 -- the line of a client's read
 unfoldable pub read_line : ℕ → ℕ → ℕ → List ℕ → List ℕ
 read_line client seq mark found =
-    codes "read " ++ request_text client seq ++ codes " at " ++ decimal mark ++ codes " " ++ found ++ codes "\n"
+    codes "read " ++ answered_text client seq ++ codes " at " ++ decimal mark ++ codes " " ++ found ++ codes "\n"
 
 -- what a message tells the client that gets it: only answers tell it something
 abbrev pub told_text : ℕ → Msg → List ℕ

@@ -57,7 +57,7 @@ fn put_command(
 {
     put_number(text, slot)?;
     put(text, b" ")?;
-    put_request(text, command.client, command.seq)?;
+    put_request(text, command.client, command.seq, command.floor)?;
     put(text, b" ")?;
     put_op(text, &command.op)?;
     put(text, b" ")?;

@@ -38,11 +38,16 @@ fn put_happening(text: &mut Vec<u8>, event: &Event, who: Option<RoleId>) -> Resu
     match event {
         Event::Write { command, .. } => {
             put(text, b"write ")?;
-            put_request(text, command.client, command.seq)
+            put_request(text, command.client, command.seq, command.floor)
         }
-        Event::Read { client, seq, .. } => {
+        Event::Read {
+            client,
+            seq,
+            floor,
+            ..
+        } => {
             put(text, b"read ")?;
-            put_request(text, *client, *seq)
+            put_request(text, *client, *seq, *floor)
         }
         Event::Deliver { number, .. } => {
             put(text, b"deliver ")?;

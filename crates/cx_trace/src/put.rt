@@ -3,7 +3,7 @@
 ghost use Rattle.std.specs.Prelude.{◌≡◌, ◌<◌, ◌++◌, length, take, OnErr, OnOk, decimal};
 ghost use Rattle.cx_base.specs.Role.{role, role_text};
 ghost use Rattle.cx_trace.specs.Put.{hex, hex_digit};
-ghost use Rattle.cx_trace.specs.Trace.{request_text};
+ghost use Rattle.cx_trace.specs.Trace.{answered_text, request_text, seq_text};
 
 use cx_base::{Kind, NoMemory, RoleId};
 use itoa::Buffer;
@@ -58,10 +58,35 @@ pub fn put_role(text: &mut Vec<u8>, role: RoleId) -> Result<(), NoMemory>
     put_role_at(text, role.kind, u64::from(role.index))
 }
 
-// A request of a client: who, and its number.
+// A request's number, and the floor that it tells, where that isn't the number before.
+#[tactic(auto, unfolding(crate::specs::Trace::seq_text))]
+fn put_seq(text: &mut Vec<u8>, seq: u64, floor: u64) -> Result<(), NoMemory>
+    ensures ok { OnOk result (text.new.items ≡ text.old.items ++ seq_text seq floor) }
+    ensures err { OnErr result (take (length text.old.items) text.new.items ≡ text.old.items) }
+{
+    put_number(text, seq)?;
+    if seq.checked_sub(1) == Some(floor) {
+        return Ok(());
+    }
+    put(text, b"/")?;
+    put_number(text, floor)
+}
+
+// A request of a client: who, its number and its floor.
 #[tactic(auto, unfolding(crate::specs::Trace::request_text))]
-pub fn put_request(text: &mut Vec<u8>, client: u16, seq: u64) -> Result<(), NoMemory>
-    ensures ok { OnOk result (text.new.items ≡ text.old.items ++ request_text client seq) }
+pub fn put_request(text: &mut Vec<u8>, client: u16, seq: u64, floor: u64) -> Result<(), NoMemory>
+    ensures ok { OnOk result (text.new.items ≡ text.old.items ++ request_text client seq floor) }
+    ensures err { OnErr result (take (length text.old.items) text.new.items ≡ text.old.items) }
+{
+    put_role_at(text, Kind::Client, u64::from(client))?;
+    put(text, b" ")?;
+    put_seq(text, seq, floor)
+}
+
+// The request that an answer is for: whose, and its number.
+#[tactic(auto, unfolding(crate::specs::Trace::answered_text))]
+pub fn put_answered(text: &mut Vec<u8>, client: u16, seq: u64) -> Result<(), NoMemory>
+    ensures ok { OnOk result (text.new.items ≡ text.old.items ++ answered_text client seq) }
     ensures err { OnErr result (take (length text.old.items) text.new.items ≡ text.old.items) }
 {
     put_role_at(text, Kind::Client, u64::from(client))?;

@@ -4,7 +4,7 @@ ghost use Rattle.std.specs.Prelude.{◌≡◌, ◌++◌, length, take, OnErr, On
 ghost use Rattle.cx_trace.specs.Reply.{reply_text, found_text};
 ghost use Rattle.cx_trace.specs.Trace.{answer_line, read_line};
 
-use crate::put::{put, put_number, put_request};
+use crate::put::{put, put_answered, put_number};
 use cx_base::{NoMemory, Reply, Text};
 
 fn put_reply(text: &mut Vec<u8>, reply: &Reply) -> Result<(), NoMemory>
@@ -52,7 +52,7 @@ pub fn put_answer(
     ensures err { OnErr result (take (length text.old.items) text.new.items ≡ text.old.items) }
 {
     put(text, b"answer ")?;
-    put_request(text, client, seq)?;
+    put_answered(text, client, seq)?;
     put(text, b" at ")?;
     put_number(text, at)?;
     put(text, b" ")?;
@@ -73,7 +73,7 @@ pub fn put_read(
     ensures err { OnErr result (take (length text.old.items) text.new.items ≡ text.old.items) }
 {
     put(text, b"read ")?;
-    put_request(text, client, seq)?;
+    put_answered(text, client, seq)?;
     put(text, b" at ")?;
     put_number(text, mark)?;
     put(text, b" ")?;

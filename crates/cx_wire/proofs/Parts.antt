@@ -2,7 +2,7 @@
 use Rattle.std.proofs.Common.{◌≡◌, ℕ, Bool, true, false, not, ◌&&◌, ◌||◌, List, [], ◌∷◌, ◌++◌, length, refl, ap, ◌∙◌}
 use Rattle.std.specs.Prelude.{◌==◌}
 use Rattle.std.specs.List.{list_any}
-use Rattle.cx_wire.specs.Format.{Format, u8, only, then_by, ◌▷◌, shaped, each_fits, each_spell, times, counted, Shape, Case, tagged}
+use Rattle.cx_wire.specs.Format.{Format, then_by, ◌▷◌, shaped, each_fits, each_spell, times, counted, Shape, Case, tagged}
 
 -- one format fits what another fits that doesn't tell, and both spell the same
 pub record IsPart {A : Type 0} (tells : A → Bool) (part whole : Format A) : Type 0 where

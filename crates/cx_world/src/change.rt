@@ -14,7 +14,7 @@ ghost use Rattle.cx_world.specs.World.{AsksAfter, Changes, ChangesAfter, lists_o
 use crate::seat::{Seat, act_at};
 use crate::turned::{Changed, Turned};
 use cx_acceptor::Acceptor;
-use cx_base::{Command, Cut, Event, Kind, NoMemory, Op, RoleId, Why};
+use cx_base::{Cut, Event, Kind, NoMemory, RoleId, Why};
 use cx_batch::{Batcher, Unbatcher};
 use cx_field::Token;
 use cx_history::{Events, Sent};
@@ -105,15 +105,6 @@ fn act(seats: &mut Seats, who: RoleId, act: &Act, out: &mut Outbox) -> Result<Ch
     }
 }
 
-// A command for a batcher; its number is taken by value, so that its range is known.
-#[tactic(auto, unfolding(cx_field::specs::Fields::seq, cx_wire::specs::Format::u64))]
-fn submission(client: u16, seq: u64, op: Op, batcher: u16) -> Datagram
-    requires { 1 ≤ seq }
-    ensures { result ≡ letter (role Kind.Client client) (role Kind.Batcher batcher) (Msg.Submit (record { client = client; seq = seq; op = op })) }
-{
-    submit(client, batcher, Command { client, seq, op })
-}
-
 // The datagram of a request goes out.
 #[tactic(auto, unfolding(cx_field::specs::Fields::seq, cx_wire::specs::Format::u64))]
 fn send(event: &Event, out: &mut Outbox) -> Result<(), NoMemory>
@@ -124,7 +115,7 @@ fn send(event: &Event, out: &mut Outbox) -> Result<(), NoMemory>
     match event {
         Event::Write { command, batcher } => {
             out.room(1)?;
-            out.push(submission(command.client, command.seq, command.op, *batcher));
+            out.push(submit(command.client, *batcher, *command));
         }
         Event::Read {
             client,
@@ -132,6 +123,7 @@ fn send(event: &Event, out: &mut Outbox) -> Result<(), NoMemory>
             reader,
             replica,
             key,
+            ..
         } => {
             out.room(1)?;
             out.push(read_req(*client, *reader, *seq, *replica, *key));

@@ -20,7 +20,7 @@ open_guest-requires-clause-in_depot g c =
     let me : RoleId = slice_index_or c.args.roles.now c.loop-role.role-index (a_role kind.Client 0) in
     let next : slice_get c.args.roles.now (length c.loop-role.seats.items) ≡ Some me =
     subst (λ n. slice_get c.args.roles.now n ≡ Some me) (sym before.size) (slice_get-get_or c.args.roles.now c.loop-role.role-index (a_role kind.Client 0) c.loop-role-test.true) in
-    rw before.out (next_in_depot g.D.Store.Disk.seen g.D.Store.Disk.faults c.args.cluster.now c.args.events.now (g.D.Depot.tells c.args.depot.now) (g.D.Depot.held c.args.depot.now) c.args.roles.now c.loop-role.seats.items me
+    rw before.out (next_in_depot g.D.Store.Disk.seen g.D.Store.Disk.faults c.args.cluster.now c.args.window c.args.events.now (g.D.Depot.tells c.args.depot.now) (g.D.Depot.held c.args.depot.now) c.args.roles.now c.loop-role.seats.items me
     next before.opened c.requires.distinct)
 
 pub loop-role-preserved : goal.loop-role-preserved
@@ -32,7 +32,7 @@ loop-role-preserved g c =
     let opened = rw (before.told, before.held me) at c.in_ok-guest.ensures.opened in
     record {
       opened = rw (c.push_reserved.ensures.items, c.reserve.ensures.items, c.new.ensures)
-          (opened_more g.D.Store.Disk.seen g.D.Store.Disk.faults c.args.cluster.now c.args.events.now (g.D.Depot.tells c.args.depot.now) (g.D.Depot.held c.args.depot.now) c.args.roles.now c.loop-role.seats.items me
+          (opened_more g.D.Store.Disk.seen g.D.Store.Disk.faults c.args.cluster.now c.args.window c.args.events.now (g.D.Depot.tells c.args.depot.now) (g.D.Depot.held c.args.depot.now) c.args.roles.now c.loop-role.seats.items me
           next before.opened c.in_ok-guest.guest opened);
       size = rw (c.push_reserved.ensures.items, c.reserve.ensures.items, length-append, before.size) refl;
       out = c.in_ok-guest.ensures.out ∙ rw (before.out, c.push_reserved.ensures.items, c.reserve.ensures.items, c.new.ensures, lent_append) refl;
@@ -50,7 +50,7 @@ returns-in_err-guest-clause-bad g c = λ role at e tells.
     let own : role ≡ me = c.in_err-guest.ensures.own role at (ap Err is) in
     let next : slice_get c.args.roles.now (length c.loop-role.seats.items) ≡ Some role =
     subst (λ n. slice_get c.args.roles.now n ≡ Some role) (sym before.size) (slice_get-get_or c.args.roles.now c.loop-role.role-index (a_role kind.Client 0) c.loop-role-test.true ∙ ap Some (sym own)) in
-    first_bad g.D.Store.Disk.seen g.D.Store.Disk.faults c.args.cluster.now c.args.events.now (g.D.Depot.tells c.args.depot.now) (g.D.Depot.held c.args.depot.now) c.args.roles.now c.loop-role.seats.items
+    first_bad g.D.Store.Disk.seen g.D.Store.Disk.faults c.args.cluster.now c.args.window c.args.events.now (g.D.Depot.tells c.args.depot.now) (g.D.Depot.held c.args.depot.now) c.args.roles.now c.loop-role.seats.items
     before.opened tells role at next
     (subst (λ (file : List ℕ). IsBadAs c.args.cluster.now role file at role.kind) (before.held role) (c.in_err-guest.ensures.bad role at (ap Err is) (before.told ∙ tells)))
 

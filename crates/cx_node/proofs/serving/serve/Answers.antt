@@ -13,29 +13,29 @@ returns-in-Ok-clause-answered g c =
     (depot.tells c.host.new.depot) (depot.held c.host.new.depot) (depot.faults c.host.new.depot) in
     let says = subst (λ events. Says c.args.roles.now (g.S.Source.left c.args.input.now) c.in-Ok.cluster events) (sym c.events.ensures)
     (says_heard c.args.roles.now (g.S.Source.left c.args.input.now) c.in-Ok.cluster c.in-Ok.schedule heard.heard heard.taken heard.named) in
-    answered_so c.args.roles.now c.args.tend c.in-Ok.cluster c.events.result.now c.args.turns old new c.host.result says (heard.at_end, heard.all_read)
+    answered_so c.args.roles.now c.args.tend c.in-Ok.cluster c.args.window c.events.result.now c.args.turns old new c.host.result says (heard.at_end, heard.all_read)
     (c.host.ensures.answered (g.S.Source.left c.args.input.now) (g.S.Source.left c.listen.new.source) (g.S.Source.faults c.args.input.now) (g.S.Source.faults c.listen.new.source))
 
 pub returns-in-Ok-clause-complete : goal.returns-in-Ok-clause-complete
-returns-in-Ok-clause-complete g c = completes_so _ _ _ _ _ _ (returns-in-Ok-clause-answered g c)
+returns-in-Ok-clause-complete g c = completes_so _ _ _ _ _ _ _ (returns-in-Ok-clause-answered g c)
 
 pub returns-in-Ok-clause-tells_bad : goal.returns-in-Ok-clause-tells_bad
 returns-in-Ok-clause-tells_bad g c =
     let heard = c.in-Ok.ensures in
     let says = subst (λ events. Says c.args.roles.now (g.S.Source.left c.args.input.now) c.in-Ok.cluster events) (sym c.events.ensures)
     (says_heard c.args.roles.now (g.S.Source.left c.args.input.now) c.in-Ok.cluster c.in-Ok.schedule heard.heard heard.taken heard.named) in
-    tells_bad_so c.args.roles.now c.args.tend c.in-Ok.cluster c.events.result.now c.args.turns _ _ c.host.result says
+    tells_bad_so c.args.roles.now c.args.tend c.in-Ok.cluster c.args.window c.events.result.now c.args.turns _ _ c.host.result says
     (c.host.ensures.answered (g.S.Source.left c.args.input.now) (g.S.Source.left c.listen.new.source) (g.S.Source.faults c.args.input.now) (g.S.Source.faults c.listen.new.source))
 
 pub returns-in-Err-clause-answered : goal.returns-in-Err-clause-answered
 returns-in-Err-clause-answered g c =
     let heard = c.in-Err.ensures in
-    refused_so c.args.roles.now c.args.tend c.args.turns _ _ c.in-Err.refusal c.refused.result c.refused.ensures
+    refused_so c.args.roles.now c.args.tend c.args.window c.args.turns _ _ c.in-Err.refusal c.refused.result c.refused.ensures
     (record { link = refl; links = refl; out = refl; writes = refl; tells = refl; held = λ me. refl; stores = λ me. refl })
     (λ e. heard.bad_words (err_is e)) (λ line e. heard.bad_input line (err_is e)) (λ e. heard.read_fault (err_is e)) heard.read_failed
 
 pub returns-in-Err-clause-complete : goal.returns-in-Err-clause-complete
-returns-in-Err-clause-complete g c = completes_so _ _ _ _ _ _ (returns-in-Err-clause-answered g c)
+returns-in-Err-clause-complete g c = completes_so _ _ _ _ _ _ _ (returns-in-Err-clause-answered g c)
 
 pub returns-in-Err-clause-tells_bad : goal.returns-in-Err-clause-tells_bad
-returns-in-Err-clause-tells_bad g c = refused_tells_bad c.args.roles.now c.args.tend c.args.turns _ _ c.in-Err.refusal c.refused.result c.refused.ensures (returns-in-Err-clause-answered g c)
+returns-in-Err-clause-tells_bad g c = refused_tells_bad c.args.roles.now c.args.tend c.args.window c.args.turns _ _ c.in-Err.refusal c.refused.result c.refused.ensures (returns-in-Err-clause-answered g c)

@@ -1,19 +1,18 @@
 use Rattle.std.proofs.Common.{◌≡◌, Option, Ok, Some, subst, sym, ap, ◌∙◌, ◌++◌, ◌∷◌, [], ◌<◌, length}
 use Rattle.std.specs.Prelude.{slice_set}
 use Rattle.cx_base.specs.declared.event.Event.{Event}
-use Rattle.cx_script.specs.Grammar.{line_event}
-use Rattle.cx_script.specs.Requests.{Tells}
+use Rattle.cx_script.specs.Requests.{Tells, request_line}
 use Rattle.cx_script.proofs.Rising.{client_small, is_taken, tells_next}
 use Rattle.cx_script.proofs.requests.request.Goals as goal
 
 pub rises-requires : goal.rises-requires
 rises-requires c =
-    let spelled : line_event c.args.cluster.now c.args.text.now ≡ Ok (Some c.in-Some.event) = sym c.in_ok-event.ensures ∙ ap (λ (o : Option Event). Ok o) c.in-Some.is in
+    let spelled : request_line c.args.cluster.now c.args.text.now ≡ Ok (Some c.in-Some.event) = sym c.in_ok-event.ensures ∙ ap (λ (o : Option Event). Ok o) c.in-Some.is in
     client_small c.args.cluster.now c.args.text.now c.in-Some.event c.in-Some-asker.client c.in-Some-asker.seq spelled (sym c.in-Some-asker.ensures)
 
 pub returns-in-Some-asker-clause-request : goal.returns-in-Some-asker-clause-request
 returns-in-Some-asker-clause-request c = λ before tells.
-    let spelled : line_event c.args.cluster.now c.args.text.now ≡ Ok (Some c.in-Some.event) = sym c.in_ok-event.ensures ∙ ap (λ (o : Option Event). Ok o) c.in-Some.is in
+    let spelled : request_line c.args.cluster.now c.args.text.now ≡ Ok (Some c.in-Some.event) = sym c.in_ok-event.ensures ∙ ap (λ (o : Option Event). Ok o) c.in-Some.is in
     let is = sym c.in-Some-asker.ensures in
     is_taken before c.args.greatest.now c.in-Some.event _ c.in-Some-asker.client c.in-Some-asker.seq spelled is
     (client_small c.args.cluster.now c.args.text.now c.in-Some.event c.in-Some-asker.client c.in-Some-asker.seq spelled is)
@@ -21,7 +20,7 @@ returns-in-Some-asker-clause-request c = λ before tells.
 
 pub returns-in-Some-asker-clause-told : goal.returns-in-Some-asker-clause-told
 returns-in-Some-asker-clause-told c = λ before tells.
-    let spelled : line_event c.args.cluster.now c.args.text.now ≡ Ok (Some c.in-Some.event) = sym c.in_ok-event.ensures ∙ ap (λ (o : Option Event). Ok o) c.in-Some.is in
+    let spelled : request_line c.args.cluster.now c.args.text.now ≡ Ok (Some c.in-Some.event) = sym c.in_ok-event.ensures ∙ ap (λ (o : Option Event). Ok o) c.in-Some.is in
     let is = sym c.in-Some-asker.ensures in
     let small = client_small c.args.cluster.now c.args.text.now c.in-Some.event c.in-Some-asker.client c.in-Some-asker.seq spelled is in
     let told : c.rises.new.greatest ≡ slice_set c.args.greatest.now c.in-Some-asker.client c.in-Some-asker.seq = c.if-rises.ensures.noted in

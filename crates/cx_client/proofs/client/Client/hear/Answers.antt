@@ -1,9 +1,40 @@
-use Rattle.std.proofs.Common.{◌+◌, sym}
-use Rattle.cx_client.proofs.Scripts.{one_more, script_taken}
+use Rattle.std.proofs.Common.{◌≡◌, ◌∙◌, ap, arith, subst, sym, List}
+use Rattle.std.specs.List.{position}
+use Rattle.cx_base.specs.declared.event.Event.{Event}
+use Rattle.cx_client.specs.Client.{ClientState, IsClient, completed, left}
+use Rattle.cx_client.specs.Window.{has_number, outstanding}
+use Rattle.cx_client.proofs.Steps.{hears_none, hears_one}
+use Rattle.cx_client.proofs.Windows.{found_at, last_is, last_or}
 use Rattle.cx_client.proofs.client.Client.hear.Goals as goal
 
-pub send_at-requires-clause-taken : goal.send_at-requires-clause-taken
-send_at-requires-clause-taken c = rw c.deref-then-completes.ensures.value (script_taken c.self.inside.script.items (c.self.inside.done + 1) c.self.invariant.script.rising)
+pub returns-in_default-clause-ok : goal.returns-in_default-clause-ok
+returns-in_default-clause-ok c =
+    hears_none c.args.self.now c.args.number _ (ap (position (has_number c.args.number)) (sym c.outstanding-outstanding.ensures) ∙ sym c.place_of.ensures ∙ c.in_default.is) c.requires.empty
 
-pub invariant_of-self : goal.invariant_of-self
-invariant_of-self c = one_more _ c.args.number c.self.invariant (rw c.deref.ensures.value at (sym c.if-completes.ensures))
+pub complete-requires : goal.complete-requires
+complete-requires c =
+    let is = subst IsClient c.self.view_is c.self.invariant in
+    let here = ap (position (has_number c.args.number)) (sym c.outstanding-outstanding.ensures) ∙ sym c.place_of.ensures ∙ c.in-Some.is in
+    (found_at c.args.self.now.window c.args.number (left c.args.self.now) is.script.rising c.in-Some.place here).2
+
+pub send_above-requires : goal.send_above-requires
+send_above-requires c =
+    let is = subst IsClient c.self.view_is c.self.invariant in
+    let here = ap (position (has_number c.args.number)) (sym c.outstanding-outstanding.ensures) ∙ sym c.place_of.ensures ∙ c.in-Some.is in
+    let d = (found_at c.args.self.now.window c.args.number (left c.args.self.now) is.script.rising c.in-Some.place here).0 in
+    let same : c.complete.new.self.window ≡ c.args.self.now.window = ap (λ (s : ClientState). s.window) (c.complete.ensures d) in
+    let own : c.self.inside.window ≡ c.args.self.now.window = ap (λ (s : ClientState). s.window) c.self.view_is in
+    let room = c.in_ok-room.ensures.spare in
+    record { room = omega (arith, same, own, room) }
+
+pub returns-clause-ok : goal.returns-clause-ok
+returns-clause-ok c =
+    let s = c.args.self.now in
+    let is = subst IsClient c.self.view_is c.self.invariant in
+    let here = ap (position (has_number c.args.number)) (sym c.outstanding-outstanding.ensures) ∙ sym c.place_of.ensures ∙ c.in-Some.is in
+    let found = found_at s.window c.args.number (left s) is.script.rising c.in-Some.place here in
+    let state : c.complete.new.self ≡ completed c.args.number s = c.complete.ensures found.0 ∙ ap (λ n. completed n s) found.3 in
+    let last : c.last_number-sent.result ≡ last_or 0 (outstanding s.window (left s)) =
+    subst (λ (es : List Event). c.last_number-sent.result ≡ last_or 0 es) c.outstanding-outstanding.ensures
+    (last_is 0 c.outstanding-outstanding.result.now c.last_number-sent.result c.last_number-sent.ensures.last c.last_number-sent.ensures.none) in
+    hears_one s c.args.number c.last_number-sent.result _ _ _ is found.1 state last (c.in_ok-room.ensures.list ∙ c.requires.empty) c.send_above.ensures

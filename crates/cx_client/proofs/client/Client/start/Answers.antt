@@ -1,5 +1,7 @@
-use Rattle.cx_client.proofs.Scripts.{script_taken}
+use Rattle.std.proofs.Common.{◌∙◌, subst}
+use Rattle.cx_client.specs.Client.{IsClient}
+use Rattle.cx_client.proofs.Steps.{sent_all}
 use Rattle.cx_client.proofs.client.Client.start.Goals as goal
 
-pub send_at-requires-clause-taken : goal.send_at-requires-clause-taken
-send_at-requires-clause-taken c = rw c.deref.ensures.value (script_taken c.self.inside.script.items c.self.inside.done c.self.invariant.script.rising)
+pub returns-clause-sends : goal.returns-clause-sends
+returns-clause-sends c = sent_all c.args.self.now _ _ (subst IsClient c.self.view_is c.self.invariant) (c.in_ok-room.ensures.list ∙ c.requires.empty) c.send_above.ensures

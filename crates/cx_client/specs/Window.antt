@@ -1,0 +1,54 @@
+-- The requests of a client that are outstanding, among those that are left: uncompleted, in the order of their numbers.
+use Rattle.std.specs.Prelude.{ℕ, ◌+◌, ◌-◌, ◌==◌, Bool, not, nat_le, List, [], ◌∷◌, filter, take}
+use Rattle.std.specs.List.{flat_map, list_any}
+use Rattle.cx_base.specs.declared.event.Event.{Event}
+use Rattle.cx_base.specs.declared.event.Event.TheVariants as event
+use Rattle.cx_model.specs.Request.{request}
+use Rattle.cx_msg.specs.Letter.{Letter}
+use Rattle.cx_script.specs.Requests.{number_of}
+
+-- the number of the first request, 0 of none
+abbrev pub first_of : List Event → ℕ
+first_of [] = 0
+first_of (e ∷ es) = number_of e
+
+-- the floor that is told while these are left: the client is done with every number below the first
+abbrev pub floor_for : List Event → ℕ
+floor_for left = first_of left - 1
+
+-- whether a number is near enough to the first one that the floor may be told with it
+abbrev pub is_near : ℕ → Event → Bool
+is_near first e = nat_le (number_of e) (first + 63)
+
+-- the requests that are outstanding: the first ones, but none too far above the first
+abbrev pub outstanding : ℕ → List Event → List Event
+outstanding window left = filter (is_near (first_of left)) (take window left)
+
+abbrev pub has_number : ℕ → Event → Bool
+has_number n e = number_of e == n
+
+-- whether the request of this number is outstanding
+abbrev pub is_outstanding : ℕ → List Event → ℕ → Bool
+is_outstanding window left n = list_any (has_number n) (outstanding window left)
+
+-- those that are left once a number is completed
+abbrev pub without : ℕ → List Event → List Event
+without n left = filter (λ (e : Event). not (has_number n e)) left
+
+-- those that become outstanding then
+abbrev pub newly : ℕ → ℕ → List Event → List Event
+newly window n left = filter (λ (e : Event). not (is_outstanding window left (number_of e))) (outstanding window (without n left))
+
+-- the same request, with this floor
+abbrev pub telling : ℕ → Event → Event
+telling floor (event.Write command batcher) = event.Write (record command { floor = floor }) batcher
+telling floor (event.Read client seq before reader replica key) = event.Read client seq floor reader replica key
+telling floor (event.Deliver number cut) = event.Deliver number cut
+telling floor (event.Tick r) = event.Tick r
+telling floor (event.Order leader order cut) = event.Order leader order cut
+telling floor (event.Crash r) = event.Crash r
+telling floor (event.Restart r) = event.Restart r
+
+-- the datagrams of requests that tell this floor, one after the other
+abbrev pub requests_of : ℕ → List Event → List Letter
+requests_of floor es = flat_map (λ (e : Event). request (telling floor e)) es

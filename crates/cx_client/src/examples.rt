@@ -1,0 +1,8 @@
+//! Worked steps of a client.
+
+ghost use Rattle.cx_client.specs.Examples.{Worked};
+
+/// What a client sends at first, at answers and at ticks.
+pub fn worked()
+    ensures { Worked }
+{}
