@@ -5,7 +5,7 @@ use Rattle.std.proofs.lemmas.Bool.{and_parts}
 use Rattle.std.proofs.lemmas.Bool.Decides.{nat_tests}
 use Rattle.cx_base.specs.declared.command.Answered.{Answered}
 use Rattle.cx_base.specs.declared.command.Command.{Command}
-use Rattle.cx_field.specs.Fields.{command, commands, answered, answers}
+use Rattle.cx_field.specs.Fields.{command, commands_with, commands, answered, answers}
 use Rattle.cx_wire.specs.Format.{Format, u8, each_fits}
 
 each_fits-same : {A : Type 0} (f : Format A) (before xs : List A) → each_fits (λ _. f) before xs ≡ list_all (λ (x : A). f.fits x) xs
@@ -15,7 +15,7 @@ each_fits-same {A} f before (x ∷ xs) = ap (λ (b : Bool). f.fits x && b) (each
 
 -- one to eight fitting commands are a batch
 pub commands_fit : (list : List Command) → 1 ≤ length list → length list ≤ 8 → list_all (λ (k : Command). command.fits k) list ≡ true → commands.fits list ≡ true
-unfolding commands u8
+unfolding commands commands_with command u8
 commands_fit list some room fit =
     let each : each_fits (λ _. command) [] list ≡ true = each_fits-same command [] list ∙ fit in
     grind (arith, nat_tests, each)
