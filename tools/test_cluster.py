@@ -141,11 +141,12 @@ class WindowsTest(ClusterTrial):
     LINES = range(1, 81)
     KILLED = {20: 1, 40: 0}             # after so many answers, which process: an acceptor's, then the leader's
 
-    def told(self, window: int) -> list[str]:
-        """The answers to the lines, without their slots, while processes are killed."""
-        lines = "".join(f"write client:0 {at} batcher:{at % 2} {'put' if at % 3 else 'app'} k{at} v{at}\n" for at in self.LINES)
+    def told(self, window: int) -> list[tuple[int, str]]:
+        """The answers to the lines, without their slots, while processes are killed. Numbers go on above those that kv has used."""
+        before = time.time_ns()
+        lines = "".join(f"write client:0 {before + at} batcher:{at % 2} {'put' if at % 3 else 'app'} k{at} v{at}\n" for at in self.LINES)
         words = [program(), "node", "--turns", "1000000000", "--tend", "256", "--window", str(window), "client:0"]
-        told: list[str] = []
+        told: list[tuple[int, str]] = []
         with subprocess.Popen(words, stdin=subprocess.PIPE, stdout=subprocess.PIPE, text=True) as node:
             assert node.stdin and node.stdout
             late = threading.Timer(3 * LONGEST, node.kill)
@@ -153,7 +154,8 @@ class WindowsTest(ClusterTrial):
             node.stdin.write(f"{self.header.input}{lines}")
             node.stdin.close()
             for line in node.stdout:
-                told.append(re.sub(r" at \d+", "", line))
+                number, reply = re.fullmatch(r"answer client:0 (\d+) at \d+ (.*)\n", line).groups()
+                told.append((int(number) - before, reply))
                 if len(told) in self.KILLED:
                     process = self.running(self.KILLED[len(told)])
                     self.assertTrue(process and process.send(signal.SIGKILL))
@@ -161,7 +163,7 @@ class WindowsTest(ClusterTrial):
         self.assertEqual(node.returncode, 0)
         return sorted(told)
 
-    def left(self, window: int) -> tuple[list[str], list[str]]:
+    def left(self, window: int) -> tuple[list[tuple[int, str]], list[str]]:
         """What a cluster answers a client with this window, and the texts of all keys then."""
         self.up(4)
         told = self.told(window)
@@ -172,7 +174,7 @@ class WindowsTest(ClusterTrial):
 
     def test_windows_of_sixteen_and_of_one(self) -> None:
         told, texts = self.left(16)
-        self.assertEqual(len(told), len(self.LINES))
+        self.assertEqual(told, [(at, "ok" if at % 3 else f"len {len(f'v{at}')}") for at in self.LINES])
         self.assertEqual(texts, [f"is v{at}" for at in self.LINES])
         self.assertEqual(self.left(1), (told, texts))
 
