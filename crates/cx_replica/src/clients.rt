@@ -1,11 +1,22 @@
 //! Room for the answers of clients, which is taken before values are executed.
 
 ghost use Rattle.std.specs.Prelude.{◌≡◌, ◌*◌, ◌^◌, ◌≤◌, ◌++◌, length, OnOk};
-ghost use Rattle.cx_base.specs.Fold.{command_list};
+ghost use Rattle.cx_base.specs.Fold.{command_list, commands_of};
 ghost use Rattle.cx_replica.specs.Room.{IsRoomFor, count_of};
 
 use cx_base::{Command, NoMemory, Value};
 use cx_table::Table;
+
+/// The commands of a value: a no-op has none.
+fn commands_of(value: &Value) -> &[Command]
+    ensures commands { result.now ≡ commands_of value.now }
+    ensures few { length result.now ≤ 8 }
+{
+    match value {
+        Value::Noop => &[],
+        Value::Batch(commands) => commands.as_slice(),
+    }
+}
 
 /// How many of these commands are a client's.
 fn count_of(client: u16, commands: &[Command]) -> usize
@@ -29,10 +40,7 @@ fn count_in(client: u16, values: &[Value]) -> usize
 {
     let mut count = 0;
     for value in values {
-        match value {
-            Value::Noop => {}
-            Value::Batch(commands) => count += count_of(client, commands.as_slice()),
-        }
+        count += count_of(client, commands_of(value));
     }
     count
 }
@@ -65,12 +73,7 @@ pub fn make_room(table: &mut Table, values: &[Value]) -> Result<(), NoMemory>
     ensures few { OnOk result (length (command_list values.now) ≤ 8 * length values.now) }
 {
     for (index, value) in values.iter().enumerate() {
-        match value {
-            Value::Noop => {}
-            Value::Batch(commands) => {
-                make_room_beside(table, &values[..index], commands.as_slice())?
-            }
-        }
+        make_room_beside(table, &values[..index], commands_of(value))?;
     }
     Ok(())
 }

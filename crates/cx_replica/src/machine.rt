@@ -98,7 +98,9 @@ impl Machine {
             at,
             reply,
         });
-        let noted = self.table.note(command.client, command.seq, command.floor, at, &reply);
+        let noted = self
+            .table
+            .note(command.client, command.seq, command.floor, at, &reply);
         match noted {
             Ok(()) => {}
             // There is room.

@@ -1,4 +1,4 @@
-use Rattle.std.proofs.Common.{sym, ◌++◌, ap, ◌∙◌, List}
+use Rattle.std.proofs.Common.{sym, ◌++◌, ap, ◌∙◌}
 use Rattle.cx_base.specs.declared.command.Answered.{Answered}
 use Rattle.cx_model.specs.Replica.{Executed}
 use Rattle.cx_replica.proofs.Executing.{last_fits, last_tells, one_more_fits, told_fit}
