@@ -1,8 +1,8 @@
 -- What a command is answered, and that its answer fits.
-use Rattle.std.proofs.Common.{◌≡◌, ℕ, ◌+◌, ◌<◌, ◌≤◌, ◌^◌, ◌==◌, Bool, true, false, ◌&&◌, List, [], ◌∷◌, ◌++◌, length, Option, None, Some, inl, inr, refl, arith}
+use Rattle.std.proofs.Common.{◌≡◌, ℕ, ◌+◌, ◌<◌, ◌≤◌, ◌^◌, Bool, true, false, not, ◌&&◌, List, [], ◌∷◌, ◌++◌, length, Option, None, Some, ap, ◌∙◌, refl, arith}
 use Rattle.std.specs.Prelude.{nat_lt, if◌then◌else◌}
 use Rattle.std.specs.List.{list_all}
-use Rattle.std.proofs.lemmas.Bool.{and_from, and_parts, cases_Bool, eqb-true}
+use Rattle.std.proofs.lemmas.Bool.{and_parts}
 use Rattle.std.proofs.lemmas.Bool.Decides.{nat_tests}
 use Rattle.std.proofs.lemmas.List.{length-append}
 use Rattle.std.proofs.lemmas.List.Folds.{list_all-append}
@@ -14,13 +14,15 @@ use Rattle.cx_base.specs.declared.command.Pair.{Pair}
 use Rattle.cx_base.specs.declared.command.Reply.{Reply}
 use Rattle.cx_base.specs.declared.command.Reply.TheVariants.{Len, Full}
 use Rattle.cx_base.specs.Fold.{reply_of, reply_removed, reply_appended, text_at}
-use Rattle.cx_base.specs.Noted.{noted_for, with_answer}
+use Rattle.cx_base.specs.Noted.{Table, floor_of, is_done, is_settled, noted_for, with_answer, with_note, with_told}
 use Rattle.cx_wire.specs.Format.{u8, u16, u64}
-use Rattle.cx_field.specs.Fields.{at, slot, seq, name, op, command, reply, answered}
+use Rattle.cx_field.specs.Fields.{at, slot, seq, name, command, command_with, floor_below, told_floor, told_op, reply, answered}
 use Rattle.cx_field.specs.Ranges.{is_text_len}
-use Rattle.cx_model.specs.Replica.{Machine, execute, execute_behind, execute_all}
-use Rattle.cx_table.specs.Judged.{judged, judge_of}
+use Rattle.cx_model.specs.Replica.{Machine, acting, execute, execute_all, execute_noted, not_acting}
+use Rattle.cx_table.specs.Judged.{judge_noted, judge_of}
 use Rattle.cx_table.specs.declared.judge.Judge.TheVariants as judge
+use Rattle.cx_table.proofs.Judging.{noted_holds, noted_is}
+use Rattle.cx_table.proofs.Rising.{all_left, all_with}
 
 -- a text that fits has 1 to limit bytes
 name_length : (limit : ℕ) (text : List ℕ) → (name limit).fits text ≡ true → (1 ≤ length text) × (length text ≤ limit)
@@ -39,98 +41,82 @@ removed_length : (old : Option (List ℕ)) → is_text_len (reply_removed old) �
 removed_length None = refl
 removed_length (Some text) = refl
 
-op_length : (map : List Pair) (o : Op) → op.fits o ≡ true → is_text_len (reply_of map o) ≡ true
-unfolding op
-op_length map (Put key text) h = refl
-op_length map (Del key) h = removed_length (text_at key map)
-op_length map (App key text) h = appended_length text (text_at key map) ((and_parts ((name 32).fits key) ((name 64).fits text) h).1)
+told_length : (map : List Pair) (number : ℕ) (told : Option ℕ) (o : Op) → (told_op true number).fits (told, o) ≡ true → is_text_len (reply_of map o) ≡ true
+unfolding told_op
+told_length map number told (Put key text) h = refl
+told_length map number told (Del key) h = removed_length (text_at key map)
+told_length map number None (App key text) h = appended_length text (text_at key map) ((and_parts ((name 32).fits key) ((name 64).fits text) h).1)
+told_length map number (Some floor) (App key text) h =
+    let rest = (and_parts ((floor_below number).fits floor) ((name 32).fits key && (name 64).fits text) h).1 in
+    appended_length text (text_at key map) ((and_parts ((name 32).fits key) ((name 64).fits text) rest).1)
 
-command_parts : (c : Command) → command.fits c ≡ true → (u16.fits c.client ≡ true) × (seq.fits c.seq ≡ true) × (op.fits c.op ≡ true)
-unfolding command
-command_parts c fit =
-    let who = and_parts (u16.fits c.client) (seq.fits c.seq && op.fits c.op) fit in
-    let what = and_parts (seq.fits c.seq) (op.fits c.op) who.1 in
+parts_fit : (c : Command) → command.fits c ≡ true → (u16.fits c.client ≡ true) × (seq.fits c.seq ≡ true) × ((told_op true c.seq).fits (told_floor c.seq c.floor, c.op) ≡ true)
+unfolding command command_with
+parts_fit c fit =
+    let who = and_parts (u16.fits c.client) (seq.fits c.seq && (told_op true c.seq).fits (told_floor c.seq c.floor, c.op)) fit in
+    let what = and_parts (seq.fits c.seq) ((told_op true c.seq).fits (told_floor c.seq c.floor, c.op)) who.1 in
     (who.0, what.0, what.1)
 
 -- a length in the reply to a command that fits is that of a text
 pub reply_length : (map : List Pair) (c : Command) → command.fits c ≡ true → is_text_len (reply_of map c.op) ≡ true
-reply_length map c fit = op_length map c.op ((command_parts c fit).2)
+reply_length map c fit = told_length map c.seq (told_floor c.seq c.floor) c.op ((parts_fit c fit).2)
 
 -- the answer to a command that fits, fits
 pub answer_fits : (n : ℕ) (c : Command) (r : Reply) → at.fits n ≡ true → command.fits c ≡ true → reply.fits r ≡ true
     → answered.fits (record { client = c.client; seq = c.seq; at = n; reply = r }) ≡ true
 unfolding answered
 answer_fits n c r in_slots fit fine =
-    let parts = command_parts c fit in rw (parts.0, parts.1, in_slots, fine) refl
+    let parts = parts_fit c fit in rw (parts.0, parts.1, in_slots, fine) refl
 
--- what is noted for a client is the client's
-noted_client : (client : ℕ) (notes : List Answered) (a : Answered) → noted_for client notes ≡ Some a → a.client ≡ client
-noted_client client [] a e = cc
-noted_client client (b ∷ notes) a e = elim (cases_Bool (b.client == client)) as (λ _. a.client ≡ client) [
-  | inl t ↦ let same : Some b ≡ Some a = rw t at e in let own = eqb-true b.client client t in cc
-  | inr f ↦ noted_client client notes a (rw f at e)
-]
+-- what a command does, by what the table says of its number
 
--- what holds of each note holds of that of a client
-noted_holds : (p : Answered → Bool) (client : ℕ) (notes : List Answered) (a : Answered) → list_all p notes ≡ true → noted_for client notes ≡ Some a → p a ≡ true
-noted_holds p client [] a h e = cc
-noted_holds p client (b ∷ notes) a h e = elim (cases_Bool (b.client == client)) as (λ _. p a ≡ true) [
-  | inl t ↦ let same : Some b ≡ Some a = rw t at e in let here = (and_parts (p b) (list_all p notes) h).0 in cc
-  | inr f ↦ noted_holds p client notes a ((and_parts (p b) (list_all p notes) h).1) (rw f at e)
-]
-
-record_is : (a : Answered) (client n : ℕ) → a.client ≡ client → a.seq ≡ n → a ≡ record { client = client; seq = n; at = a.at; reply = a.reply }
-record_is a client n p q = rw (← p, ← q) refl
-
--- a number that is judged the last is the noted one
-last_noted : (client seq n : ℕ) (r : Reply) (notes : List Answered) → judge_of notes client seq ≡ judge.Last n r
-    → noted_for client notes ≡ Some (record { client = client; seq = seq; at = n; reply = r })
-last_noted client seq n r notes e = go (noted_for client notes) refl e
+pub new_acts : (n : ℕ) (m : Machine) (c : Command) → judge_of m.table c.client c.seq ≡ judge.New → execute n m c ≡ acting n m c
+new_acts n m c e = go (is_done c.seq (floor_of c.client m.table.floors)) (noted_for c.client c.seq m.table.notes) e
   where
-    go : (o : Option Answered) → noted_for client notes ≡ o → judged o seq ≡ judge.Last n r → o ≡ Some (record { client = client; seq = seq; at = n; reply = r })
-    go None is e = cc
-    go (Some a) is e = elim (cases_Bool (nat_lt a.seq seq)) as (λ _. Some a ≡ Some (record { client = client; seq = seq; at = n; reply = r })) [
-      | inl t ↦ let new : judge.New ≡ judge.Last n r = rw t at e in cc
-      | inr f ↦ elim (cases_Bool (a.seq == seq)) as (λ _. Some a ≡ Some (record { client = client; seq = seq; at = n; reply = r })) [
-        | inl t ↦
-            let last : judge.Last a.at a.reply ≡ judge.Last n r = rw (f, t) at e in
-            let whole = record_is a client seq (noted_client client notes a is) (eqb-true a.seq seq t) in
-            cc
-        | inr g ↦ let past : judge.Past ≡ judge.Last n r = rw (f, g) at e in cc
-      ]
-    ]
+    go : (d : Bool) (o : Option Answered) → (if d then judge.Past else judge_noted o) ≡ judge.New → (if d then not_acting m c [] else execute_noted n m c o) ≡ acting n m c
+    go true o e = cc
+    go false None e = refl
+    go false (Some a) e = cc
 
-behind_last : (n : ℕ) (m : Machine) (c : Command) (o : Option Answered) (a : Answered) → o ≡ Some a → a.seq ≡ c.seq → (execute_behind n m c o).answers ≡ a ∷ []
-behind_last n m c o a e same =
-    let below : nat_lt a.seq c.seq ≡ false = grind (arith, nat_tests) in
-    let equal : (a.seq == c.seq) ≡ true = grind (arith, nat_tests) in
-    rw (e, below, equal) refl
+pub past_tells : (n : ℕ) (m : Machine) (c : Command) → judge_of m.table c.client c.seq ≡ judge.Past → execute n m c ≡ not_acting m c []
+past_tells n m c e = go (is_done c.seq (floor_of c.client m.table.floors)) (noted_for c.client c.seq m.table.notes) e
+  where
+    go : (d : Bool) (o : Option Answered) → (if d then judge.Past else judge_noted o) ≡ judge.Past → (if d then not_acting m c [] else execute_noted n m c o) ≡ not_acting m c []
+    go true o e = refl
+    go false None e = cc
+    go false (Some a) e = cc
 
--- the last number has its answer again
-pub last_answers : (n : ℕ) (m : Machine) (c : Command) (at' : ℕ) (r : Reply) → judge_of m.notes c.client c.seq ≡ judge.Last at' r
-    → (execute n m c).answers ≡ record { client = c.client; seq = c.seq; at = at'; reply = r } ∷ []
-last_answers n m c at' r e =
-    behind_last n m c (noted_for c.client m.notes) (record { client = c.client; seq = c.seq; at = at'; reply = r }) (last_noted c.client c.seq at' r m.notes e) refl
+-- a number that has an answer
+last_noted : (t : Table) (client seq n : ℕ) (r : Reply) → judge_of t client seq ≡ judge.Last n r
+    → (is_done seq (floor_of client t.floors) ≡ false) × (noted_for client seq t.notes ≡ Some (record { client = client; seq = seq; at = n; reply = r }))
+last_noted t client seq n r e = go (is_done seq (floor_of client t.floors)) refl (noted_for client seq t.notes) refl e
+  where
+    go : (d : Bool) → is_done seq (floor_of client t.floors) ≡ d → (o : Option Answered) → noted_for client seq t.notes ≡ o → (if d then judge.Past else judge_noted o) ≡ judge.Last n r
+        → (is_done seq (floor_of client t.floors) ≡ false) × (noted_for client seq t.notes ≡ Some (record { client = client; seq = seq; at = n; reply = r }))
+    go true is o has e = cc
+    go false is None has e = cc
+    go false is (Some a) has e =
+        let where_noted : a.at ≡ n = cc in
+        let answer : a.reply ≡ r = cc in
+        (is, has ∙ ap (λ (x : Answered). Some x) (noted_is client seq t.notes a has) ∙ rw (where_noted, answer) refl)
 
-pub last_fits : (notes : List Answered) (client seq n : ℕ) (r : Reply) → list_all (λ (a : Answered). answered.fits a) notes ≡ true → judge_of notes client seq ≡ judge.Last n r
+pub last_tells : (n : ℕ) (m : Machine) (c : Command) (at' : ℕ) (r : Reply) → judge_of m.table c.client c.seq ≡ judge.Last at' r
+    → execute n m c ≡ not_acting m c (record { client = c.client; seq = c.seq; at = at'; reply = r } ∷ [])
+last_tells n m c at' r e = (let noted = last_noted m.table c.client c.seq at' r e in rw (noted.0, noted.1) refl)
+
+pub last_fits : (t : Table) (client seq n : ℕ) (r : Reply) → list_all (λ (a : Answered). answered.fits a) t.notes ≡ true → judge_of t client seq ≡ judge.Last n r
     → answered.fits (record { client = client; seq = seq; at = n; reply = r }) ≡ true
-last_fits notes client seq n r fit e =
-    noted_holds (λ (a : Answered). answered.fits a) client notes (record { client = client; seq = seq; at = n; reply = r }) fit (last_noted client seq n r notes e)
+last_fits t client seq n r fit e =
+    noted_holds (λ (a : Answered). answered.fits a) client seq t.notes (record { client = client; seq = seq; at = n; reply = r }) fit (last_noted t client seq n r e).1
 
--- a new answer keeps what holds of each note
-with_answer_holds : (p : Answered → Bool) (a : Answered) (notes : List Answered) → p a ≡ true → list_all p notes ≡ true → list_all p (with_answer a notes) ≡ true
-with_answer_holds p a [] new h = and_from (p a) true new refl
-with_answer_holds p a (b ∷ notes) new h =
-    let h' = and_parts (p b) (list_all p notes) h in
-    elim (cases_Bool (b.client == a.client)) as (λ _. list_all p (with_answer a (b ∷ notes)) ≡ true) [
-      | inl t ↦ rw t (and_from (p a) (list_all p notes) new h'.1)
-      | inr f ↦ rw f (and_from (p b) (list_all p (with_answer a notes)) h'.0 (with_answer_holds p a notes new h'.1))
-    ]
+-- the notes fit once a client has told a floor, also with an answer that fits
+pub told_fit : (client floor : ℕ) (t u : Table) → u ≡ with_told client floor t → list_all (λ (x : Answered). answered.fits x) t.notes ≡ true → list_all (λ (x : Answered). answered.fits x) u.notes ≡ true
+told_fit client floor t u is fit = rw is (all_left (λ (x : Answered). answered.fits x) (λ (a : Answered). not (is_settled client floor a)) t.notes fit)
 
--- the notes fit after a new answer that fits
-pub notes_fit : (a : Answered) (old new : List Answered) → new ≡ with_answer a old → answered.fits a ≡ true
-    → list_all (λ (x : Answered). answered.fits x) old ≡ true → list_all (λ (x : Answered). answered.fits x) new ≡ true
-notes_fit a old new is fine fit = rw is (with_answer_holds (λ (x : Answered). answered.fits x) a old fine fit)
+pub noted_fit : (a : Answered) (floor : ℕ) (t u : Table) → u ≡ with_answer a floor t → answered.fits a ≡ true → list_all (λ (x : Answered). answered.fits x) t.notes ≡ true
+    → list_all (λ (x : Answered). answered.fits x) u.notes ≡ true
+noted_fit a floor t u is fine fit =
+    told_fit a.client floor (record t { notes = with_note a t.notes }) u is (all_with (λ (x : Answered). answered.fits x) a t.notes fine fit)
 
 -- answers fit with one more that fits
 pub one_more_fits : (a : Answered) (old new : List Answered) → new ≡ old ++ a ∷ [] → answered.fits a ≡ true → list_all (λ (x : Answered). answered.fits x) old ≡ true
@@ -138,21 +124,19 @@ pub one_more_fits : (a : Answered) (old new : List Answered) → new ≡ old ++ 
 one_more_fits a old new is fine fit =
     rw (is, list_all-append (λ (x : Answered). answered.fits x) old (a ∷ []), fit, fine) refl
 
-one_answer : (n : ℕ) (m : Machine) (c : Command) (o : Option Answered) → length (execute_behind n m c o).answers ≤ 1
-one_answer n m c None = omega arith
-one_answer n m c (Some last) = elim (cases_Bool (nat_lt last.seq c.seq)) as (λ _. length (execute_behind n m c (Some last)).answers ≤ 1) [
-  | inl t ↦ rw t (omega arith)
-  | inr f ↦ elim (cases_Bool (last.seq == c.seq)) as (λ _. length (execute_behind n m c (Some last)).answers ≤ 1) [
-    | inl t ↦ rw (f, t) (omega arith)
-    | inr g ↦ rw (f, g) (omega arith)
-  ]
-]
+one_answer : (n : ℕ) (m : Machine) (c : Command) → length (execute n m c).answers ≤ 1
+one_answer n m c = go (is_done c.seq (floor_of c.client m.table.floors)) (noted_for c.client c.seq m.table.notes)
+  where
+    go : (d : Bool) (o : Option Answered) → length (if d then not_acting m c [] else execute_noted n m c o).answers ≤ 1
+    go true o = omega arith
+    go false None = omega arith
+    go false (Some a) = omega arith
 
 -- a command has one answer at most
 answers_room : (n : ℕ) (m : Machine) (cs : List Command) → length (execute_all n m cs).answers ≤ length cs
 answers_room n m [] = omega arith
 answers_room n m (c ∷ cs) =
-    let one = one_answer n m c (noted_for c.client m.notes) in
+    let one = one_answer n m c in
     let rest = answers_room n (execute n m c).machine cs in
     omega (arith, length-append (execute n m c).answers (execute_all n (execute n m c).machine cs).answers)
 

@@ -7,8 +7,8 @@ use Rattle.cx_base.specs.declared.role.RoleId.{RoleId}
 use Rattle.cx_base.specs.Log.{still_early}
 use Rattle.cx_msg.specs.Letter.{Letter}
 use Rattle.cx_model.specs.declared.states.Deferred.{Deferred}
-use Rattle.cx_model.specs.Replica.{Machine, ReplicaDurable, ReplicaVolatile, apply, machine_from, machine_of, read_answers, replica_rules, results_from, still_deferred}
-use Rattle.cx_model.specs.Rules.{Running, running_after}
+use Rattle.cx_model.specs.Replica.{Machine, apply, machine_from, machine_of, read_answers, replica_rules, results_from, still_deferred}
+use Rattle.cx_model.specs.Rules.{running_after}
 use Rattle.cx_replica.specs.Answering.{answers_at}
 use Rattle.cx_replica.proofs.Rows.{machine_of-append}
 

@@ -8,7 +8,7 @@ use Rattle.cx_base.specs.declared.command.Command.{Command}
 use Rattle.cx_base.specs.declared.command.Value.{Value}
 use Rattle.cx_base.specs.declared.command.Value.TheVariants.{Batch}
 use Rattle.cx_wire.specs.Format.{Format, u8, u64, each_fits}
-use Rattle.cx_field.specs.Fields.{slot, mark, command, commands, value, answered, answers, values}
+use Rattle.cx_field.specs.Fields.{slot, mark, command, command_with, commands_with, value, value_with, answered, answers, values}
 
 each_fits-same : {A : Type 0} (f : Format A) (before xs : List A) → each_fits (λ _. f) before xs ≡ list_all (λ (x : A). f.fits x) xs
 unfolding each_fits
@@ -17,8 +17,8 @@ each_fits-same {A} f before (x ∷ xs) = ap (λ (b : Bool). f.fits x && b) (each
 
 -- each command of a batch that fits
 pub commands_in : (cs : List Command) → value.fits (Batch cs) ≡ true → list_all (λ (c : Command). command.fits c) cs ≡ true
-unfolding value commands
-commands_in cs h = sym (each_fits-same command [] cs) ∙ ((and_parts _ _ ((and_parts _ _ h).1)).1)
+unfolding value value_with commands_with command
+commands_in cs h = sym (each_fits-same (command_with true) [] cs) ∙ ((and_parts _ _ ((and_parts _ _ h).1)).1)
 
 -- one to eight answers that fit are the answers of a slot
 pub answers_fit : (list : List Answered) → 1 ≤ length list → length list ≤ 8 → list_all (λ (a : Answered). answered.fits a) list ≡ true → answers.fits list ≡ true

@@ -71,7 +71,7 @@ impl Replica {
     {
         let values = self.log.ready(self.alloc, value)?;
         let count = values.as_slice().len();
-        self.machine.make_room(count)?;
+        self.machine.make_room(values.as_slice())?;
         let rooms = Rooms::new(self.alloc, count)?;
         out.room(count + self.deferred.len())?;
         let record = Record::Log { values };

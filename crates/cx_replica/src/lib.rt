@@ -6,6 +6,7 @@
 #![tactic(auto)]
 
 mod apply;
+mod clients;
 mod machine;
 mod reads;
 mod replica;

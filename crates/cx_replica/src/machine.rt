@@ -1,17 +1,19 @@
-//! What executing values leaves: the map, and the last answer of each client.
+//! What executing values leaves: the map, and the client table.
 
-ghost use Rattle.std.specs.Prelude.{◌≡◌, ◌+◌, ◌*◌, ◌^◌, ◌++◌, ◌<◌, ◌≤◌, [], length, IfOk, OnOk, IsTrue, vec_capacity, vec_len};
+ghost use Rattle.std.specs.Prelude.{◌≡◌, ◌+◌, ◌^◌, ◌++◌, ◌∷◌, ◌<◌, ◌≤◌, [], length, IfOk, OnOk, IsTrue, vec_capacity, vec_len};
 ghost use Rattle.std.specs.List.{list_all};
 ghost use Rattle.cx_base.specs.declared.command.Answered.{Answered};
 ghost use Rattle.cx_base.specs.declared.command.Command.{Command};
 ghost use Rattle.cx_base.specs.declared.command.Value.{Value};
 ghost use Rattle.cx_base.specs.declared.role.Kind.TheVariants as kind;
-ghost use Rattle.cx_base.specs.Fold.{text_at};
+ghost use Rattle.cx_base.specs.Fold.{command_list, commands_of, text_at};
 ghost use Rattle.cx_field.specs.Fields as field;
 ghost use Rattle.cx_model.specs.Replica.{new_machine, acting, execute, execute_all, execute_value, machine_from, results_from};
+ghost use Rattle.cx_replica.specs.Room.{HasRoom, LeavesRoom};
 ghost use Rattle.cx_table.specs.Judged.{judge_of};
 ghost use Rattle.cx_table.specs.declared.judge.Judge.TheVariants as judge;
 
+use crate::clients;
 use crate::rooms::{COMMANDS, Rooms};
 use crate::sending::send_results;
 use cx_base::{Answered, Cluster, Command, Key, NoMemory, RoleId, Text, Value};
@@ -30,7 +32,7 @@ pub struct Machine {
 }
 
 impl Model for Machine {
-    ghost use Rattle.std.specs.Prelude.{IsTrue, min};
+    ghost use Rattle.std.specs.Prelude.{IsTrue};
     ghost use Rattle.std.specs.List.{list_all};
     ghost use Rattle.cx_base.specs.declared.command.Answered.{Answered};
     ghost use Rattle.cx_field.specs.Fields.{answered};
@@ -38,9 +40,9 @@ impl Model for Machine {
 
     ghost Value = { MachineState };
 
-    ghost view = { λ m. record { left = record { map = m.store.pairs; notes = m.table.notes }; spare = min m.store.spare m.table.spare } };
+    ghost view = { λ m. record { left = record { map = m.store.pairs; table = m.table.table }; spare = m.store.spare; rooms = m.table.rooms } };
 
-    ghost invariant = { λ m. IsTrue (list_all (λ (a : Answered). answered.fits a) m.table.notes) };
+    ghost invariant = { λ m. IsTrue (list_all (λ (a : Answered). answered.fits a) m.table.table.notes) };
 }
 
 impl Machine {
@@ -61,15 +63,14 @@ impl Machine {
         self.store.get(key).copied()
     }
 
-    /// Makes room for executing `values` values, of which each has at most eight commands.
-    pub fn make_room(&mut self, values: usize) -> Result<(), NoMemory>
-        requires { values ≤ 2 ^ 40 }
+    /// Makes room for executing values.
+    pub fn make_room(&mut self, values: &[Value]) -> Result<(), NoMemory>
+        requires { length values.now ≤ 2 ^ 40 }
         ensures left { self.new.left ≡ self.old.left }
-        ensures room { OnOk result (8 * values ≤ self.new.spare) }
+        ensures room { OnOk result (HasRoom self.new (command_list values.now)) }
     {
-        let commands = COMMANDS * values;
-        self.store.make_room(commands)?;
-        self.table.make_room(commands)?;
+        self.store.make_room(COMMANDS * values.len())?;
+        clients::make_room(&mut self.table, values)?;
         Ok(())
     }
 
@@ -78,14 +79,14 @@ impl Machine {
     fn act(&mut self, at: u64, command: &Command, answers: &mut Vec<Answered>)
         requires at { IsTrue (field.at.fits at) }
         requires command { IsTrue (field.command.fits command.now) }
-        requires new { judge_of self.old.left.notes command.now.client command.now.seq ≡ judge.New }
+        requires new { judge_of self.old.left.table command.now.client command.now.seq ≡ judge.New }
         requires fit { IsTrue (list_all (λ (a : Answered). field.answered.fits a) answers.old.items) }
-        requires spare { 0 < self.old.spare }
-        requires room { vec_len answers.old < vec_capacity answers.old }
+        requires room { HasRoom self.old (command.now ∷ []) }
+        requires answers { vec_len answers.old < vec_capacity answers.old }
         ensures machine { self.new.left ≡ (acting at self.old.left command.now).machine }
         ensures answers { answers.new.items ≡ answers.old.items ++ (acting at self.old.left command.now).answers }
         ensures fit { IsTrue (list_all (λ (a : Answered). field.answered.fits a) answers.new.items) }
-        ensures spare { self.old.spare ≤ self.new.spare + 1 }
+        ensures room { LeavesRoom self.old (command.now ∷ []) self.new }
         ensures len { vec_len answers.new ≤ vec_len answers.old + 1 }
         ensures capacity { vec_capacity answers.new ≡ vec_capacity answers.old }
     {
@@ -97,20 +98,28 @@ impl Machine {
             at,
             reply,
         });
-        self.table.note(command.client, command.seq, at, &reply);
+        let noted = self
+            .table
+            .note(command.client, command.seq, command.floor, at, &reply);
+        match noted {
+            Ok(()) => {}
+            // There is room.
+            Err(_) => unreachable!(),
+        }
     }
 
-    /// Executes a command as the table judges it, and adds its answer, if it has one; `at` is one more than its slot.
+    /// Executes a command as the table judges it, and adds its answer, if it has one; `at` is one more than its slot. Its client is
+    /// told to be done with its floor whether or not it acts.
     fn execute(&mut self, at: u64, command: &Command, answers: &mut Vec<Answered>)
         requires at { IsTrue (field.at.fits at) }
         requires command { IsTrue (field.command.fits command.now) }
         requires fit { IsTrue (list_all (λ (a : Answered). field.answered.fits a) answers.old.items) }
-        requires spare { 0 < self.old.spare }
-        requires room { vec_len answers.old < vec_capacity answers.old }
+        requires room { HasRoom self.old (command.now ∷ []) }
+        requires answers { vec_len answers.old < vec_capacity answers.old }
         ensures machine { self.new.left ≡ (execute at self.old.left command.now).machine }
         ensures answers { answers.new.items ≡ answers.old.items ++ (execute at self.old.left command.now).answers }
         ensures fit { IsTrue (list_all (λ (a : Answered). field.answered.fits a) answers.new.items) }
-        ensures spare { self.old.spare ≤ self.new.spare + 1 }
+        ensures room { LeavesRoom self.old (command.now ∷ []) self.new }
         ensures len { vec_len answers.new ≤ vec_len answers.old + 1 }
         ensures capacity { vec_capacity answers.new ≡ vec_capacity answers.old }
     {
@@ -118,13 +127,16 @@ impl Machine {
         let seq = command.seq;
         match self.table.judge(client, seq) {
             Judge::New => self.act(at, command, answers),
-            Judge::Last { at, reply } => answers.push_reserved(Answered {
-                client,
-                seq,
-                at,
-                reply,
-            }),
-            Judge::Past => {}
+            Judge::Last { at, reply } => {
+                self.table.tell(client, command.floor);
+                answers.push_reserved(Answered {
+                    client,
+                    seq,
+                    at,
+                    reply,
+                });
+            }
+            Judge::Past => self.table.tell(client, command.floor),
         }
     }
 
@@ -133,12 +145,12 @@ impl Machine {
         requires at { IsTrue (field.at.fits at) }
         requires commands { IsTrue (list_all (λ (c : Command). field.command.fits c) commands.now) }
         requires empty { answers.old.items ≡ [] }
-        requires spare { length commands.now ≤ self.old.spare }
-        requires room { length commands.now ≤ vec_capacity answers.old }
+        requires room { HasRoom self.old commands.now }
+        requires answers { length commands.now ≤ vec_capacity answers.old }
         ensures machine { self.new.left ≡ (execute_all at self.old.left commands.now).machine }
         ensures answers { answers.new.items ≡ (execute_all at self.old.left commands.now).answers }
         ensures fit { IsTrue (list_all (λ (a : Answered). field.answered.fits a) answers.new.items) }
-        ensures spare { self.old.spare ≤ self.new.spare + length commands.now }
+        ensures room { LeavesRoom self.old commands.now self.new }
         ensures capacity { vec_capacity answers.new ≡ vec_capacity answers.old }
     {
         for command in commands {
@@ -151,13 +163,13 @@ impl Machine {
         requires slot { IsTrue (field.slot.fits slot) }
         requires value { IsTrue (field.value.fits value.now) }
         requires empty { answers.old.items ≡ [] }
-        requires spare { 8 ≤ self.old.spare }
-        requires room { 8 ≤ vec_capacity answers.old }
+        requires room { HasRoom self.old (commands_of value.now) }
+        requires answers { 8 ≤ vec_capacity answers.old }
         ensures machine { self.new.left ≡ (execute_value slot self.old.left value.now).machine }
         ensures answers { answers.new.items ≡ (execute_value slot self.old.left value.now).answers }
         ensures fit { IsTrue (list_all (λ (a : Answered). field.answered.fits a) answers.new.items) }
         ensures few { length answers.new.items ≤ 8 }
-        ensures spare { self.old.spare ≤ self.new.spare + 8 }
+        ensures room { LeavesRoom self.old (commands_of value.now) self.new }
         ensures capacity { vec_capacity answers.new ≡ vec_capacity answers.old }
     {
         match value {
@@ -174,7 +186,7 @@ impl Machine {
         ensures { OnOk result (self.new.left ≡ machine_from first self.old.left values.now) }
     {
         let mut answers = Vec::with_capacity(alloc, COMMANDS)?;
-        self.make_room(values.len())?;
+        self.make_room(values)?;
         for (index, value) in values.iter().enumerate() {
             answers.clear();
             self.execute_value(first + index as u64, value, &mut answers);
@@ -197,7 +209,7 @@ impl Machine {
         requires kind { me.kind ≡ kind.Replica }
         requires slots { first + length values.now ≤ 2 ^ 40 }
         requires values { IsTrue (list_all (λ (v : Value). field.value.fits v) values.now) }
-        requires room { 8 * length values.now ≤ self.old.spare }
+        requires room { HasRoom self.old (command_list values.now) }
         requires rooms { length values.now ≤ rooms }
         requires spare { length values.now ≤ out.old.spare }
         ensures machine { self.new.left ≡ machine_from first self.old.left values.now }

@@ -1,7 +1,7 @@
 use Rattle.std.proofs.Common.{◌≡◌, true}
 use Rattle.cx_base.specs.declared.command.Answered.{Answered}
 use Rattle.cx_field.specs.Fields.{answered}
-use Rattle.cx_replica.proofs.Executing.{answer_fits, notes_fit, one_more_fits}
+use Rattle.cx_replica.proofs.Executing.{answer_fits, noted_fit, one_more_fits}
 use Rattle.cx_replica.proofs.machine.Machine.act.Goals as goal
 use Rattle.cx_replica.proofs.machine.Machine.act.Goals.{After-push_reserved}
 
@@ -13,8 +13,8 @@ fits c = answer_fits c.args.at c.args.command.now c.apply-reply.result c.require
 
 pub invariant_of-self : goal.invariant_of-self
 invariant_of-self c =
-    let a = answer (goal.at.invariant_of-self c).After-push_reserved in
-    notes_fit a c.self.inside.table.notes c.note.new.self.notes c.note.ensures.notes (fits (goal.at.invariant_of-self c).After-push_reserved) c.self.invariant
+    let after = (goal.at.invariant_of-self c).After-push_reserved in
+    noted_fit (answer after) c.args.command.now.floor c.self.inside.table.table c.note-noted.new.self.table c.in-Ok.ensures.ok (fits after) c.self.invariant
 
 pub returns-clause-fit : goal.returns-clause-fit
 returns-clause-fit c =

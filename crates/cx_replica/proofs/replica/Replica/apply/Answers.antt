@@ -22,12 +22,12 @@ keep-requires g c =
     values_fit c.in_ok-values.values c.as_slice-count.ensures.some c.as_slice-count.ensures.room (own_fits c.self.inside.cluster c.in_ok-values.values all)
 
 pub execute_values-requires-clause-slots : goal.execute_values-requires-clause-slots
-execute_values-requires-clause-slots g c = rw (c.held-held.ensures.held, c.as_slice.ensures.items, c.into_values-values.ensures) c.in_ok-values.ensures.short
+execute_values-requires-clause-slots g c = rw (c.held-held.ensures.held, c.as_slice-2.ensures.items, c.into_values-values.ensures) c.in_ok-values.ensures.short
 
 pub execute_values-requires-clause-values : goal.execute_values-requires-clause-values
 execute_values-requires-clause-values g c =
     let all = own g (goal.at.execute_values-requires-clause-values g c).In_ok-values in
-    rw (c.as_slice.ensures.items, c.into_values-values.ensures) (own_fits c.self.inside.cluster c.in_ok-values.values all)
+    rw (c.as_slice-2.ensures.items, c.into_values-values.ensures) (own_fits c.self.inside.cluster c.in_ok-values.values all)
 
 pub answer_reads-requires-clause-held : goal.answer_reads-requires-clause-held
 answer_reads-requires-clause-held g c = mark_fits _ (rw (c.held-held.ensures.held, c.as_slice-count.ensures.items) c.in_ok-values.ensures.short)
@@ -50,7 +50,7 @@ invariant_of-self-2 g c =
     let early : are_own_early c.self.inside.cluster c.put.new.self.early ≡ true =
     rw (c.put.ensures.early, c.ready.ensures.early) (still_own c.self.inside.cluster (length c.put.new.self.list) log.early c.self.invariant.waiting) in
     let ran : c.execute_values.new.self.left ≡ machine_from (length log.list) c.self.inside.machine.left vs =
-    rw (c.execute_values.ensures.machine, c.make_room.ensures.left, c.held-held.ensures.held, c.ready.ensures.list, c.as_slice.ensures.items, c.into_values-values.ensures) refl in
+    rw (c.execute_values.ensures.machine, c.make_room.ensures.left, c.held-held.ensures.held, c.ready.ensures.list, c.as_slice-2.ensures.items, c.into_values-values.ensures) refl in
     let held = c.held.result in
     let reads = c.self.inside.deferred.items in
     let left : c.drop_answered.new.deferred.items ≡ still_deferred held reads = c.drop_answered.ensures in
@@ -78,8 +78,8 @@ returns-clause-ok g c =
           c.drop_answered.new.deferred.items c.held.result new c.into_values-values.ensures ready c.put.ensures.early c.ready.ensures.early c.drop_answered.ensures c.held.ensures.held));
       sends = subst (λ (s : Running ReplicaDurable ReplicaVolatile). c.answer_reads.new.out.list
           ≡ (apply s.cluster s.me s.durable s.volatile (ready_values (length s.durable.log) s.volatile.early c.args.value.now)).sends) c.self.view_is
-          (sent_behind i.cluster i.me log _ vs c.as_slice.result.now i.machine.left c.make_room.new.self.left c.execute_values.new.self.left c.held-held.result
+          (sent_behind i.cluster i.me log _ vs c.as_slice-2.result.now i.machine.left c.make_room.new.self.left c.execute_values.new.self.left c.held-held.result
           (c.held-held.result + length c.as_slice-count.result.now) i.deferred.items c.deref.result.now c.room.new.self.list c.execute_values.new.out.list c.answer_reads.new.out.list
-          c.self.invariant.machine c.make_room.ensures.left at (c.as_slice.ensures.items ∙ c.into_values-values.ensures) ready c.deref.ensures.value c.execute_values.ensures.machine count
+          c.self.invariant.machine c.make_room.ensures.left at (c.as_slice-2.ensures.items ∙ c.into_values-values.ensures) ready c.deref.ensures.value c.execute_values.ensures.machine count
           (c.room.ensures.list ∙ c.requires.empty) c.execute_values.ensures.sends c.answer_reads.ensures);
     }
