@@ -71,7 +71,7 @@ impl Leader {
     }
 
     /// A batcher's commands get the next slot of the window.
-    #[tactic(auto, unfolding(cx_field::specs::Fields::value))]
+    #[tactic(auto, unfolding(cx_field::specs::Fields::value, cx_field::specs::Fields::value_with, cx_field::specs::Fields::commands))]
     pub(crate) fn batch(&mut self, commands: &Commands, out: &mut Outbox) -> Result<Why, NoMemory>
         requires empty { out.old.list ≡ [] }
         requires commands { IsTrue (field.commands.fits commands.now) }
