@@ -1,5 +1,5 @@
 -- The lines of a header, one by one.
-use Rattle.std.proofs.Common.{◌≡◌, ◌≤◌, ◌<◌, ◌+◌, ◌++◌, ℕ, Bool, true, false, List, [], ◌∷◌, length, map, refl, sym, ap, ◌∙◌, subst, append_assoc, append-nil, arith, nat_lt, nat_le, if◌then◌else◌, Option, None, Some, option_map, option_and_then, length-append}
+use Rattle.std.proofs.Common.{◌==◌, ◌≡◌, ◌≤◌, ◌<◌, ◌+◌, ◌++◌, ℕ, Bool, true, false, List, [], ◌∷◌, length, map, refl, sym, ap, ◌∙◌, subst, append_assoc, append-nil, arith, nat_lt, nat_le, if◌then◌else◌, Option, None, Some, option_map, option_and_then, length-append}
 use Rattle.std.specs.Prelude.{IfSome}
 use Rattle.std.specs.Io.KnownBytes.{Consumes, IsAtEnd}
 use Rattle.std.specs.Str.Lines.{strip_carriage_return}
@@ -14,7 +14,8 @@ use Rattle.cx_replay.proofs.WholeText.{whole_text, counted_text, counted_open, t
 use Rattle.cx_script.specs.Header.{is_rule, header_in, header_of, of_length}
 use Rattle.cx_script.specs.Lines.{lines_of}
 use Rattle.cx_script.specs.Unended.{lines_text, counted, is_long_header}
-use Rattle.cx_script.proofs.Feeds.{IsFree, AreFree, split_feed, split_free, split_more, strip_more, long_no_rule, lines_of_text}
+use Rattle.cx_script.proofs.Cuts.{split_free}
+use Rattle.cx_script.proofs.Feeds.{IsFree, AreFree, split_feed, split_more, strip_more, long_no_rule, lines_of_text}
 use Rattle.cx_script.proofs.GoesOn.{in_front, overlong}
 use Rattle.cx_script.proofs.Schedules.{rule_found}
 use Rattle.cx_script.proofs.WholeLines.{parts}
@@ -108,7 +109,7 @@ module _ (left now : Option (List ℕ)) (held text : List ℕ) (h : InHeader lef
         bytes = lines_text h.ls ++ part;
         consumed = subst (Consumes left next) (append-nil (lines_text h.ls ++ part)) (hands_on left now next (lines_text h.ls) held [] part h.consumed hands);
         at_end = at_end;
-        header = header_is part ∙ ap (λ ps. option_and_then of_length (behind_text text (header_in ps))) (split_free part free) ∙ rule_found text part None rule h.room;
+        header = header_is part ∙ ap (λ ps. option_and_then of_length (behind_text text (header_in ps))) (split_free (λ b. b == 10) part free) ∙ rule_found text part None rule h.room;
       }
 
   -- a header that is too long has no end
@@ -158,7 +159,7 @@ module _ (left now : Option (List ℕ)) (held text : List ℕ) (h : InHeader lef
       cond_both (nat_lt most (length (strip_carriage_return last))) last [] (λ l. header_in (parts l) ≡ None)
       (λ e.
       let long : most < length (strip_carriage_return last) = grind (arith, nat_tests) in
-      ap header_in (split_free last free) ∙ not_rule last [] (long_no_rule (strip_carriage_return last) (omega (arith, long))))
+      ap header_in (split_free (λ b. b == 10) last free) ∙ not_rule last [] (long_no_rule (strip_carriage_return last) (omega (arith, long))))
       (λ e. refl)
 
   -- it hasn't ended where the input has
@@ -170,7 +171,7 @@ module _ (left now : Option (List ℕ)) (held text : List ℕ) (h : InHeader lef
   ended_last part free hands at_end other =
       Consumes-whole left next ((lines_text h.ls ++ part) ++ []) (λ all. header_of all ≡ None) (hands_on left now next (lines_text h.ls) held [] part h.consumed hands) at_end
       (ap header_of (append-nil (lines_text h.ls ++ part)) ∙ header_is part
-      ∙ ap (λ found. option_and_then of_length (behind_text text found)) (ap header_in (split_free part free) ∙ not_rule part [] other))
+      ∙ ap (λ found. option_and_then of_length (behind_text text found)) (ap header_in (split_free (λ b. b == 10) part free) ∙ not_rule part [] other))
 
   -- nor where a read fails
   pub fails_header : (held_next : List ℕ) → Hands now next held held_next [] → IsOpen 16384 held_next → (bytes : List ℕ) × Consumes left next bytes × (lines bytes ≡ Nothing)

@@ -1,5 +1,5 @@
 -- Whole lines as text, what comes after them, and what counts of both.
-use Rattle.std.proofs.Common.{◌≡◌, ◌≤◌, ◌<◌, ◌++◌, ℕ, Bool, true, false, List, [], ◌∷◌, length, refl, sym, ap, ◌∙◌, subst, append_assoc, append-nil, arith, nat_lt, if◌then◌else◌, Option, None, Some, length-append}
+use Rattle.std.proofs.Common.{◌==◌, ◌≡◌, ◌≤◌, ◌<◌, ◌++◌, ℕ, Bool, true, false, List, [], ◌∷◌, length, refl, sym, ap, ◌∙◌, subst, append_assoc, append-nil, arith, nat_lt, if◌then◌else◌, Option, None, Some, length-append}
 use Rattle.std.specs.Prelude.{IfSome}
 use Rattle.std.specs.Io.KnownBytes.{Consumes}
 use Rattle.std.specs.Str.Lines.{strip_carriage_return}
@@ -8,13 +8,14 @@ use Rattle.std.proofs.lemmas.Bool.Decides.{nat_tests}
 use Rattle.cx_edge.specs.Lines.{Hands}
 use Rattle.cx_script.specs.Lines.{lines_of}
 use Rattle.cx_script.specs.Unended.{last_part, but_last, lines_text, unended, whole_lines, counted}
-use Rattle.cx_script.proofs.Feeds.{IsFree, AreFree, split_feed, split_free, lines_of_text}
+use Rattle.cx_script.proofs.Cuts.{split_free}
+use Rattle.cx_script.proofs.Feeds.{IsFree, AreFree, split_feed, lines_of_text}
 use Rattle.cx_script.proofs.GoesOn.{overlong}
 use Rattle.cx_script.proofs.WholeLines.{parts, but_last-cons, last_part-cons}
 
 -- the parts of whole lines and of a line that isn't ended
 parts_of_text : (ls : List (List ℕ)) (last : List ℕ) → AreFree ls → IsFree last → parts (lines_text ls ++ last) ≡ ls ++ last ∷ []
-parts_of_text [] last free last_free = split_free last last_free
+parts_of_text [] last free last_free = split_free (λ b. b == 10) last last_free
 parts_of_text (l ∷ ls) last free last_free =
     ap parts (append_assoc l (10 ∷ lines_text ls) last) ∙ split_feed l (lines_text ls ++ last) free.0 ∙ ap (λ (rest : List (List ℕ)). l ∷ rest) (parts_of_text ls last free.1 last_free)
 
