@@ -1,7 +1,6 @@
 //! The lines of a source, one by one.
 
-ghost use Rattle.std.specs.Prelude.{◌≡◌, ◌≤◌, ◌<◌, ◌==◌, ◌+◌, [], true, length, take, drop, position, IfOk};
-ghost use Rattle.std.specs.List.{list_any};
+ghost use Rattle.std.specs.Prelude.{◌≡◌, ◌≤◌, ◌<◌, ◌==◌, ◌+◌, [], length, take, drop, position, IfOk};
 ghost use Rattle.std.specs.Str.Lines.{strip_carriage_return};
 ghost use Rattle.cx_base.specs.Faults.{Rises};
 ghost use Rattle.cx_edge.specs.declared.lines.Next.TheVariants as next;
@@ -46,12 +45,6 @@ fn feed_in(bytes: &[u8]) -> Option<usize>
     ensures { result ≡ position (λ b. b == 10) bytes.now }
 {
     bytes.iter().position(|byte| *byte == b'\n')
-}
-
-fn has_feed(bytes: &[u8]) -> bool
-    ensures { result ≡ list_any (λ b. b == 10) bytes.now }
-{
-    bytes.iter().any(|byte| *byte == b'\n')
 }
 
 // How long a part is without one carriage return at its end.
@@ -147,13 +140,6 @@ impl Lines {
         &self.bytes[self.text_start..self.text_end]
     }
 
-    /// Whether the line feed of the next line is held, so that the call of `next` for it reads nothing.
-    pub fn has_line(&self) -> bool
-        ensures { result ≡ list_any (λ b. b == 10) self.now.held }
-    {
-        has_feed(&self.bytes[self.start..self.end])
-    }
-
     // Cuts the first line off what is held, if it is whole.
     fn cut(&mut self, max: usize) -> First
         ensures { Cuts max self.old self.new result }
@@ -209,7 +195,6 @@ impl Lines {
         ensures cause { result ≡ next.Failed → Rises (S.faults source.old) (S.faults source.new) }
         ensures still { (result ≡ next.Failed → ⊥) → S.faults source.new ≡ S.faults source.old }
         ensures later { S.faults source.old ≤ S.faults source.new }
-        ensures unread { list_any (λ b. b == 10) self.old.held ≡ true → source.new ≡ source.old }
     {
         loop {
             match self.cut(max) {

@@ -1,5 +1,4 @@
-use Rattle.std.proofs.Common.{◌≡◌, ◌-◌, ◌==◌, [], length, true}
-use Rattle.std.specs.List.{list_any}
+use Rattle.std.proofs.Common.{◌≡◌, ◌-◌, [], length}
 use Rattle.cx_edge.specs.Lines.{Hands}
 use Rattle.cx_edge.proofs.lines.Lines.next.Given as goal
 
@@ -7,7 +6,6 @@ abbrev pub invariant-loop-self : goal.invariant-loop-self
 invariant-loop-self g l = record {
   hands : Hands (g.S.Source.left l.fn.source) (g.S.Source.left l.source) l.fn.self.held l.self.held [];
   still : g.S.Source.faults l.source ≡ g.S.Source.faults l.fn.source;
-  unread : list_any (λ b. b == 10) l.fn.self.held ≡ true → (l.source ≡ l.fn.source) × (l.self.held ≡ l.fn.self.held);
 }
 
 abbrev pub decreases-loop-self : goal.decreases-loop-self
