@@ -52,7 +52,7 @@ returns-in-Err-run_line-2-clause-replayed g c = λ left b.
 
 pub returns-in-Last-clause-replayed : goal.returns-in-Last-clause-replayed
 returns-in-Last-clause-replayed g c = λ left b.
-    let read : g.S.Source.faults c.next.new.source ≡ g.S.Source.faults c.args.input.now = search rules in
+    let read : g.S.Source.faults c.next.new.source ≡ g.S.Source.faults c.args.input.now = c.in-Last.ensures.still (λ e. cc) ∙ c.loop-lines.invariant.read in
     let gives = c.in-Last.ensures.gives in
     let ran = c.in_default-run_line.ensures in
     let spells : Spells c.args.cluster (c.loop-lines.number + 1) (strip_carriage_return gives.part) ran.event =
