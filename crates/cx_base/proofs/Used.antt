@@ -164,7 +164,7 @@ used_answer a floor t r k n =
     grouped false true own q = refl
     grouped false false own q = refl
 
--- The table knows what commands have used: then it does behind one command more, whose answer is noted, or whose number was used already.
+-- The table knows what commands have used: then it does after one command more, whose answer is noted, or whose number was used already.
 module _ (before : List Command) (t : Table) (c : Command) (rising : are_rising 0 t.floors ≡ true) (knows : (k n : ℕ) → list_any (overtakes k n) before ≡ is_used k n t) where
   any_behind : (k n : ℕ) → list_any (overtakes k n) (before ++ c ∷ []) ≡ (is_used k n t || ((c.client == k && c.seq == n) || (c.client == k && nat_le n c.floor)))
   any_behind k n =

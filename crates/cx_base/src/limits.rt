@@ -48,6 +48,10 @@ pub const ENTRIES: usize = 17;
 
 // Requests.
 
+/// The most numbers that a client has outstanding: a floor is at most this far below the number that tells it. So the answers
+/// that are held for a client are bounded.
+pub const OUTSTANDING: u64 = 64;
+
 /// The most commands of a batch, which is the value of one slot: the values of a whole window fit one datagram.
 pub const BATCH: usize = 8;
 

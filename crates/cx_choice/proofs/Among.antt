@@ -5,6 +5,7 @@ use Rattle.std.proofs.lemmas.List.Folds.{list_any-append}
 use Rattle.std.specs.List.{list_any}
 use Rattle.cx_base.specs.Grid.{Shape}
 use Rattle.cx_base.specs.Same.{same_value}
+use Rattle.cx_base.proofs.SameLaws.{same_value-true}
 use Rattle.cx_base.specs.declared.command.Value.{Value}
 use Rattle.cx_base.specs.declared.round.Round.{Round}
 use Rattle.cx_msg.specs.declared.kept.Record.{Record}
@@ -12,7 +13,6 @@ use Rattle.cx_msg.specs.declared.kept.Record.TheVariants as kept
 use Rattle.cx_msg.specs.declared.input.KeptRecord.{KeptRecord}
 use Rattle.cx_choice.proofs.Casts.{same_among}
 use Rattle.cx_choice.proofs.Whole.{chosen_by_whole}
-use Rattle.cx_choice.proofs.Same.{one_value}
 use Rattle.cx_choice.specs.Enough.{is_among, is_chosen_among, is_enough, is_whole, is_whole_vote}
 use Rattle.cx_choice.specs.OfRound.{of_round}
 use Rattle.cx_choice.specs.Sorted.{AreCast, casts_in}
@@ -37,7 +37,7 @@ pub among : (values : List (Bor Value)) (rounds : List (OfRound Shape)) (votes :
 among values rounds votes s j t u v e =
     elim (cases_Bool (same_value u v)) [
       | inr other ↦ rw (other, and_no (t == s)) (sym (or_no (is_among values v)))
-      | inl same ↦ let there : is_among values v ≡ true = ap (is_among values) (sym (one_value u v same)) ∙ e in rw there refl
+      | inl same ↦ let there : is_among values v ≡ true = ap (is_among values) (sym (same_value-true u v same)) ∙ e in rw there refl
     ]
 
 -- nor does one whose round has too few votes for it
@@ -47,7 +47,7 @@ few values rounds votes s j t u v e =
     elim (cases_Bool (same_value u v)) [
       | inr other ↦ rw (other, and_no (t == s)) (sym (or_no (is_among values v)))
       | inl same ↦
-          let none : is_enough rounds votes s j v ≡ false = ap (is_enough rounds votes s j) (sym (one_value u v same)) ∙ e in
+          let none : is_enough rounds votes s j v ≡ false = ap (is_enough rounds votes s j) (sym (same_value-true u v same)) ∙ e in
           rw (none, and_no ((t == s) && same_value u v)) (sym (or_no (is_among values v)))
     ]
 
@@ -58,7 +58,7 @@ more values new rounds votes s j t one v is here enough =
     let parts : is_among new v ≡ (is_among values v || (same_value one.now v || false)) = ap (λ l. is_among l v) is ∙ list_any-append (λ (u : Bor Value). same_value u.now v) values (one ∷ []) in
     elim (cases_Bool (same_value one.now v)) [
       | inl same ↦
-          let enough_v : is_enough rounds votes s j v ≡ true = ap (is_enough rounds votes s j) (sym (one_value one.now v same)) ∙ enough in
+          let enough_v : is_enough rounds votes s j v ≡ true = ap (is_enough rounds votes s j) (sym (same_value-true one.now v same)) ∙ enough in
           parts ∙ (rw (here, same, enough_v) refl)
       | inr other ↦ parts ∙ (rw (here, other) refl)
     ]

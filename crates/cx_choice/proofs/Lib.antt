@@ -6,6 +6,5 @@ pub mod Grouped
 pub mod Numbered
 pub mod Order
 pub mod Picked
-pub mod Same
 pub mod Slots
 pub mod Whole

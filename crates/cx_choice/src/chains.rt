@@ -103,7 +103,8 @@ pub fn votes_in(
     requires have { HaveVotes votes.now kept.now 0 }
     requires slot { slot < length kept.now }
     ensures votes { IfOk result (λ found. found.votes.items ≡ votes_of slot kept.now) }
-    ensures numbers { IfOk result (λ found. map (slice_get kept.now) found.numbers.items ≡ map (λ vote. Some vote) found.votes.items) }
+    ensures numbers { IfOk result (λ found. map (slice_get kept.now) found.numbers.items
+        ≡ map (λ vote. Some vote) found.votes.items) }
 {
     let mut numbers = Vec::new(alloc);
     let mut found = Vec::new(alloc);

@@ -31,7 +31,8 @@ fn is_vote(of: Round, at: u64, wanted: &Value, what: &Record) -> bool
 }
 
 fn is_vote_of(acceptor: u16, of: Round, at: u64, wanted: &Value, kept: &KeptRecord) -> bool
-    ensures { result ≡ (same_role kept.now.role (role Kind.Acceptor acceptor) && is_vote of at wanted.now kept.now.what) }
+    ensures { result ≡ (same_role kept.now.role (role Kind.Acceptor acceptor)
+        && is_vote of at wanted.now kept.now.what) }
 {
     kept.role.is(RoleId::new(Kind::Acceptor, acceptor)) && is_vote(of, at, wanted, &kept.what)
 }
@@ -83,7 +84,9 @@ fn has_some_column(
     at: u64,
     wanted: &Value,
 ) -> bool
-    ensures { result ≡ list_any (λ b. list_all (λ a. has_vote (casts_in votes.now) a of at wanted.now) (column_of grid.now b)) (below grid.now.cols) }
+    ensures { result ≡ list_any
+        (λ b. list_all (λ a. has_vote (casts_in votes.now) a of at wanted.now) (column_of grid.now b))
+        (below grid.now.cols) }
 {
     for col in 0..grid.cols() {
         if has_column(votes, grid, col, of, at, wanted) {

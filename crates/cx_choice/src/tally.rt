@@ -33,7 +33,9 @@ fn add_value<'a>(
     requires rounds { IsByRound rounds.now }
     requires votes { IsByRound votes.now }
     requires cast { All IsCast votes.now }
-    ensures { OnOk result ((v : Value) → is_among chosen.new.items v ≡ (is_among chosen.old.items v || is_whole rounds.now (casts_in votes.now) at v round slot value.now)) }
+    ensures { OnOk result ((v : Value) → is_among chosen.new.items v
+        ≡ (is_among chosen.old.items v || is_whole rounds.now (casts_in votes.now) at v round slot
+        value.now)) }
 {
     if slot != at {
         return Ok(());
@@ -59,7 +61,9 @@ fn add_chosen<'a>(
     requires rounds { IsByRound rounds.now }
     requires votes { IsByRound votes.now }
     requires cast { All IsCast votes.now }
-    ensures { OnOk result ((v : Value) → is_among chosen.new.items v ≡ (is_among chosen.old.items v || is_whole_vote rounds.now (casts_in votes.now) at v what.now)) }
+    ensures { OnOk result ((v : Value) → is_among chosen.new.items v
+        ≡ (is_among chosen.old.items v
+        || is_whole_vote rounds.now (casts_in votes.now) at v what.now)) }
 {
     match what {
         Record::Vote {
@@ -83,7 +87,8 @@ fn chosen_values<'a>(
 ) -> Result<Vec<&'a Value>, NoMemory>
     requires rounds { IsByRound rounds.now }
     requires votes { AreCast votes.now by_round.now }
-    ensures { IfOk result (λ chosen. (v : Value) → is_among chosen.items v ≡ is_chosen_among rounds.now votes.now at v) }
+    ensures { IfOk result (λ chosen. (v : Value) → is_among chosen.items v
+        ≡ is_chosen_among rounds.now votes.now at v) }
 {
     let mut chosen = Vec::new(alloc);
     for vote in votes {

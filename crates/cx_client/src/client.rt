@@ -42,15 +42,30 @@ impl Model for Client {
 
     ghost Value = { ClientState };
 
-    ghost view = { λ c. record { cluster = c.cluster; me = role kind.Client c.index; script = c.script.items; done = c.done; window = c.window } };
+    ghost view = { λ c. record {
+      cluster = c.cluster;
+      me = role kind.Client c.index;
+      script = c.script.items;
+      done = c.done;
+      window = c.window;
+    } };
 
-    ghost invariant = { λ c. IsClient (record { cluster = c.cluster; me = role kind.Client c.index; script = c.script.items; done = c.done; window = c.window }) };
+    ghost invariant = { λ c. IsClient
+        (record {
+          cluster = c.cluster;
+          me = role kind.Client c.index;
+          script = c.script.items;
+          done = c.done;
+          window = c.window;
+        }) };
 }
 
 // Brings the request at a place of those that are left to their front, and those that it passes move up one place.
 fn bring_forward(script: &mut Vec<Event>, done: usize, place: usize)
     requires { done + place < length script.old.items }
-    ensures { (d : Happening) → script.new.items ≡ take done script.old.items ++ get_or script.old.items (done + place) d ∷ (take place (drop done script.old.items) ++ drop (done + place + 1) script.old.items) }
+    ensures { (d : Happening) → script.new.items ≡ take done script.old.items
+        ++ get_or script.old.items (done + place) d
+        ∷ (take place (drop done script.old.items) ++ drop (done + place + 1) script.old.items) }
 {
     let from = done + place;
     let event = script[from];
@@ -99,7 +114,9 @@ impl Client {
     // The outstanding requests whose numbers are above `sent` go out. It takes no memory.
     fn send_above(&self, sent: u64, out: &mut Outbox)
         requires room { self.now.window ≤ out.old.spare }
-        ensures { out.new.list ≡ out.old.list ++ requests_of (floor_for (left self.now)) (filter (λ (e : Happening). nat_lt sent (number_of e)) (outstanding self.now.window (left self.now))) }
+        ensures { out.new.list ≡ out.old.list ++ requests_of (floor_for (left self.now))
+            (filter (λ (e : Happening). nat_lt sent (number_of e))
+            (outstanding self.now.window (left self.now))) }
     {
         send_outstanding(&self.script[self.done..], self.window as usize, sent, out);
     }
@@ -127,7 +144,9 @@ impl Client {
     // An answer to the request of this number.
     fn hear(&mut self, number: u64, out: &mut Outbox) -> Result<Taken, NoMemory>
         requires empty { out.old.list ≡ [] }
-        ensures ok { IfOk result (λ taken. Moves (client_hears self.old number) taken.why taken.completes self.new out.new.list) }
+        ensures ok { IfOk result
+            (λ taken. Moves (client_hears self.old number) taken.why taken.completes self.new
+            out.new.list) }
         ensures no_memory { OnErr result (self.new ≡ self.old) }
         ensures nothing { OnErr result (out.new.list ≡ []) }
     {
@@ -154,7 +173,9 @@ impl Client {
     /// requests that become outstanding are sent. Out of memory, nothing changes.
     pub fn take(&mut self, datagram: &Datagram, out: &mut Outbox) -> Result<Taken, NoMemory>
         requires empty { out.old.list ≡ [] }
-        ensures ok { IfOk result (λ taken. Moves (client_takes self.old datagram.now) taken.why taken.completes self.new out.new.list) }
+        ensures ok { IfOk result
+            (λ taken. Moves (client_takes self.old datagram.now) taken.why taken.completes self.new
+            out.new.list) }
         ensures no_memory { OnErr result (self.new ≡ self.old) }
         ensures nothing { OnErr result (out.new.list ≡ []) }
     {

@@ -15,7 +15,9 @@ ghost use Rattle.cx_script.specs.Requests.{IsScript, number_of};
 
 /// A law: a client with a script of its own stays one.
 pub fn clients_stay()
-    ensures opened { (c : Cluster) (index : ℕ) (script : List Event) (window : ℕ) → IsScript c index script → 1 ≤ window → window ≤ 64 → IsClient (client_opened c (role kind.Client index) script window) }
+    ensures opened { (c : Cluster) (index : ℕ) (script : List Event) (window : ℕ)
+        → IsScript c index script → 1 ≤ window → window ≤ 64
+        → IsClient (client_opened c (role kind.Client index) script window) }
     ensures takes { (s : ClientState) (letter : Letter) → IsClient s → IsClient (client_takes s letter).state }
 {}
 
@@ -28,9 +30,12 @@ pub fn sends_are_own()
 
 /// A law: a datagram completes one request or none: an outstanding one, exactly where it answers that one. A tick completes none.
 pub fn completes_once()
-    ensures one { (s : ClientState) (letter : Letter) → IsClient s → (client_takes s letter).completes ≡ true → Completes s letter (client_takes s letter).state }
-    ensures none { (s : ClientState) (letter : Letter) → (client_takes s letter).completes ≡ false → (client_takes s letter).state ≡ s }
-    ensures answered { (s : ClientState) (letter : Letter) → Answers s letter → (client_takes s letter).completes ≡ true }
+    ensures one { (s : ClientState) (letter : Letter) → IsClient s
+        → (client_takes s letter).completes ≡ true → Completes s letter (client_takes s letter).state }
+    ensures none { (s : ClientState) (letter : Letter) → (client_takes s letter).completes ≡ false
+        → (client_takes s letter).state ≡ s }
+    ensures answered { (s : ClientState) (letter : Letter) → Answers s letter
+        → (client_takes s letter).completes ≡ true }
     ensures ticks { (s : ClientState) → (client_ticks s).state ≡ s }
 {}
 
@@ -38,15 +43,19 @@ pub fn completes_once()
 /// uncompleted number is at or below a floor that is sent.
 pub fn floors_are_below()
     ensures starts { (s : ClientState) → IsClient s → TellsFloor s (client_start s) }
-    ensures takes { (s : ClientState) (letter : Letter) → IsClient s → TellsFloor (client_takes s letter).state (client_takes s letter).sends }
+    ensures takes { (s : ClientState) (letter : Letter) → IsClient s
+        → TellsFloor (client_takes s letter).state (client_takes s letter).sends }
     ensures ticks { (s : ClientState) → IsClient s → TellsFloor s (client_ticks s).sends }
 {}
 
 /// A law: the first uncompleted request is outstanding, each outstanding one may tell the client's floor, and what is outstanding after a
 /// datagram was so before it or is sent at once.
 pub fn windows_move()
-    ensures first { (s : ClientState) (e : Event) (es : List Event) → IsClient s → left s ≡ e ∷ es → Member e (outstanding s.window (left s)) }
-    ensures fits { (s : ClientState) (e : Event) → IsClient s → Member e (outstanding s.window (left s)) → floor_fits (number_of e) (floor_for (left s)) ≡ true }
-    ensures sent { (s : ClientState) (letter : Letter) (e : Event) → IsClient s → Member e (outstanding s.window (left (client_takes s letter).state))
+    ensures first { (s : ClientState) (e : Event) (es : List Event) → IsClient s → left s ≡ e ∷ es
+        → Member e (outstanding s.window (left s)) }
+    ensures fits { (s : ClientState) (e : Event) → IsClient s → Member e (outstanding s.window (left s))
+        → floor_fits (number_of e) (floor_for (left s)) ≡ true }
+    ensures sent { (s : ClientState) (letter : Letter) (e : Event) → IsClient s
+        → Member e (outstanding s.window (left (client_takes s letter).state))
         → Member e (outstanding s.window (left s)) ⊎ IsSent (client_takes s letter).state (client_takes s letter).sends e }
 {}

@@ -21,7 +21,8 @@ use cx_role::Outbox;
 #[tactic(auto, unfolding(cx_field::specs::Fields::seq, cx_wire::specs::Format::u64))]
 fn submission(client: u16, seq: u64, floor: u64, op: Op, batcher: u16) -> Datagram
     requires { IsTrue (floor_fits seq floor) }
-    ensures { result ≡ letter (role kind.Client client) (role kind.Batcher batcher) (msg.Submit (record { client = client; seq = seq; floor = floor; op = op })) }
+    ensures { result ≡ letter (role kind.Client client) (role kind.Batcher batcher)
+        (msg.Submit (record { client = client; seq = seq; floor = floor; op = op })) }
 {
     submit(
         client,
@@ -67,7 +68,8 @@ fn send(event: &Event, floor: u64, out: &mut Outbox)
 fn send_above(requests: &[Event], sent: u64, floor: u64, out: &mut Outbox)
     requires room { length requests.now ≤ out.old.spare }
     requires taken { IsTrue (list_all (λ (e : Happening). is_valid_event (telling floor e)) requests.now) }
-    ensures { out.new.list ≡ out.old.list ++ requests_of floor (filter (λ (e : Happening). nat_lt sent (number_of e)) requests.now) }
+    ensures { out.new.list ≡ out.old.list ++ requests_of floor
+        (filter (λ (e : Happening). nat_lt sent (number_of e)) requests.now) }
 {
     for event in requests {
         if sent < number_of(event) {
@@ -80,7 +82,8 @@ fn send_above(requests: &[Event], sent: u64, floor: u64, out: &mut Outbox)
 pub fn send_outstanding(left: &[Event], window: usize, sent: u64, out: &mut Outbox)
     requires rising { IsTrue (rise_above 0 left.now) }
     requires room { window ≤ out.old.spare }
-    ensures { out.new.list ≡ out.old.list ++ requests_of (floor_for left.now) (filter (λ (e : Happening). nat_lt sent (number_of e)) (outstanding window left.now)) }
+    ensures { out.new.list ≡ out.old.list ++ requests_of (floor_for left.now)
+        (filter (λ (e : Happening). nat_lt sent (number_of e)) (outstanding window left.now)) }
 {
     let floor = first_of(left).saturating_sub(1);
     send_above(outstanding(left, window), sent, floor, out);

@@ -6,10 +6,7 @@ ghost use Rattle.cx_base.specs.declared.event.Event.{Event as Happening};
 ghost use Rattle.cx_client.specs.Window.{first_of, has_number, is_near, outstanding};
 ghost use Rattle.cx_script.specs.Requests.{number_of, rise_above};
 
-use cx_base::Event;
-
-// How far the number of an outstanding request may be above the first one, since a floor is at most 64 below its number.
-const REACH: u64 = 63;
+use cx_base::{Event, OUTSTANDING};
 
 /// The number of a request, 0 of another event.
 pub fn number_of(event: &Event) -> u64
@@ -32,11 +29,11 @@ pub fn first_of(left: &[Event]) -> u64
     }
 }
 
-// Whether a request's number is near enough to the first one.
+// Whether a request's number is near enough to the first one, since a floor is the number before the first.
 fn is_near(first: u64, event: &Event) -> bool
     ensures { result ≡ is_near first event.now }
 {
-    number_of(event).saturating_sub(first) <= REACH
+    number_of(event).saturating_sub(first) < OUTSTANDING
 }
 
 // The place of the first request that isn't, if there is one.

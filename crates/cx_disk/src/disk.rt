@@ -31,11 +31,13 @@ pub trait Disk {
     /// Fills the buffer from a place on.
     fn read(&mut self, at: u64, buf: &mut [u8]) -> Result<(), Failed>
         requires { at + length buf.old ≤ size self.old }
-        ensures bytes { OnOk result (IfSome (seen self.old) (λ file. buf.new ≡ slice_range file at (at + length buf.old))) }
+        ensures bytes { OnOk result
+            (IfSome (seen self.old) (λ file. buf.new ≡ slice_range file at (at + length buf.old))) }
         ensures seen { seen self.new ≡ seen self.old }
         ensures size { size self.new ≡ size self.old }
         ensures crash { (c : List ℕ) → may_leave self.new c → may_leave self.old c }
-        ensures time { Elapses (moment self.old) (moment self.new) (left_since self.old) (left_since self.new) (may_leave self.new) }
+        ensures time { Elapses (moment self.old) (moment self.new) (left_since self.old)
+            (left_since self.new) (may_leave self.new) }
         ensures cause { HasCause (faults self.old) (faults self.new) result };
 
     /// Writes over what is there, and past the end.
@@ -45,7 +47,8 @@ pub trait Disk {
         ensures tells { is_some (seen self.new) ≡ is_some (seen self.old) }
         ensures size { OnOk result (size self.new ≡ max (size self.old) (at + length bytes.now)) }
         ensures crash { Follows (Torn at (length bytes.now)) (may_leave self.old) (may_leave self.new) }
-        ensures time { Elapses (moment self.old) (moment self.new) (left_since self.old) (left_since self.new) (may_leave self.new) }
+        ensures time { Elapses (moment self.old) (moment self.new) (left_since self.old)
+            (left_since self.new) (may_leave self.new) }
         ensures cause { HasCause (faults self.old) (faults self.new) result };
 
     /// Cuts the bytes to a length.
@@ -55,7 +58,8 @@ pub trait Disk {
         ensures tells { is_some (seen self.new) ≡ is_some (seen self.old) }
         ensures size { OnOk result (size self.new ≡ at) }
         ensures crash { Follows (Cut at) (may_leave self.old) (may_leave self.new) }
-        ensures time { Elapses (moment self.old) (moment self.new) (left_since self.old) (left_since self.new) (may_leave self.new) }
+        ensures time { Elapses (moment self.old) (moment self.new) (left_since self.old)
+            (left_since self.new) (may_leave self.new) }
         ensures cause { HasCause (faults self.old) (faults self.new) result };
 
     /// After it, a crash leaves what a read gives.
@@ -64,7 +68,8 @@ pub trait Disk {
         ensures seen { seen self.new ≡ seen self.old }
         ensures size { size self.new ≡ size self.old }
         ensures crash { (c : List ℕ) → may_leave self.new c → may_leave self.old c }
-        ensures time { Elapses (moment self.old) (moment self.new) (left_since self.old) (left_since self.new) (may_leave self.new) }
+        ensures time { Elapses (moment self.old) (moment self.new) (left_since self.old)
+            (left_since self.new) (may_leave self.new) }
         ensures cause { HasCause (faults self.old) (faults self.new) result };
 
     /// The bytes that are known are as many as the length.

@@ -62,7 +62,8 @@ pub(crate) fn write_over(file: &mut Vec<u8>, at: usize, bytes: &[u8])
 fn note(written: &[u8], calls: &mut Vec<Call>, call: Call) -> bool
     requires call { is_within (length written.now) call ≡ true }
     requires calls { all_within (length written.now) calls.old.items ≡ true }
-    ensures added { result ≡ true → notes written.now calls.new.items ≡ notes written.now calls.old.items ++ noted written.now call ∷ [] }
+    ensures added { result ≡ true → notes written.now calls.new.items
+        ≡ notes written.now calls.old.items ++ noted written.now call ∷ [] }
     ensures same { result ≡ false → notes written.now calls.new.items ≡ notes written.now calls.old.items }
     ensures within { all_within (length written.now) calls.new.items ≡ true }
 {
@@ -83,7 +84,8 @@ fn append(written: &mut Vec<u8>, bytes: &[u8])
 /// Notes a write and its bytes, where there is room for both.
 fn note_write(written: &mut Vec<u8>, calls: &mut Vec<Call>, at: u64, bytes: &[u8]) -> bool
     requires { all_within (length written.old.items) calls.old.items ≡ true }
-    ensures added { result ≡ true → notes written.new.items calls.new.items ≡ notes written.old.items calls.old.items ++ made_write at bytes.now ∷ [] }
+    ensures added { result ≡ true → notes written.new.items calls.new.items
+        ≡ notes written.old.items calls.old.items ++ made_write at bytes.now ∷ [] }
     ensures same { result ≡ false → notes written.new.items calls.new.items ≡ notes written.old.items calls.old.items }
     ensures within { all_within (length written.new.items) calls.new.items ≡ true }
 {
@@ -100,7 +102,8 @@ fn note_write(written: &mut Vec<u8>, calls: &mut Vec<Call>, at: u64, bytes: &[u8
 /// Notes a sync, and what a read gives as what was synced last, where there is room for both.
 fn note_sync(written: &[u8], calls: &mut Vec<Call>, bytes: &[u8], synced: &mut Vec<u8>) -> bool
     requires { all_within (length written.now) calls.old.items ≡ true }
-    ensures added { result ≡ true → notes written.now calls.new.items ≡ notes written.now calls.old.items ++ made_sync ∷ [] }
+    ensures added { result ≡ true → notes written.now calls.new.items
+        ≡ notes written.now calls.old.items ++ made_sync ∷ [] }
     ensures synced { result ≡ true → synced.new.items ≡ bytes.now }
     ensures same { result ≡ false → notes written.now calls.new.items ≡ notes written.now calls.old.items }
     ensures same_synced { result ≡ false → synced.new.items ≡ synced.old.items }
@@ -129,7 +132,10 @@ impl Disk for MemDisk {
 
     ghost told_size = { λ m file told. ap length (sym (same_Some _ _ told)) };
 
-    ghost told_is_left = { λ m file told. subst (MayLeave (state_after m.first.items (notes m.written.items m.calls.items))) (sym m.tells ∙ same_Some _ _ told) (seen_is_left m.first.items (notes m.written.items m.calls.items)) };
+    ghost told_is_left = { λ m file told. subst
+        (MayLeave (state_after m.first.items (notes m.written.items m.calls.items)))
+        (sym m.tells ∙ same_Some _ _ told)
+        (seen_is_left m.first.items (notes m.written.items m.calls.items)) };
 
     ghost size_fits = { λ m. vec_small m.bytes };
 

@@ -80,6 +80,10 @@ answers_apart xs h =
     let s = both (eqb (length xs) (length xs)) (each_fits (λ _. answered) [] xs) p.1 in
     (at_most 1 (length xs) r.0, at_most (length xs) 8 r.1, alike_apart answered xs [] s.1)
 
+-- each answer of a list that fits is in its ranges
+pub each_answer_fits : (xs : List Answered) → IsTrue (answers.fits xs) → IsTrue (list_all (λ (x : Answered). answered.fits x) xs)
+each_answer_fits xs h = (answers_apart xs h).2
+
 pub answers_fit : (xs : List Answered) → 1 ≤ length xs → length xs ≤ 8 → IsTrue (list_all (λ x. answered.fits x) xs) → IsTrue (answers.fits xs)
 unfolding answers
 answers_fit xs low high h =

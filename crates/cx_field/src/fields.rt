@@ -17,13 +17,10 @@ use crate::lists::{AnsweredItems, CommandItems, EntryItems, MemberItems, ValueIt
 use crate::parts::{Answers, Entries, LogValues, NackReason, Token, Votes};
 use crate::reader::Reader;
 use cx_base::{
-    Command, Commands, Few, Grid, Key, MEMBERS, Name, Op, Reply, Round, SLOTS, Text, Value,
-    is_name_byte,
+    Command, Commands, Few, Grid, Key, MEMBERS, Name, OUTSTANDING, Op, Reply, Round, SLOTS, Text,
+    Value, is_name_byte,
 };
 use std::alloc::Global;
-
-// How far below its number a command's floor may be: the most numbers that a client has outstanding.
-const FLOOR_DEPTH: u64 = 64;
 
 /// A slot, below 2^40, in eight bytes.
 #[tactic(auto, unfolding(crate::specs::Fields::slot))]
@@ -137,7 +134,7 @@ fn floor_below_from(number: u64, reader: &mut Reader<'_>) -> Result<u64, ReadFau
     let left = reader.left();
     let floor = reader.u64()?;
     let below = number.saturating_sub(floor);
-    if below < 2 || below > FLOOR_DEPTH {
+    if below < 2 || below > OUTSTANDING {
         return Err(ReadFault::Bad { left });
     }
     Ok(floor)

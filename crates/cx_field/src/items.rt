@@ -30,7 +30,8 @@ pub trait Items {
 
     /// Appends a value, whatever is before it.
     fn put_next(&self, item: &Self::Item, out: &mut Vec<u8>) -> Result<(), NoMemory>
-        ensures bytes { OnOk result ((before : List Self.Item) → out.new.items ≡ out.old.items ++ (format self.now before).spell item.now) }
+        ensures bytes { OnOk result ((before : List Self.Item)
+            → out.new.items ≡ out.old.items ++ (format self.now before).spell item.now) }
         ensures room { OnOk result (length out.new.items ≤ length out.old.items + most) };
 }
 
@@ -76,7 +77,9 @@ pub fn list_from<I: Items>(
 ) -> Result<Vec<I::Item>, ReadFault>
 where
     I::Item: Drop,
-    ensures read { Gives (λ v. v.items) result ((counted (only (λ n. nat_le least n && nat_le n most) u8) (I.format items.now)).read reader.old) reader.new }
+    ensures read { Gives (λ v. v.items) result
+        ((counted (only (λ n. nat_le least n && nat_le n most) u8) (I.format items.now)).read
+        reader.old) reader.new }
     ensures least { IfOk result (λ v. least ≤ vec_len v) }
     ensures most { IfOk result (λ v. vec_len v ≤ most) }
 {

@@ -105,7 +105,8 @@ fn put_key_text(out: &mut Vec<u8>, key: &Key, text: &Text) -> Result<(), NoMemor
 // Appends an operation, with the floor that is told before its key, if one is. The bytes are the same with each number.
 #[tactic(auto, unfolding(crate::specs::Fields::told_op, crate::specs::Fields::floor_below))]
 fn put_told_op(out: &mut Vec<u8>, told: Option<u64>, op: &Op) -> Result<(), NoMemory>
-    ensures { OnOk result ((number : ℕ) → Appends (field.told_op true number) (told, op.now) 107 out.old.items out.new.items) }
+    ensures { OnOk result ((number : ℕ)
+        → Appends (field.told_op true number) (told, op.now) 107 out.old.items out.new.items) }
 {
     match told {
         None => match op {

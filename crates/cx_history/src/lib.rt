@@ -1,8 +1,8 @@
 //! The histories of a run: the events, the datagrams that were sent, the records that were kept.
 //!
 //! `Sent` and `Kept` hold bytes, `Events` what was asked with each number. Its theorem is: contracts see
-//! `Sent`, `Kept` and `Events` as the lists of what was pushed, which `Sent::get`, `Sent::since` and
-//! `Kept::at` read again as it was; `Events::is_stale` is the model's test over all events.
+//! `Sent`, `Kept` and `Events` as the lists of what was pushed, which `Sent::get` and `Kept::at` read again
+//! as it was; `Events::is_stale` is the model's test over all events.
 #![tactic(auto)]
 
 mod events;

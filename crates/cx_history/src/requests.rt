@@ -136,7 +136,9 @@ fn ask(pieces: &mut Pieces, earlier: Option<Asked>, asks: &[u8]) -> Result<Asked
     requires { IsPlace pieces.old earlier }
     ensures grows { OnOk result ((more : List (List ℕ)) × (pieces.new ≡ pieces.old ++ more)) }
     ensures place { IfOk result (λ asked. IsPlace pieces.new (Some asked)) }
-    ensures others { IfOk result (λ asked. (other : List ℕ) → asks_other pieces.new (Some asked) other ≡ (asks_other pieces.old earlier other || not (bytes_eq other asks.now))) }
+    ensures others { IfOk result (λ asked. (other : List ℕ)
+        → asks_other pieces.new (Some asked) other
+        ≡ (asks_other pieces.old earlier other || not (bytes_eq other asks.now))) }
     ensures err { OnErr result (pieces.new ≡ pieces.old) }
 {
     match earlier {
@@ -157,7 +159,8 @@ fn ask(pieces: &mut Pieces, earlier: Option<Asked>, asks: &[u8]) -> Result<Asked
 // Notes what is asked with a number. Room was taken beforehand.
 fn put_asked(map: &mut IndexMap<Number, Asked>, token: Token, asked: Asked)
     requires { 0 < spare map.old }
-    ensures { (t : Named) → asked_with t map.new.entries ≡ (if same_read token t then Some asked else asked_with t map.old.entries) }
+    ensures { (t : Named) → asked_with t map.new.entries
+        ≡ (if same_read token t then Some asked else asked_with t map.old.entries) }
 {
     match map.insert(number_of(token), asked) {
         Ok(_) => {}
@@ -169,7 +172,9 @@ fn put_asked(map: &mut IndexMap<Number, Asked>, token: Token, asked: Asked)
 // Notes a floor that a client tells. Room was taken beforehand.
 fn raise(floors: &mut IndexMap<u16, u64>, client: u16, floor: u64)
     requires { 0 < spare floors.old }
-    ensures { (c : ℕ) → floor_told c floors.new.entries ≡ (if client == c then Some (raised (floor_told client floors.old.entries) floor) else floor_told c floors.old.entries) }
+    ensures { (c : ℕ) → floor_told c floors.new.entries
+        ≡ (if client == c then Some (raised (floor_told client floors.old.entries) floor)
+        else floor_told c floors.old.entries) }
 {
     let greatest = match floor_told(floors, client) {
         Some(told) => told.max(floor),

@@ -1,12 +1,12 @@
 //! The datagrams that were sent.
 
-ghost use Rattle.std.specs.Prelude.{◌≡◌, ◌≤◌, ◌<◌, ◌+◌, ◌-◌, ◌^◌, ◌++◌, ◌∷◌, [], if◌then◌else◌, IfOk, IfSome, OnOk, OnErr, drop, length, option_map, slice_get};
+ghost use Rattle.std.specs.Prelude.{◌≡◌, ◌<◌, ◌+◌, ◌-◌, ◌^◌, ◌++◌, ◌∷◌, [], if◌then◌else◌, IfOk, IfSome, OnOk, OnErr, length, option_map, slice_get};
 ghost use Rattle.cx_msg.specs.Spelled.{IsShort, letter_of};
 ghost use Rattle.cx_history.specs.Begins.{IsPrefix};
 ghost use Rattle.cx_history.specs.Answers.{answers_in, read_answers_in};
 
 use crate::kinds::{is_answer, is_read_answer};
-use crate::short::{put_datagram, read_datagram, read_datagrams, shared};
+use crate::short::{put_datagram, read_datagram, shared};
 use bytes::Bytes;
 use cx_base::NoMemory;
 use cx_msg::Datagram;
@@ -103,14 +103,6 @@ impl Sent {
             return Ok(None);
         }
         Ok(Some(read_datagram(self.alloc, &self.pieces, number)?))
-    }
-
-    /// The datagrams from this number on.
-    pub fn since(&self, first: u64) -> Result<Vec<Datagram>, NoMemory>
-        requires { first ≤ length self.now }
-        ensures { IfOk result (λ list. list.items ≡ drop first self.now) }
-    {
-        read_datagrams(self.alloc, &self.pieces, first as usize)
     }
 
     /// Notes a datagram that was sent last. Out of memory, it changes nothing.

@@ -1,6 +1,6 @@
 //! Datagrams as pieces of bytes.
 
-ghost use Rattle.std.specs.Prelude.{◌≡◌, ◌≤◌, ◌<◌, ◌++◌, ◌∷◌, [], All, Some, IfOk, OnOk, OnErr, IsTrue, drop, length, slice_get};
+ghost use Rattle.std.specs.Prelude.{◌≡◌, ◌<◌, ◌++◌, ◌∷◌, [], All, Some, IfOk, OnOk, OnErr, IsTrue, length, slice_get};
 ghost use Rattle.cx_msg.specs.Letter.{fits};
 ghost use Rattle.cx_msg.specs.Spelled.{IsShort, letter_of};
 ghost use Rattle.cx_history.specs.Short.{letters_of};
@@ -56,21 +56,4 @@ pub fn read_datagram(alloc: Global, pieces: &Pieces, number: usize) -> Result<Da
 {
     let bytes = shared(pieces, number)?;
     Spelled::new(bytes.as_slice()).datagram(alloc)
-}
-
-/// The datagrams from a number on.
-pub fn read_datagrams(
-    alloc: Global,
-    pieces: &Pieces,
-    first: usize,
-) -> Result<Vec<Datagram>, NoMemory>
-    requires pieces { All IsShort pieces.now }
-    requires first { first ≤ length pieces.now }
-    ensures { IfOk result (λ list. list.items ≡ drop first (letters_of pieces.now)) }
-{
-    let mut list = Vec::with_capacity(alloc, pieces.len() - first)?;
-    for number in first..pieces.len() {
-        list.push(read_datagram(alloc, pieces, number)?)?;
-    }
-    Ok(list)
 }

@@ -2,11 +2,11 @@
 use Rattle.std.proofs.Common.{◌≡◌, ℕ, List, [], Option, Result, Err, ◌∙◌, ap}
 use Rattle.cx_base.specs.declared.role.Kind.{Kind}
 use Rattle.cx_msg.specs.declared.kept.Record.{Record}
-use Rattle.cx_journal.specs.Image.{Image, image, with_first, with_all}
+use Rattle.cx_journal.specs.Image.{Image, image, with_first}
 use Rattle.cx_journal.specs.Found.{Breaks, IsRead, IsStopAt}
 use Rattle.cx_journal.specs.declared.split.Stop.{Stop}
 use Rattle.cx_journal.specs.declared.split.Stop.TheVariants as stop
-use Rattle.cx_journal.proofs.Reading.{with_all-Err}
+use Rattle.cx_journal.proofs.Reading.{with_all, with_all-Err}
 
 pub read_stop : (k : Option Kind) (bytes : List ℕ) (records : List Record) (at : ℕ) (read : Result Record ℕ) (more : Image) (s : Stop)
     → image k bytes ≡ with_all records (with_first at read more) → IsStopAt at read s → IsRead k bytes (Err s)

@@ -15,10 +15,6 @@ abbrev pub with_record : Record → Image → Image
 with_record r (Ok records) = Ok (r ∷ records)
 with_record r (Err break) = Err break
 
-abbrev pub with_all : List Record → Image → Image
-with_all [] image = image
-with_all (r ∷ records) image = with_record r (with_all records image)
-
 -- a payload that was read, before an image; its break counts from the payload's place
 abbrev pub with_first : ℕ → Result Record ℕ → Image → Image
 with_first at (Ok r) image = with_record r image

@@ -25,7 +25,8 @@ pub struct Found {
 fn record_at(alloc: Global, kind: Option<Kind>, payload: &[u8], at: usize) -> Result<Record, Stop>
     requires some { 0 < length payload.now }
     requires most { at + length payload.now < 2 ^ 63 }
-    ensures read { MatchResult result (λ r. payload_read kind payload.now ≡ Ok r) (IsStopAt at (payload_read kind payload.now)) }
+    ensures read { MatchResult result (λ r. payload_read kind payload.now ≡ Ok r)
+        (IsStopAt at (payload_read kind payload.now)) }
     ensures spelled { IfOk result (λ r. payload.now ≡ spelling r) }
     ensures kept { IfOk result (λ r. is_kept_by kind r ≡ true) }
 {

@@ -30,7 +30,8 @@ fn fill<D: Disk>(disk: &mut D, bytes: &mut Vec<u8>) -> Result<(), Failed>
     ensures seen { D.seen disk.new ≡ D.seen disk.old }
     ensures size { D.size disk.new ≡ D.size disk.old }
     ensures crash { (c : List ℕ) → D.may_leave disk.new c → D.may_leave disk.old c }
-    ensures time { Elapses (D.moment disk.old) (D.moment disk.new) (D.left_since disk.old) (D.left_since disk.new) (D.may_leave disk.new) }
+    ensures time { Elapses (D.moment disk.old) (D.moment disk.new) (D.left_since disk.old)
+        (D.left_since disk.new) (D.may_leave disk.new) }
     ensures cause { HasCause (D.faults disk.old) (D.faults disk.new) result }
 {
     disk.read(0, bytes)
@@ -43,8 +44,10 @@ pub(crate) fn read_disk<D: Disk>(
     kind: Option<Kind>,
     disk: &mut D,
 ) -> Result<Found, OpenFault>
-    ensures found { (file : List ℕ) → D.seen disk.old ≡ Some file → IfOk result (λ f. image kind file ≡ Ok f.records.items) }
-    ensures at_rest { (file : List ℕ) → D.seen disk.old ≡ Some file → IfOk result (λ f. IsAtRest D.seen D.may_leave disk.new f.gate (payloads f.records.items)) }
+    ensures found { (file : List ℕ) → D.seen disk.old ≡ Some file
+        → IfOk result (λ f. image kind file ≡ Ok f.records.items) }
+    ensures at_rest { (file : List ℕ) → D.seen disk.old ≡ Some file
+        → IfOk result (λ f. IsAtRest D.seen D.may_leave disk.new f.gate (payloads f.records.items)) }
     ensures fit { IfOk result (λ f. all_kept_by kind f.records.items ≡ true) }
     ensures gates { IfOk result (λ f. f.gates.items ≡ gates_from 0 (payloads f.records.items)) }
     ensures broken { (file : List ℕ) → D.seen disk.old ≡ Some file → IfErr result (IsFaultOf kind file) }

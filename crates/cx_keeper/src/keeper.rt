@@ -97,9 +97,11 @@ pub trait Keeper {
         ensures same { kept self.new ≡ kept self.old }
         ensures told { tells self.new ≡ tells self.old }
         ensures cause { result ≡ Err open_fault.Failed → Rises (faults self.old) (faults self.new) }
-        ensures never { tells self.old ≡ true → (at : ℕ) (byte : Option ℕ) → result ≡ Err (open_fault.NotJournal at byte) → ⊥ }
+        ensures never { tells self.old ≡ true → (at : ℕ) (byte : Option ℕ)
+            → result ≡ Err (open_fault.NotJournal at byte) → ⊥ }
         ensures still { (result ≡ Err open_fault.Failed → ⊥) → faults self.new ≡ faults self.old }
         ensures later { faults self.old ≤ faults self.new };
 
-    ghost append_is: { (old : Self) (r : Record) (answer : Result (Unit {0}) KeepFault) (new : Self) → append_gives old r answer new → IsAppend tells kept faults old r answer new };
+    ghost append_is: { (old : Self) (r : Record) (answer : Result (Unit {0}) KeepFault) (new : Self)
+        → append_gives old r answer new → IsAppend tells kept faults old r answer new };
 }

@@ -4,7 +4,8 @@ use Rattle.cx_base.specs.Fold.{acts, map_after, map_behind}
 use Rattle.cx_base.specs.declared.command.Command.{Command}
 use Rattle.cx_base.specs.declared.command.Pair.{Pair}
 
-pub behind_both : (before : List Command) (map : List Pair) (cs ds : List Command) → map_behind before map (cs ++ ds) ≡ map_behind (before ++ cs) (map_behind before map cs) ds
+pub behind_both : (before : List Command) (map : List Pair) (cs ds : List Command)
+    → map_behind before map (cs ++ ds) ≡ map_behind (before ++ cs) (map_behind before map cs) ds
 behind_both before map [] ds = rw (append-nil before) refl
 behind_both before map (c ∷ cs) ds =
     let next = if acts before c then map_after map c.op else map in

@@ -6,7 +6,8 @@ use Rattle.std.proofs.lemmas.List.{length-append}
 use Rattle.std.proofs.lemmas.List.Folds.{list_all-append}
 use Rattle.cx_base.specs.Name.{IsName, is_name_byte}
 
-pub IsName-append : (limit : ℕ) (one other : List ℕ) → IsName limit one → IsName limit other → length one + length other ≤ limit → IsName limit (one ++ other)
+pub IsName-append : (limit : ℕ) (one other : List ℕ) → IsName limit one → IsName limit other
+    → length one + length other ≤ limit → IsName limit (one ++ other)
 IsName-append limit one other h k fits = record {
   some = omega (arith, length-append one other, h.some);
   room = omega (arith, length-append one other);

@@ -17,13 +17,16 @@ module _ (t : Table) (list : List Command) (c : Command) (is : Decides t list) w
   pub acts_new : is_new (judge_of t c.client c.seq) ≡ acts list c
   acts_new = new_unused t c.client c.seq ∙ ap not (sym (is.used c.client c.seq))
 
-  pub decides_noted : (at : ℕ) (reply : Reply) → Decides (with_answer (record { client = c.client; seq = c.seq; at = at; reply = reply }) c.floor t) (list ++ c ∷ [])
+  pub decides_noted : (at : ℕ) (reply : Reply)
+      → Decides (with_answer (record { client = c.client; seq = c.seq; at = at; reply = reply }) c.floor t)
+      (list ++ c ∷ [])
   decides_noted at reply = record {
     rising = rising_behind list t c is.rising is.used;
     used = used_noted list t c is.rising is.used at reply;
   }
 
-  pub decides_told : is_new (judge_of t c.client c.seq) ≡ false → Decides (with_told c.client c.floor t) (list ++ c ∷ [])
+  pub decides_told : is_new (judge_of t c.client c.seq) ≡ false
+      → Decides (with_told c.client c.floor t) (list ++ c ∷ [])
   decides_told old = record {
     rising = rising_behind list t c is.rising is.used;
     used = used_again list t c is.rising is.used (turned (is_used c.client c.seq t) (sym (new_unused t c.client c.seq) ∙ old));

@@ -11,8 +11,8 @@ use cx_table::{Judge, Table};
 use std::alloc::Global;
 use std::marker::Model;
 
-/// Commands in their order, of which contracts see the list. What is held is their client table, which decides at once which
-/// commands act.
+/// Commands in their order, of which contracts see the list. What is held is their client table, which decides at once
+/// which commands act.
 #[derive(Drop)]
 pub struct Executed {
     told: Told<Command>,
@@ -45,7 +45,8 @@ impl<'a> Tells<(&'a Told<Command>, &'a Command), Command> for Added {
 
 // The table of commands with one more: what that is answered is of no use here.
 fn note(table: &mut Table, command: &Command) -> Result<(), NoMemory>
-    ensures ok { OnOk result ((list : List CommandOf) → Decides table.old.table list → Decides table.new.table (list ++ command.now ∷ [])) }
+    ensures ok { OnOk result ((list : List CommandOf) → Decides table.old.table list
+        → Decides table.new.table (list ++ command.now ∷ [])) }
     ensures err { OnErr result (table.new.table ≡ table.old.table) }
 {
     let client = command.client;

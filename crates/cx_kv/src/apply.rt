@@ -7,8 +7,8 @@ use crate::pairs::Pairs;
 use cx_base::{Command, Op, Reply};
 
 impl Pairs {
-    /// Does a command's operation to the map, and answers it (this project's own operations). An append that would make a
-    /// text longer than 64 bytes is answered Full, and changes nothing. It takes no memory.
+    /// Does a command's operation to the map, and answers it (this project's own operations). An append that would make
+    /// a text longer than 64 bytes is answered Full, and changes nothing. It takes no memory.
     pub fn apply(&mut self, command: &Command) -> Reply
         requires { 0 < self.old.spare }
         ensures reply { result ≡ reply_of self.old.pairs command.now.op }

@@ -25,8 +25,8 @@ fn execute_all(
     Ok(())
 }
 
-/// Does the commands of a value to the map, in order, but for those that don't act after all before them. Out of memory, some of
-/// them may be done.
+/// Does the commands of a value to the map, in order, but for those that don't act after all before them. Out of
+/// memory, some of them may be done.
 pub fn execute(before: &mut Executed, store: &mut Store, value: &Value) -> Result<(), NoMemory>
     ensures store { OnOk result (store.new ≡ map_behind before.old store.old (commands_of value.now)) }
     ensures before { OnOk result (before.new ≡ before.old ++ commands_of value.now) }

@@ -1,6 +1,7 @@
 //! The map as pairs, with the order of their keys, and room for more keys.
 
-ghost use Rattle.std.specs.Prelude.{◌≡◌, ◌+◌, ◌++◌, ◌∷◌, ◌^◌, ◌<◌, ◌≤◌, [], length, map, slice_index_or, slice_set, OnOk, vec_capacity, vec_len};
+ghost use Rattle.std.specs.Prelude.{◌≡◌, ◌+◌, ◌++◌, ◌∷◌, ◌^◌, ◌<◌, ◌≤◌, [], OnOk};
+ghost use Rattle.std.specs.Prelude.{length, map, slice_index_or, slice_set, vec_capacity, vec_len};
 ghost use Rattle.std.specs.List.{insert, remove};
 ghost use Rattle.std.specs.Option.{option_copied};
 ghost use Rattle.cx_base.specs.declared.command.Pair.{Pair};
@@ -17,13 +18,14 @@ use std::marker::Model;
 /// How many pairs there can be.
 const MOST: usize = 1 << 32;
 
-/// A map from keys to texts, with room that was taken beforehand. Contracts see the list of its pairs in the rising order of
-/// their keys, and for how many more keys there is room.
+/// A map from keys to texts, with room that was taken beforehand. Contracts see the list of its pairs in the rising
+/// order of their keys, and for how many more keys there is room.
 #[derive(Drop)]
 pub struct Pairs {
     // The pairs as they came.
     list: Vec<Pair>,
-    // Their places there, in the rising order of their keys: so a new key moves four bytes for each one after it, and no pair.
+    // Their places there, in the rising order of their keys: so a new key moves four bytes for each one after it, and
+    // no pair.
     order: Vec<u32>,
     spare: usize,
 }
@@ -37,7 +39,8 @@ impl Model for Pairs {
 
     ghost view = { λ p. record { pairs = picked p.list.items p.order.items; spare = p.spare } };
 
-    ghost invariant = { λ p. IsOrdered p.list.items p.order.items × HasRoom (vec_len p.list) (vec_capacity p.list) (vec_len p.order) (vec_capacity p.order) p.spare };
+    ghost invariant = { λ p. IsOrdered p.list.items p.order.items
+        × HasRoom (vec_len p.list) (vec_capacity p.list) (vec_len p.order) (vec_capacity p.order) p.spare };
 }
 
 impl Pairs {
@@ -161,7 +164,8 @@ fn set_in(list: &mut Vec<Pair>, order: &mut Vec<u32>, key: &Key, text: &Text)
     requires list { vec_len list.old < vec_capacity list.old }
     requires order { vec_len order.old < vec_capacity order.old }
     requires short { vec_len list.old < 2 ^ 32 }
-    ensures pairs { picked list.new.items order.new.items ≡ with_text key.now text.now (picked list.old.items order.old.items) }
+    ensures pairs { picked list.new.items order.new.items
+        ≡ with_text key.now text.now (picked list.old.items order.old.items) }
     ensures below { AreBelow (length list.new.items) order.new.items }
     ensures list_len { vec_len list.new ≤ vec_len list.old + 1 }
     ensures order_len { vec_len order.new ≤ vec_len order.old + 1 }
@@ -216,7 +220,8 @@ fn remove_from(list: &mut Vec<Pair>, order: &mut Vec<u32>, key: &Key) -> Option<
     requires ordered { IsOrdered list.old.items order.old.items }
     requires short { vec_len list.old ≤ 2 ^ 32 }
     ensures text { result ≡ text_at key.now (picked list.old.items order.old.items) }
-    ensures pairs { picked list.new.items order.new.items ≡ without_key key.now (picked list.old.items order.old.items) }
+    ensures pairs { picked list.new.items order.new.items
+        ≡ without_key key.now (picked list.old.items order.old.items) }
     ensures below { AreBelow (length list.new.items) order.new.items }
     ensures list_len { vec_len list.new ≤ vec_len list.old }
     ensures order_len { vec_len order.new ≤ vec_len order.old }

@@ -35,8 +35,8 @@ impl Store {
         })
     }
 
-    /// Does a command's operation to the map, and answers it (this project's own operations). An append that would make a
-    /// text longer than 64 bytes is answered Full, and changes nothing.
+    /// Does a command's operation to the map, and answers it (this project's own operations). An append that would make
+    /// a text longer than 64 bytes is answered Full, and changes nothing.
     pub fn apply(&mut self, command: &Command) -> Result<Reply, NoMemory>
         ensures reply { IfOk result (λ reply. reply ≡ reply_of self.old command.now.op) }
         ensures ok { OnOk result (self.new ≡ map_after self.old command.now.op) }
@@ -53,8 +53,8 @@ impl Store {
         self.map.get(key)
     }
 
-    /// Writes the map at the end of a text: for each key in rising order a space, the key, `=` and the key's text. Out of
-    /// memory, the text is as before.
+    /// Writes the map at the end of a text: for each key in rising order a space, the key, `=` and the key's text. Out
+    /// of memory, the text is as before.
     pub fn print_into(&self, out: &mut Vec<u8>) -> Result<(), NoMemory>
         ensures ok { OnOk result (out.new.items ≡ out.old.items ++ map_text self.now) }
         ensures err { OnErr result (out.new.items ≡ out.old.items) }

@@ -8,7 +8,7 @@ use Rattle.cx_base.specs.declared.role.RoleId.{RoleId}
 use Rattle.cx_wire.specs.Format.{u16}
 use Rattle.cx_wire.proofs.Laws.{both}
 use Rattle.cx_field.specs.Fields.{slot, mark, at, seq, round, round0, grid, name, command, commands, value, reply, in_window, entries, votes, answers, found, reason, token, values}
-use Rattle.cx_msg.specs.Messages.{body_shape, answer, match_b, match_nack, match_read_ack, nack, phase1b, phase2a, pre_read, pre_read_ack, propose, read_answer, read_key, read_req, results, round_grid, round_mark, round_slot, slot_value}
+use Rattle.cx_msg.specs.Messages.{body_shape, answer, match_b, match_nack, match_read_ack, nack, phase1b, phase2a, pre_read, pre_read_ack, propose, read_answer, read_key, read_req, results, round_slot, slot_value}
 use Rattle.cx_msg.specs.Letter.{Letter, letter, senders, receivers, is_listed, fits}
 use Rattle.cx_msg.specs.LetterParts.{PartsFit}
 use Rattle.cx_msg.specs.Records.{fits as record_fits}
@@ -60,7 +60,7 @@ fitting d h =
 
 -- each part of a datagram that fits is in its range, and its roles are of its kind
 pub parts : (from to : RoleId) (m : Msg) → IsTrue (fits (letter from to m)) → PartsFit from to m
-unfolding command commands value votes round_grid match_b match_nack phase1b nack propose phase2a round_slot slot_value results answer round_mark read_req match_read_ack pre_read pre_read_ack read_key read_answer
+unfolding command commands value votes match_b match_nack phase1b nack propose phase2a round_slot slot_value results answer read_req match_read_ack pre_read pre_read_ack read_key read_answer
 parts from to (Submit c) h =
     let f = fitting (letter from to (Submit c)) h in
     (record { sent = listed_role from 1 f.from; received = listed_role to 2 f.to }, f.msg)

@@ -15,10 +15,10 @@ use Rattle.cx_field.proofs.FieldLaws.{slot-exact, mark-exact, round-exact, grid-
 vote-exact : IsExact vote
 vote-exact = ▷-exact round (slot ▷ (mark ▷ value)) round-exact (▷-exact slot (mark ▷ value) slot-exact (▷-exact mark value mark-exact value-exact))
 
-round_mark-exact : IsExact round_mark
+pub round_mark-exact : IsExact round_mark
 round_mark-exact = ▷-exact round mark round-exact mark-exact
 
-round_grid-exact : IsExact round_grid
+pub round_grid-exact : IsExact round_grid
 round_grid-exact = ▷-exact round grid round-exact grid-exact
 
 pub records-sound : AllSound record_shape record_cases

@@ -5,6 +5,7 @@ ghost use Rattle.cx_wire.specs.Format as wire;
 ghost use Rattle.cx_field.specs.Fields as field;
 ghost use Rattle.cx_field.specs.Fields.{in_window};
 ghost use Rattle.cx_msg.specs.Messages as message;
+ghost use Rattle.cx_msg.specs.Records as records;
 ghost use Rattle.cx_field.specs.Reading.{Gives, Reads};
 
 use crate::message::Msg;
@@ -24,7 +25,8 @@ pub fn body_from(
     floors: bool,
     reader: &mut Reader<'_>,
 ) -> Result<Msg, ReadFault>
-    ensures { Gives (λ m. m) result (wire.by_tag (message.cases_with floors) kind (length reader.old) reader.old) reader.new }
+    ensures { Gives (λ m. m) result
+        (wire.by_tag (message.cases_with floors) kind (length reader.old) reader.old) reader.new }
 {
     match kind {
         1 => submit_from(floors, reader),
@@ -63,14 +65,16 @@ pub fn body_from(
 }
 
 fn submit_from(floors: bool, reader: &mut Reader<'_>) -> Result<Msg, ReadFault>
-    ensures { Gives (λ m. m) result ((wire.case 1 (field.command_with floors) (λ x. Msg.Submit x)).read reader.old) reader.new }
+    ensures { Gives (λ m. m) result
+        ((wire.case 1 (field.command_with floors) (λ x. Msg.Submit x)).read reader.old) reader.new }
 {
     let command = command_from(floors, reader)?;
     Ok(Msg::Submit { command })
 }
 
 fn batch_from(alloc: Global, floors: bool, reader: &mut Reader<'_>) -> Result<Msg, ReadFault>
-    ensures { Gives (λ m. m) result ((wire.case 2 (field.commands_with floors) (λ x. Msg.Batch x)).read reader.old) reader.new }
+    ensures { Gives (λ m. m) result
+        ((wire.case 2 (field.commands_with floors) (λ x. Msg.Batch x)).read reader.old) reader.new }
 {
     let commands = commands_from(alloc, floors, reader)?;
     Ok(Msg::Batch { commands })
@@ -83,9 +87,9 @@ fn leads_from(reader: &mut Reader<'_>) -> Result<Msg, ReadFault>
     Ok(Msg::Leads { round })
 }
 
-#[tactic(auto, unfolding(crate::specs::Messages::round_grid))]
 fn match_a_from(alloc: Global, reader: &mut Reader<'_>) -> Result<Msg, ReadFault>
-    ensures { Gives (λ m. m) result ((wire.case 4 message.round_grid (λ x. Msg.MatchA x.0 x.1)).read reader.old) reader.new }
+    ensures { Gives (λ m. m) result
+        ((wire.case 4 records.round_grid (λ x. Msg.MatchA x.0 x.1)).read reader.old) reader.new }
 {
     let round = round_from(reader)?;
     let grid = grid_from(alloc, reader)?;
@@ -94,7 +98,8 @@ fn match_a_from(alloc: Global, reader: &mut Reader<'_>) -> Result<Msg, ReadFault
 
 #[tactic(auto, unfolding(crate::specs::Messages::match_b))]
 fn match_b_from(alloc: Global, reader: &mut Reader<'_>) -> Result<Msg, ReadFault>
-    ensures { Gives (λ m. m) result ((wire.case 5 message.match_b (λ x. Msg.MatchB x.0 x.1.0 x.1.1)).read reader.old) reader.new }
+    ensures { Gives (λ m. m) result
+        ((wire.case 5 message.match_b (λ x. Msg.MatchB x.0 x.1.0 x.1.1)).read reader.old) reader.new }
 {
     let round = round_from(reader)?;
     let watermark = round0_from(reader)?;
@@ -108,7 +113,9 @@ fn match_b_from(alloc: Global, reader: &mut Reader<'_>) -> Result<Msg, ReadFault
 
 #[tactic(auto, unfolding(crate::specs::Messages::match_nack))]
 fn match_nack_from(reader: &mut Reader<'_>) -> Result<Msg, ReadFault>
-    ensures { Gives (λ m. m) result ((wire.case 6 message.match_nack (λ x. Msg.MatchNack x.0 x.1.0 x.1.1)).read reader.old) reader.new }
+    ensures { Gives (λ m. m) result
+        ((wire.case 6 message.match_nack (λ x. Msg.MatchNack x.0 x.1.0 x.1.1)).read reader.old)
+        reader.new }
 {
     let round = round_from(reader)?;
     let reason = reason_from(reader)?;
@@ -129,7 +136,9 @@ fn phase1a_from(reader: &mut Reader<'_>) -> Result<Msg, ReadFault>
 
 #[tactic(auto, unfolding(crate::specs::Messages::phase1b))]
 fn phase1b_from(alloc: Global, floors: bool, reader: &mut Reader<'_>) -> Result<Msg, ReadFault>
-    ensures { Gives (λ m. m) result ((wire.case 8 (message.phase1b floors) (λ x. Msg.Phase1B x.0 x.1.0 x.1.1)).read reader.old) reader.new }
+    ensures { Gives (λ m. m) result
+        ((wire.case 8 (message.phase1b floors) (λ x. Msg.Phase1B x.0 x.1.0 x.1.1)).read reader.old)
+        reader.new }
 {
     let round = round_from(reader)?;
     let cw = mark_from(reader)?;
@@ -160,7 +169,9 @@ fn window_from(slot: u64, reader: &mut Reader<'_>) -> Result<u64, ReadFault>
 
 #[tactic(auto, unfolding(crate::specs::Messages::propose))]
 fn propose_from(alloc: Global, floors: bool, reader: &mut Reader<'_>) -> Result<Msg, ReadFault>
-    ensures { Gives (λ m. m) result ((wire.case 10 (message.propose floors) (λ x. Msg.Propose x.0 x.1.0 x.1.1.0 x.1.1.1.0 x.1.1.1.1)).read reader.old) reader.new }
+    ensures { Gives (λ m. m) result
+        ((wire.case 10 (message.propose floors)
+        (λ x. Msg.Propose x.0 x.1.0 x.1.1.0 x.1.1.1.0 x.1.1.1.1)).read reader.old) reader.new }
 {
     let round = round_from(reader)?;
     let grid = grid_from(alloc, reader)?;
@@ -178,7 +189,9 @@ fn propose_from(alloc: Global, floors: bool, reader: &mut Reader<'_>) -> Result<
 
 #[tactic(auto, unfolding(crate::specs::Messages::phase2a))]
 fn phase2a_from(alloc: Global, floors: bool, reader: &mut Reader<'_>) -> Result<Msg, ReadFault>
-    ensures { Gives (λ m. m) result ((wire.case 11 (message.phase2a floors) (λ x. Msg.Phase2A x.0 x.1.0 x.1.1.0 x.1.1.1)).read reader.old) reader.new }
+    ensures { Gives (λ m. m) result
+        ((wire.case 11 (message.phase2a floors) (λ x. Msg.Phase2A x.0 x.1.0 x.1.1.0 x.1.1.1)).read
+        reader.old) reader.new }
 {
     let round = round_from(reader)?;
     let slot = slot_from(reader)?;
@@ -194,7 +207,8 @@ fn phase2a_from(alloc: Global, floors: bool, reader: &mut Reader<'_>) -> Result<
 
 #[tactic(auto, unfolding(crate::specs::Messages::round_slot))]
 fn phase2b_from(reader: &mut Reader<'_>) -> Result<Msg, ReadFault>
-    ensures { Gives (λ m. m) result ((wire.case 12 message.round_slot (λ x. Msg.Phase2B x.0 x.1)).read reader.old) reader.new }
+    ensures { Gives (λ m. m) result
+        ((wire.case 12 message.round_slot (λ x. Msg.Phase2B x.0 x.1)).read reader.old) reader.new }
 {
     let round = round_from(reader)?;
     let slot = slot_from(reader)?;
@@ -203,7 +217,9 @@ fn phase2b_from(reader: &mut Reader<'_>) -> Result<Msg, ReadFault>
 
 #[tactic(auto, unfolding(crate::specs::Messages::slot_value))]
 fn chosen_from(alloc: Global, floors: bool, reader: &mut Reader<'_>) -> Result<Msg, ReadFault>
-    ensures { Gives (λ m. m) result ((wire.case 13 (message.slot_value floors) (λ x. Msg.Chosen x.0 x.1)).read reader.old) reader.new }
+    ensures { Gives (λ m. m) result
+        ((wire.case 13 (message.slot_value floors) (λ x. Msg.Chosen x.0 x.1)).read reader.old)
+        reader.new }
 {
     let slot = slot_from(reader)?;
     let value = value_from(alloc, floors, reader)?;
@@ -212,7 +228,8 @@ fn chosen_from(alloc: Global, floors: bool, reader: &mut Reader<'_>) -> Result<M
 
 #[tactic(auto, unfolding(crate::specs::Messages::round_slot))]
 fn chosen_in_from(reader: &mut Reader<'_>) -> Result<Msg, ReadFault>
-    ensures { Gives (λ m. m) result ((wire.case 14 message.round_slot (λ x. Msg.ChosenIn x.0 x.1)).read reader.old) reader.new }
+    ensures { Gives (λ m. m) result
+        ((wire.case 14 message.round_slot (λ x. Msg.ChosenIn x.0 x.1)).read reader.old) reader.new }
 {
     let round = round_from(reader)?;
     let slot = slot_from(reader)?;
@@ -221,7 +238,8 @@ fn chosen_in_from(reader: &mut Reader<'_>) -> Result<Msg, ReadFault>
 
 #[tactic(auto, unfolding(crate::specs::Messages::results))]
 fn results_from(alloc: Global, reader: &mut Reader<'_>) -> Result<Msg, ReadFault>
-    ensures { Gives (λ m. m) result ((wire.case 15 message.results (λ x. Msg.Results x.0 x.1)).read reader.old) reader.new }
+    ensures { Gives (λ m. m) result
+        ((wire.case 15 message.results (λ x. Msg.Results x.0 x.1)).read reader.old) reader.new }
 {
     let slot = slot_from(reader)?;
     let answers = answers_from(alloc, reader)?;
@@ -230,7 +248,8 @@ fn results_from(alloc: Global, reader: &mut Reader<'_>) -> Result<Msg, ReadFault
 
 #[tactic(auto, unfolding(crate::specs::Messages::answer))]
 fn answer_from(reader: &mut Reader<'_>) -> Result<Msg, ReadFault>
-    ensures { Gives (λ m. m) result ((wire.case 16 message.answer (λ x. Msg.Answer x.0 x.1.0 x.1.1)).read reader.old) reader.new }
+    ensures { Gives (λ m. m) result
+        ((wire.case 16 message.answer (λ x. Msg.Answer x.0 x.1.0 x.1.1)).read reader.old) reader.new }
 {
     let seq = seq_from(reader)?;
     let at = at_from(reader)?;
@@ -252,27 +271,27 @@ fn fetch_from(reader: &mut Reader<'_>) -> Result<Msg, ReadFault>
     Ok(Msg::Fetch { mark })
 }
 
-#[tactic(auto, unfolding(crate::specs::Messages::round_mark))]
 fn inform_from(reader: &mut Reader<'_>) -> Result<Msg, ReadFault>
-    ensures { Gives (λ m. m) result ((wire.case 19 message.round_mark (λ x. Msg.Inform x.0 x.1)).read reader.old) reader.new }
+    ensures { Gives (λ m. m) result
+        ((wire.case 19 records.round_mark (λ x. Msg.Inform x.0 x.1)).read reader.old) reader.new }
 {
     let round = round_from(reader)?;
     let mark = mark_from(reader)?;
     Ok(Msg::Inform { round, mark })
 }
 
-#[tactic(auto, unfolding(crate::specs::Messages::round_mark))]
 fn informed_from(reader: &mut Reader<'_>) -> Result<Msg, ReadFault>
-    ensures { Gives (λ m. m) result ((wire.case 20 message.round_mark (λ x. Msg.Informed x.0 x.1)).read reader.old) reader.new }
+    ensures { Gives (λ m. m) result
+        ((wire.case 20 records.round_mark (λ x. Msg.Informed x.0 x.1)).read reader.old) reader.new }
 {
     let round = round_from(reader)?;
     let mark = mark_from(reader)?;
     Ok(Msg::Informed { round, mark })
 }
 
-#[tactic(auto, unfolding(crate::specs::Messages::round_grid))]
 fn garbage_a_from(alloc: Global, reader: &mut Reader<'_>) -> Result<Msg, ReadFault>
-    ensures { Gives (λ m. m) result ((wire.case 21 message.round_grid (λ x. Msg.GarbageA x.0 x.1)).read reader.old) reader.new }
+    ensures { Gives (λ m. m) result
+        ((wire.case 21 records.round_grid (λ x. Msg.GarbageA x.0 x.1)).read reader.old) reader.new }
 {
     let round = round_from(reader)?;
     let grid = grid_from(alloc, reader)?;
@@ -288,7 +307,9 @@ fn garbage_b_from(reader: &mut Reader<'_>) -> Result<Msg, ReadFault>
 
 #[tactic(auto, unfolding(crate::specs::Messages::read_req))]
 fn read_req_from(reader: &mut Reader<'_>) -> Result<Msg, ReadFault>
-    ensures { Gives (λ m. m) result ((wire.case 23 message.read_req (λ x. Msg.ReadReq x.0 x.1.0 x.1.1)).read reader.old) reader.new }
+    ensures { Gives (λ m. m) result
+        ((wire.case 23 message.read_req (λ x. Msg.ReadReq x.0 x.1.0 x.1.1)).read reader.old)
+        reader.new }
 {
     let seq = seq_from(reader)?;
     let replica = reader.u16()?;
@@ -305,7 +326,9 @@ fn match_read_from(reader: &mut Reader<'_>) -> Result<Msg, ReadFault>
 
 #[tactic(auto, unfolding(crate::specs::Messages::match_read_ack))]
 fn match_read_ack_from(alloc: Global, reader: &mut Reader<'_>) -> Result<Msg, ReadFault>
-    ensures { Gives (λ m. m) result ((wire.case 25 message.match_read_ack (λ x. Msg.MatchReadAck x.0 x.1.0 x.1.1)).read reader.old) reader.new }
+    ensures { Gives (λ m. m) result
+        ((wire.case 25 message.match_read_ack (λ x. Msg.MatchReadAck x.0 x.1.0 x.1.1)).read reader.old)
+        reader.new }
 {
     let token = token_from(reader)?;
     let watermark = round0_from(reader)?;
@@ -319,7 +342,8 @@ fn match_read_ack_from(alloc: Global, reader: &mut Reader<'_>) -> Result<Msg, Re
 
 #[tactic(auto, unfolding(crate::specs::Messages::pre_read))]
 fn pre_read_from(reader: &mut Reader<'_>) -> Result<Msg, ReadFault>
-    ensures { Gives (λ m. m) result ((wire.case 26 message.pre_read (λ x. Msg.PreRead x.0 x.1)).read reader.old) reader.new }
+    ensures { Gives (λ m. m) result
+        ((wire.case 26 message.pre_read (λ x. Msg.PreRead x.0 x.1)).read reader.old) reader.new }
 {
     let token = token_from(reader)?;
     let watermark = round0_from(reader)?;
@@ -328,7 +352,9 @@ fn pre_read_from(reader: &mut Reader<'_>) -> Result<Msg, ReadFault>
 
 #[tactic(auto, unfolding(crate::specs::Messages::pre_read_ack))]
 fn pre_read_ack_from(reader: &mut Reader<'_>) -> Result<Msg, ReadFault>
-    ensures { Gives (λ m. m) result ((wire.case 27 message.pre_read_ack (λ x. Msg.PreReadAck x.0 x.1.0 x.1.1)).read reader.old) reader.new }
+    ensures { Gives (λ m. m) result
+        ((wire.case 27 message.pre_read_ack (λ x. Msg.PreReadAck x.0 x.1.0 x.1.1)).read reader.old)
+        reader.new }
 {
     let token = token_from(reader)?;
     let watermark = round0_from(reader)?;
@@ -342,7 +368,8 @@ fn pre_read_ack_from(reader: &mut Reader<'_>) -> Result<Msg, ReadFault>
 
 #[tactic(auto, unfolding(crate::specs::Messages::read_key))]
 fn read_from(reader: &mut Reader<'_>) -> Result<Msg, ReadFault>
-    ensures { Gives (λ m. m) result ((wire.case 28 message.read_key (λ x. Msg.Read x.0 x.1.0 x.1.1)).read reader.old) reader.new }
+    ensures { Gives (λ m. m) result
+        ((wire.case 28 message.read_key (λ x. Msg.Read x.0 x.1.0 x.1.1)).read reader.old) reader.new }
 {
     let token = token_from(reader)?;
     let mark = mark_from(reader)?;
@@ -352,7 +379,9 @@ fn read_from(reader: &mut Reader<'_>) -> Result<Msg, ReadFault>
 
 #[tactic(auto, unfolding(crate::specs::Messages::read_answer))]
 fn read_answer_from(reader: &mut Reader<'_>) -> Result<Msg, ReadFault>
-    ensures { Gives (λ m. m) result ((wire.case 29 message.read_answer (λ x. Msg.ReadAnswer x.0 x.1.0 x.1.1)).read reader.old) reader.new }
+    ensures { Gives (λ m. m) result
+        ((wire.case 29 message.read_answer (λ x. Msg.ReadAnswer x.0 x.1.0 x.1.1)).read reader.old)
+        reader.new }
 {
     let seq = seq_from(reader)?;
     let mark = mark_from(reader)?;

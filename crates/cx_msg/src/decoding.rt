@@ -36,7 +36,10 @@ fn finish(
 ) -> Result<Parts, WireFault>
     requires from { header.now.from ≤ 9 }
     requires to { header.now.to ≤ 9 }
-    ensures { DecodesParts result (finished all header.now (by_tag (cases_with (header.now.version == 2)) header.now.kind (length reader.old) reader.old)) }
+    ensures { DecodesParts result
+        (finished all header.now
+        (by_tag (cases_with (header.now.version == 2)) header.now.kind (length reader.old)
+        reader.old)) }
 {
     match body_from(header.kind, alloc, header.version == 2, reader) {
         Ok(msg) => {
@@ -149,5 +152,6 @@ pub fn decode(alloc: Global, bytes: &[u8]) -> Result<Datagram, WireFault>
 
 /// No datagram's bytes begin another's.
 pub fn one_spelling()
-    ensures { (d e : Letter) (more : List ℕ) → IsTrue (fits d) → IsTrue (fits e) → spelling d ++ more ≡ spelling e → (d ≡ e) × (more ≡ []) }
+    ensures { (d e : Letter) (more : List ℕ) → IsTrue (fits d) → IsTrue (fits e)
+        → spelling d ++ more ≡ spelling e → (d ≡ e) × (more ≡ []) }
 {}

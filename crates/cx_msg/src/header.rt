@@ -51,7 +51,8 @@ pub fn header_from(reader: &mut Reader<'_>) -> Result<Header, ReadFault>
 }
 
 fn put_front(out: &mut Vec<u8>, magic: u16, version: u8, kind: u8) -> Result<(), NoMemory>
-    ensures { OnOk result (Appends (wire.u16 ▷ (wire.u8 ▷ wire.u8)) (magic, (version, kind)) 4 out.old.items out.new.items) }
+    ensures { OnOk result (Appends (wire.u16 ▷ (wire.u8 ▷ wire.u8)) (magic, (version, kind)) 4
+        out.old.items out.new.items) }
 {
     put_u16(out, magic)?;
     put_u8(out, version)?;

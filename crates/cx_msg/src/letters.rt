@@ -49,7 +49,7 @@ pub fn leads(leader: u16, batcher: u16, round: Round) -> Datagram
 }
 
 /// A leader's question whether a matchmaker records its round.
-#[tactic(auto, unfolding(crate::specs::Messages::round_grid, cx_wire::specs::Format::u16))]
+#[tactic(auto, unfolding(cx_wire::specs::Format::u16))]
 pub fn match_a(leader: u16, matchmaker: u16, round: Round, grid: Grid) -> Datagram
     requires round { IsTrue (field.round.fits round) }
     ensures { result ≡ letter (role Kind.Leader leader) (role Kind.Matchmaker matchmaker) (Msg.MatchA round grid) }
@@ -72,7 +72,8 @@ pub fn match_b(
     requires round { IsTrue (field.round.fits round) }
     requires watermark { IsTrue (field.round0.fits watermark) }
     requires entries { IsTrue (field.entries.fits entries) }
-    ensures { result ≡ letter (role Kind.Matchmaker matchmaker) (role Kind.Leader leader) (Msg.MatchB round watermark entries) }
+    ensures { result ≡ letter (role Kind.Matchmaker matchmaker) (role Kind.Leader leader)
+        (Msg.MatchB round watermark entries) }
 {
     let from = RoleId::new(Kind::Matchmaker, matchmaker);
     let to = RoleId::new(Kind::Leader, leader);
@@ -98,7 +99,8 @@ pub fn match_nack(
 ) -> Datagram
     requires round { IsTrue (field.round.fits round) }
     requires other { IsTrue (field.round.fits other) }
-    ensures { result ≡ letter (role Kind.Matchmaker matchmaker) (role Kind.Leader leader) (Msg.MatchNack round reason other) }
+    ensures { result ≡ letter (role Kind.Matchmaker matchmaker) (role Kind.Leader leader)
+        (Msg.MatchNack round reason other) }
 {
     reason_fits(reason);
     let from = RoleId::new(Kind::Matchmaker, matchmaker);
@@ -311,7 +313,7 @@ pub fn fetch(replica: u16, other: u16, mark: u64) -> Datagram
 }
 
 /// A leader's word to an acceptor that enough replicas hold `mark` slots.
-#[tactic(auto, unfolding(crate::specs::Messages::round_mark, cx_wire::specs::Format::u16))]
+#[tactic(auto, unfolding(cx_wire::specs::Format::u16))]
 pub fn inform(leader: u16, acceptor: u16, round: Round, mark: u64) -> Datagram
     requires round { IsTrue (field.round.fits round) }
     requires mark { IsTrue (field.mark.fits mark) }
@@ -323,7 +325,7 @@ pub fn inform(leader: u16, acceptor: u16, round: Round, mark: u64) -> Datagram
 }
 
 /// An acceptor's word that it knows how many slots enough replicas hold.
-#[tactic(auto, unfolding(crate::specs::Messages::round_mark, cx_wire::specs::Format::u16))]
+#[tactic(auto, unfolding(cx_wire::specs::Format::u16))]
 pub fn informed(acceptor: u16, leader: u16, round: Round, mark: u64) -> Datagram
     requires round { IsTrue (field.round.fits round) }
     requires mark { IsTrue (field.mark.fits mark) }
@@ -335,7 +337,7 @@ pub fn informed(acceptor: u16, leader: u16, round: Round, mark: u64) -> Datagram
 }
 
 /// A leader's question whether a matchmaker forgets the rounds below its own.
-#[tactic(auto, unfolding(crate::specs::Messages::round_grid, cx_wire::specs::Format::u16))]
+#[tactic(auto, unfolding(cx_wire::specs::Format::u16))]
 pub fn garbage_a(leader: u16, matchmaker: u16, round: Round, grid: Grid) -> Datagram
     requires round { IsTrue (field.round.fits round) }
     ensures { result ≡ letter (role Kind.Leader leader) (role Kind.Matchmaker matchmaker) (Msg.GarbageA round grid) }

@@ -2,6 +2,7 @@
 
 ghost use Rattle.std.specs.Prelude.{◌≡◌, ◌≤◌, ◌+◌, ◌++◌, true, length, OnOk};
 ghost use Rattle.cx_msg.specs.Messages as message;
+ghost use Rattle.cx_msg.specs.Records as records;
 ghost use Rattle.cx_wire.specs.Format.{Appends};
 
 use crate::message::Msg;
@@ -50,9 +51,8 @@ pub fn kind_of(msg: &Msg) -> u8
     }
 }
 
-#[tactic(auto, unfolding(crate::specs::Messages::round_grid))]
 fn put_round_grid(out: &mut Vec<u8>, round: &Round, grid: &Grid) -> Result<(), NoMemory>
-    ensures { OnOk result (Appends message.round_grid (round.now, grid.now) 44 out.old.items out.new.items) }
+    ensures { OnOk result (Appends records.round_grid (round.now, grid.now) 44 out.old.items out.new.items) }
 {
     put_round(out, round)?;
     put_grid(out, grid)
@@ -66,9 +66,8 @@ fn put_round_slot(out: &mut Vec<u8>, round: &Round, slot: u64) -> Result<(), NoM
     put_slot(out, slot)
 }
 
-#[tactic(auto, unfolding(crate::specs::Messages::round_mark))]
 fn put_round_mark(out: &mut Vec<u8>, round: &Round, mark: u64) -> Result<(), NoMemory>
-    ensures { OnOk result (Appends message.round_mark (round.now, mark) 18 out.old.items out.new.items) }
+    ensures { OnOk result (Appends records.round_mark (round.now, mark) 18 out.old.items out.new.items) }
 {
     put_round(out, round)?;
     put_mark(out, mark)
@@ -81,7 +80,8 @@ fn put_match_b(
     watermark: &Round,
     entries: &Entries,
 ) -> Result<(), NoMemory>
-    ensures { OnOk result (Appends message.match_b (round.now, (watermark.now, entries.now)) 769 out.old.items out.new.items) }
+    ensures { OnOk result (Appends message.match_b (round.now, (watermark.now, entries.now)) 769
+        out.old.items out.new.items) }
 {
     put_round(out, round)?;
     put_round(out, watermark)?;
@@ -104,7 +104,8 @@ fn put_match_nack(
 
 #[tactic(auto, unfolding(crate::specs::Messages::phase1b, cx_field::specs::Fields::votes))]
 fn put_phase1b(out: &mut Vec<u8>, round: &Round, cw: u64, votes: &Votes) -> Result<(), NoMemory>
-    ensures { OnOk result (Appends (message.phase1b true) (round.now, (cw, votes.now)) 30611 out.old.items out.new.items) }
+    ensures { OnOk result (Appends (message.phase1b true) (round.now, (cw, votes.now)) 30611
+        out.old.items out.new.items) }
 {
     put_round(out, round)?;
     put_mark(out, cw)?;
@@ -120,7 +121,8 @@ fn put_propose(
     cw: u64,
     value: &Value,
 ) -> Result<(), NoMemory>
-    ensures { OnOk result (Appends (message.propose true) (round.now, (grid.now, (slot, (cw, value.now)))) 998 out.old.items out.new.items) }
+    ensures { OnOk result (Appends (message.propose true)
+        (round.now, (grid.now, (slot, (cw, value.now)))) 998 out.old.items out.new.items) }
 {
     put_round(out, round)?;
     put_grid(out, grid)?;
@@ -137,7 +139,8 @@ fn put_phase2a(
     cw: u64,
     value: &Value,
 ) -> Result<(), NoMemory>
-    ensures { OnOk result (Appends (message.phase2a true) (round.now, (slot, (cw, value.now))) 964 out.old.items out.new.items) }
+    ensures { OnOk result (Appends (message.phase2a true) (round.now, (slot, (cw, value.now))) 964
+        out.old.items out.new.items) }
 {
     put_round(out, round)?;
     put_slot(out, slot)?;
@@ -194,7 +197,8 @@ fn put_match_read_ack(
     watermark: &Round,
     entries: &Entries,
 ) -> Result<(), NoMemory>
-    ensures { OnOk result (Appends message.match_read_ack (token.now, (watermark.now, entries.now)) 769 out.old.items out.new.items) }
+    ensures { OnOk result (Appends message.match_read_ack (token.now, (watermark.now, entries.now)) 769
+        out.old.items out.new.items) }
 {
     put_token(out, token)?;
     put_round(out, watermark)?;
@@ -216,7 +220,8 @@ fn put_pre_read_ack(
     watermark: &Round,
     mark: u64,
 ) -> Result<(), NoMemory>
-    ensures { OnOk result (Appends message.pre_read_ack (token.now, (watermark.now, mark)) 28 out.old.items out.new.items) }
+    ensures { OnOk result (Appends message.pre_read_ack (token.now, (watermark.now, mark)) 28
+        out.old.items out.new.items) }
 {
     put_token(out, token)?;
     put_round(out, watermark)?;

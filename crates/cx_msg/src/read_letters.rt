@@ -46,7 +46,8 @@ pub fn match_read_ack(
     requires token { IsTrue (field.token.fits token) }
     requires watermark { IsTrue (field.round0.fits watermark) }
     requires entries { IsTrue (field.entries.fits entries) }
-    ensures { result ≡ letter (role Kind.Matchmaker matchmaker) (role Kind.Reader reader) (Msg.MatchReadAck token watermark entries) }
+    ensures { result ≡ letter (role Kind.Matchmaker matchmaker) (role Kind.Reader reader)
+        (Msg.MatchReadAck token watermark entries) }
 {
     let from = RoleId::new(Kind::Matchmaker, matchmaker);
     let to = RoleId::new(Kind::Reader, reader);
@@ -85,7 +86,8 @@ pub fn pre_read_ack(
     requires token { IsTrue (field.token.fits token) }
     requires watermark { IsTrue (field.round0.fits watermark) }
     requires mark { IsTrue (field.mark.fits mark) }
-    ensures { result ≡ letter (role Kind.Acceptor acceptor) (role Kind.Reader reader) (Msg.PreReadAck token watermark mark) }
+    ensures { result ≡ letter (role Kind.Acceptor acceptor) (role Kind.Reader reader)
+        (Msg.PreReadAck token watermark mark) }
 {
     let from = RoleId::new(Kind::Acceptor, acceptor);
     let to = RoleId::new(Kind::Reader, reader);

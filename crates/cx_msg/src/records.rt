@@ -113,7 +113,8 @@ pub fn record_from(alloc: Global, bytes: &[u8]) -> Result<Record, WireFault>
     // What is read is spelled so, and has a spelling.
     ensures found { IfOk result (λ r. (bytes.now ≡ records.spelling r) × IsTrue (records.fits r)) }
     // What is spelled so is read, unless memory runs out.
-    ensures only { (r : Kept) → IsTrue (records.fits r) → bytes.now ≡ records.spelling r → records.Decodes result (Ok r) }
+    ensures only { (r : Kept) → IsTrue (records.fits r) → bytes.now ≡ records.spelling r
+        → records.Decodes result (Ok r) }
     // Which fault it is.
     ensures exact { records.Decodes result (records.recorded bytes.now) }
     // Where it lies.

@@ -2,7 +2,6 @@
 
 ghost use Rattle.std.specs.Prelude.{◌≡◌, ◌≤◌, ◌+◌, ◌++◌, IfOk, OnOk, drop, length, slice_index};
 ghost use Rattle.cx_msg.specs.Letter.{body};
-ghost use Rattle.cx_msg.specs.Messages.{body_shape};
 ghost use Rattle.cx_msg.specs.Names.{name_of_message};
 ghost use Rattle.cx_msg.specs.Spelled.{IsShort, letter_of, role_at, role_bytes, short};
 
@@ -69,13 +68,6 @@ impl<'a> Spelled<'a> {
             to: role_at(bytes, 4),
             body: after(bytes, 7),
         }
-    }
-
-    /// Its kind's number on the wire, from 1 to 29.
-    pub fn kind(&self) -> u8
-        ensures { result ≡ (body_shape self.now.msg).tag }
-    {
-        self.kind
     }
 
     /// Its message's name in texts.

@@ -1,5 +1,6 @@
 -- Values that wait, as the values of a window.
-use Rattle.std.proofs.Common.{◌≡◌, ℕ, ◌==◌, inl, inr, true, false, List, [], ◌∷◌, ◌++◌, Option, Some, None, option_map, refl, ap, sym, ◌∙◌}
+use Rattle.std.proofs.Common.{◌≡◌, ℕ, ◌==◌, inl, inr, true, false, List, [], ◌∷◌, ◌++◌, Option, Some, None, option_map}
+use Rattle.std.proofs.Common.{refl, ap, sym, ◌∙◌}
 use Rattle.std.proofs.lemmas.Bool.{cases_Bool}
 use Rattle.cx_base.specs.Log.{value_for}
 use Rattle.cx_base.specs.declared.command.Value.{Value}
@@ -10,14 +11,16 @@ use Rattle.cx_rlog.specs.Taken.{waiting_with}
 abbrev slot_of : Placed → ℕ
 slot_of p = p.slot
 
-pub value_for-at : (slot : ℕ) (early : List Placed) → value_for slot early ≡ option_map (λ (p : Placed). p.value) (value_at (λ (p : Placed). p.slot) slot early)
+pub value_for-at : (slot : ℕ) (early : List Placed)
+    → value_for slot early ≡ option_map (λ (p : Placed). p.value) (value_at (λ (p : Placed). p.slot) slot early)
 value_for-at slot [] = refl
 value_for-at slot (p ∷ early) = elim (cases_Bool (p.slot == slot)) as (λ _. value_for slot (p ∷ early) ≡ option_map (λ (q : Placed). q.value) (value_at (λ (q : Placed). q.slot) slot (p ∷ early))) [
   | inl e ↦ rw e refl
   | inr e ↦ rw e (value_for-at slot early)
 ]
 
-pub with_value-waiting : (one : Placed) (early : List Placed) → value_for one.slot early ≡ None → with_value (λ (p : Placed). p.slot) one early ≡ early ++ one ∷ []
+pub with_value-waiting : (one : Placed) (early : List Placed) → value_for one.slot early ≡ None
+    → with_value (λ (p : Placed). p.slot) one early ≡ early ++ one ∷ []
 with_value-waiting one [] none = refl
 with_value-waiting one (p ∷ early) none = elim (cases_Bool (p.slot == one.slot)) as (λ _. with_value (λ (q : Placed). q.slot) one (p ∷ early) ≡ p ∷ early ++ one ∷ []) [
   | inl e ↦ absurd (some_none p.value (rw e at none))

@@ -1,5 +1,6 @@
 -- Values that wait stay above the slots held.
-use Rattle.std.proofs.Common.{◌≡◌, ℕ, zero, suc, ◌+◌, ◌-◌, ◌^◌, ◌≤◌, ◌⊎◌, inl, inr, ◌==◌, nat_le, List, [], ◌∷◌, ◌++◌, length, refl, ap, add-zero, arith, Option, Some, None, min}
+use Rattle.std.proofs.Common.{◌≡◌, ℕ, zero, suc, ◌+◌, ◌-◌, ◌^◌, ◌≤◌, ◌⊎◌, inl, inr, ◌==◌, nat_le, List, [], ◌∷◌, ◌++◌}
+use Rattle.std.proofs.Common.{length, refl, ap, add-zero, arith, Option, Some, None, min}
 use Rattle.std.proofs.lemmas.Bool.{cases_Bool, leb-true, eqb-false}
 use Rattle.cx_base.specs.Log.{following, ready_values, still_early, value_for}
 use Rattle.cx_base.specs.declared.command.Value.{Value}
@@ -7,18 +8,21 @@ use Rattle.cx_base.specs.declared.command.Placed.{Placed}
 use Rattle.cx_rlog.specs.State.{AreEarly, IsEarly, IsReady, LogState}
 use Rattle.cx_rlog.specs.Taken.{waiting_with}
 
-AreEarly-push : (held : ℕ) (early : List Placed) (p : Placed) → AreEarly held early → IsEarly held p → AreEarly held (early ++ p ∷ [])
+AreEarly-push : (held : ℕ) (early : List Placed) (p : Placed) → AreEarly held early → IsEarly held p
+    → AreEarly held (early ++ p ∷ [])
 AreEarly-push held [] p h k = (k, tt)
 AreEarly-push held (q ∷ early) p h k = (h.0, AreEarly-push held early p h.1 k)
 
 -- one more value waits
-pub AreEarly-waiting : (held slot : ℕ) (v : Value) (early : List Placed) (first : Option Value) → AreEarly held early → IsEarly held (record { slot = slot; value = v })
+pub AreEarly-waiting : (held slot : ℕ) (v : Value) (early : List Placed) (first : Option Value) → AreEarly held early
+    → IsEarly held (record { slot = slot; value = v })
     → AreEarly held (waiting_with first slot v early)
 AreEarly-waiting held slot v early None h k = AreEarly-push held early (record { slot = slot; value = v }) h k
 AreEarly-waiting held slot v early (Some w) h k = h
 
 -- none waits for a slot at the end of what may wait
-kept_end : (held new : ℕ) (early : List Placed) → AreEarly held early → held ≤ new → (held + 32 ≤ new) ⊎ (2 ^ 40 ≤ new) → AreEarly new (still_early new early)
+kept_end : (held new : ℕ) (early : List Placed) → AreEarly held early → held ≤ new → (held + 32 ≤ new) ⊎ (2 ^ 40 ≤ new)
+    → AreEarly new (still_early new early)
 kept_end held new [] h l e = tt
 kept_end held new (p ∷ early) h l e = elim (cases_Bool (nat_le new p.slot)) as (λ _. AreEarly new (still_early new (p ∷ early))) [
   | inl t ↦ absurd (elim e [ inl a ↦ omega (arith, leb-true new p.slot t, h.0.near) | inr a ↦ omega (arith, leb-true new p.slot t, h.0.real) ])
@@ -29,7 +33,8 @@ some_none : (v : Value) → Some v ≡ None → ⊥
 some_none v e = cc
 
 -- none waits for a slot that has no value
-kept_gap : (held new : ℕ) (early : List Placed) → AreEarly held early → held ≤ new → value_for new early ≡ None → AreEarly new (still_early new early)
+kept_gap : (held new : ℕ) (early : List Placed) → AreEarly held early → held ≤ new → value_for new early ≡ None
+    → AreEarly new (still_early new early)
 kept_gap held new [] h l e = tt
 kept_gap held new (p ∷ early) h l e = elim (cases_Bool (p.slot == new)) as (λ _. AreEarly new (still_early new (p ∷ early))) [
   | inl same ↦ absurd (some_none p.value (rw same at e))
@@ -45,8 +50,10 @@ kept_gap held new (p ∷ early) h l e = elim (cases_Bool (p.slot == new)) as (λ
 
 -- the values that follow end at their greatest number, or before a slot for which none waits
 following_step : (early : List Placed) (slot most : ℕ) (v : Option Value) → value_for slot early ≡ v
-    → ((length (following early (slot + 1) most) ≡ most) ⊎ (value_for (slot + 1 + length (following early (slot + 1) most)) early ≡ None))
-    → (length (following early slot (suc most)) ≡ suc most) ⊎ (value_for (slot + length (following early slot (suc most))) early ≡ None)
+    → ((length (following early (slot + 1) most) ≡ most)
+    ⊎ (value_for (slot + 1 + length (following early (slot + 1) most)) early ≡ None))
+    → (length (following early slot (suc most)) ≡ suc most)
+    ⊎ (value_for (slot + length (following early slot (suc most))) early ≡ None)
 following_step early slot most None e h = inr (rw e (rw add-zero e))
 following_step early slot most (Some v) e (inl h) = inl (rw e (ap suc h))
 following_step early slot most (Some v) e (inr h) =
@@ -58,7 +65,8 @@ following_stops early slot zero = inl refl
 following_stops early slot (suc most) = following_step early slot most (value_for slot early) refl (following_stops early (slot + 1) most)
 
 -- what still waits after the values that were ready
-pub ready_waiting : (s : LogState) (values : List Value) (held new : ℕ) → held ≡ length s.list → IsReady s values → AreEarly held s.early
+pub ready_waiting : (s : LogState) (values : List Value) (held new : ℕ) → held ≡ length s.list → IsReady s values
+    → AreEarly held s.early
     → new ≡ held + length values → new ≤ 2 ^ 40 → AreEarly new (still_early new s.early)
 ready_waiting s [] held new e h waiting n short = absurd h
 ready_waiting s (v ∷ later) held new e h waiting n short =
@@ -72,6 +80,8 @@ ready_waiting s (v ∷ later) held new e h waiting n short =
           kept_gap held new s.early waiting (omega arith) (rw at gap)
     ]
   where
-    end : length (following s.early (held + 1) (min 31 (1099511627776 - (held + 1)))) ≡ min 31 (1099511627776 - (held + 1))
-        → suc (length later) ≡ suc (length (following s.early (held + 1) (min 31 (1099511627776 - (held + 1))))) → (held + 32 ≤ new) ⊎ (2 ^ 40 ≤ new)
+    end : length (following s.early (held + 1) (min 31 (1099511627776 - (held + 1))))
+        ≡ min 31 (1099511627776 - (held + 1))
+        → suc (length later) ≡ suc (length (following s.early (held + 1) (min 31 (1099511627776 - (held + 1)))))
+        → (held + 32 ≤ new) ⊎ (2 ^ 40 ≤ new)
     end full count = grind arith

@@ -13,7 +13,8 @@ op_of Put key text = op.Put key text
 op_of Del key text = op.Del key
 op_of App key text = op.App key text
 
--- the command whose floor is the number before its own, whose key is the first bytes, this many, and whose text is the others
+-- the command whose floor is the number before its own, whose key is the first bytes, this many, and whose text is the
+-- others
 abbrev pub command_of : ℕ → ℕ → Verb → ℕ → List ℕ → Command
 command_of client seq verb middle bytes =
     record { client = client; seq = seq; floor = seq - 1; op = op_of verb (take middle bytes) (drop middle bytes) }

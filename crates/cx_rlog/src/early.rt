@@ -40,7 +40,8 @@ pub fn value_for(early: &Early, slot: u64) -> Option<&Value>
 /// Lets a value wait, where none waits for its slot.
 pub fn wait(alloc: Global, early: &mut Early, slot: u64, value: &Value) -> Result<(), NoMemory>
     requires { IsNear early.old.first slot }
-    ensures ok { OnOk result (early.new.items ≡ waiting_with (value_for slot early.old.items) slot value.now early.old.items) }
+    ensures ok { OnOk result (early.new.items
+        ≡ waiting_with (value_for slot early.old.items) slot value.now early.old.items) }
     ensures err { OnErr result (early.new.items ≡ early.old.items) }
     ensures first { early.new.first ≡ early.old.first }
 {

@@ -33,7 +33,8 @@ impl Model for Log {
 
     ghost view = { λ log. record { list = log.list.items; early = log.early.items; spare = log.spare } };
 
-    ghost invariant = { λ log. IsLog (vec_len log.list) (vec_capacity log.list) log.spare log.early.first log.early.items };
+    ghost invariant = { λ log.
+        IsLog (vec_len log.list) (vec_capacity log.list) log.spare log.early.first log.early.items };
 }
 
 impl Log {
@@ -66,12 +67,14 @@ impl Log {
         }
     }
 
-    /// Takes note of a chosen value for a slot: one that is held already is past, one 32 or more above the slots held finds
-    /// no room, one above the next slot waits where none waits for its slot, and the next one changes nothing yet. Only a value that waits takes memory.
+    /// Takes note of a chosen value for a slot: one that is held already is past, one 32 or more above the slots held
+    /// finds no room, one above the next slot waits where none waits for its slot, and the next one changes nothing
+    /// yet. Only a value that waits takes memory.
     pub fn take(&mut self, alloc: Global, slot: u64, value: &Value) -> Result<Taken, NoMemory>
         requires { slot < 2 ^ 40 }
         ensures answer { IfOk result (λ taken. taken ≡ taken_at (length self.old.list) slot) }
-        ensures early { IfOk result (λ taken. self.new ≡ record self.old { early = early_after taken slot value.now self.old.early }) }
+        ensures early { IfOk result (λ taken.
+            self.new ≡ record self.old { early = early_after taken slot value.now self.old.early }) }
         ensures err { OnErr result (self.new ≡ self.old) }
         ensures spared { OnErr result (taken_at (length self.old.list) slot ≡ Early) }
     {
@@ -89,8 +92,8 @@ impl Log {
         Ok(Taken::Early)
     }
 
-    /// All that can be held once there is a value for the next slot: the value, and those waiting that follow it. The log has
-    /// room for them then, as `put` asks; it holds no more yet.
+    /// All that can be held once there is a value for the next slot: the value, and those waiting that follow it. The
+    /// log has room for them then, as `put` asks; it holds no more yet.
     pub fn ready(
         &mut self,
         alloc: Global,

@@ -5,7 +5,8 @@ ghost use Rattle.std.specs.Char.{is_ascii_digit, digit_value};
 ghost use Rattle.cx_script.specs.Words.{number_of};
 
 fn with_digit(number: u64, byte: u8) -> Option<u64>
-    ensures { result ≡ (if is_ascii_digit byte && nat_lt (number * 10 + digit_value byte) (2 ^ 64) then Some (number * 10 + digit_value byte) else None) }
+    ensures { result ≡ (if is_ascii_digit byte && nat_lt (number * 10 + digit_value byte) (2 ^ 64)
+        then Some (number * 10 + digit_value byte) else None) }
 {
     if !byte.is_ascii_digit() {
         return None;

@@ -13,8 +13,10 @@ ghost use Rattle.cx_script.specs.Requests.{IsScript, requests_of, script_of, tel
 
 /// A law, whatever the bytes: each event that they spell is one that the world takes, and its names lie in the cluster.
 pub fn spelled_events_are_taken()
-    ensures taken { (c : Cluster) (line : List ℕ) (event : Event) → line_event c line ≡ Ok (Some event) → is_valid_event event ≡ true }
-    ensures named { (c : Cluster) (line : List ℕ) (event : Event) → line_event c line ≡ Ok (Some event) → names_event c event ≡ true }
+    ensures taken { (c : Cluster) (line : List ℕ) (event : Event) → line_event c line ≡ Ok (Some event)
+        → is_valid_event event ≡ true }
+    ensures named { (c : Cluster) (line : List ℕ) (event : Event) → line_event c line ≡ Ok (Some event)
+        → names_event c event ≡ true }
     ensures all_taken { (c : Cluster) (bytes : List ℕ) → list_all is_valid_event (schedule_of c bytes).events ≡ true }
     ensures all_named { (c : Cluster) (bytes : List ℕ) → list_all (names_event c) (schedule_of c bytes).events ≡ true }
 {}
@@ -28,7 +30,8 @@ pub fn generated_events_are_taken()
 /// A law, whatever the bytes: the requests of each client are a script; each of them is one that the world takes, tells no floor
 /// of its own, and has its names in the cluster.
 pub fn requests_rise()
-    ensures scripts { (c : Cluster) (bytes : List ℕ) (client : ℕ) → IsScript c client (script_of client (requests_of c bytes).events) }
+    ensures scripts { (c : Cluster) (bytes : List ℕ) (client : ℕ)
+        → IsScript c client (script_of client (requests_of c bytes).events) }
     ensures all_taken { (c : Cluster) (bytes : List ℕ) → list_all is_valid_event (requests_of c bytes).events ≡ true }
     ensures floors { (c : Cluster) (bytes : List ℕ) → list_all tells_no_floor (requests_of c bytes).events ≡ true }
     ensures all_named { (c : Cluster) (bytes : List ℕ) → list_all (names_event c) (requests_of c bytes).events ≡ true }

@@ -10,7 +10,7 @@ ghost use Rattle.cx_script.specs.Words.{number_of};
 use crate::decimal::number;
 use crate::fault::LineFault;
 use crate::split::{first_part, parted};
-use cx_base::{Cluster, Key, Kind, RoleId, Text, count_of};
+use cx_base::{Cluster, Key, Kind, OUTSTANDING, RoleId, Text, count_of};
 
 /// Whether a word is a text.
 pub fn is(word: &[u8], text: &str) -> bool
@@ -18,9 +18,6 @@ pub fn is(word: &[u8], text: &str) -> bool
 {
     word == text.as_bytes()
 }
-
-/// A client may have this many numbers outstanding: a floor is at most this far below the number that tells it.
-const OUTSTANDING: u64 = 64;
 
 fn fitting(seq: u64, floor: u64) -> Option<(u64, u64)>
     ensures { result ≡ fitting seq floor }

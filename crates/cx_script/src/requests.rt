@@ -55,8 +55,10 @@ fn request(
     greatest: &mut Greatest,
     text: &[u8],
 ) -> Result<Option<Event>, LineFault>
-    ensures request { (before : List Happening) → Tells before greatest.old → result ≡ request_behind before (request_line cluster.now text.now) }
-    ensures told { (before : List Happening) → Tells before greatest.old → IfOk result (λ event. Tells (before ++ option_to_list event) greatest.new) }
+    ensures request { (before : List Happening) → Tells before greatest.old
+        → result ≡ request_behind before (request_line cluster.now text.now) }
+    ensures told { (before : List Happening) → Tells before greatest.old
+        → IfOk result (λ event. Tells (before ++ option_to_list event) greatest.new) }
 {
     let Some(event) = request_line(cluster, text)? else {
         return Ok(None);

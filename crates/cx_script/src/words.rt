@@ -40,7 +40,8 @@ impl<'a> Words<'a> {
 
     /// The next word.
     pub fn next(&mut self) -> Result<&'a [u8], LineFault>
-        ensures { MatchResult result (λ word. self.old ≡ word.now ∷ self.new) (λ fault. (self.old ≡ []) × (fault ≡ Word)) }
+        ensures { MatchResult result (λ word. self.old ≡ word.now ∷ self.new)
+            (λ fault. (self.old ≡ []) × (fault ≡ Word)) }
     {
         let (word, rest) = first_word(self.line).ok_or(LineFault::Word)?;
         self.line = rest;

@@ -1,5 +1,6 @@
 -- The table once a client has told a floor, or has one more answer.
-use Rattle.std.proofs.Common.{◌≡◌, ◌⊎◌, ℕ, ◌+◌, Bool, true, false, not, List, [], ◌∷◌, inl, inr, ap, sym, subst, ◌∙◌, refl, arith, rules, true≢false}
+use Rattle.std.proofs.Common.{◌≡◌, ◌⊎◌, ℕ, ◌+◌, Bool, true, false, not, List, [], ◌∷◌, inl, inr, ap, sym, subst, ◌∙◌}
+use Rattle.std.proofs.Common.{refl, arith, rules, true≢false}
 use Rattle.std.specs.Prelude.{◌==◌, nat_eq, nat_le, nat_lt, if◌then◌else◌, Option, None, Some, IsSome}
 use Rattle.std.specs.List.{list_all}
 use Rattle.std.specs.Map.{lookup}
@@ -7,9 +8,11 @@ use Rattle.std.proofs.lemmas.Bool.{and_from, and_parts, both_ways, cases_Bool, e
 use Rattle.std.proofs.lemmas.Bool.Decides.{nat_tests}
 use Rattle.cx_base.specs.declared.command.Answered.{Answered}
 use Rattle.cx_base.specs.declared.command.Floor.{Floor}
-use Rattle.cx_base.specs.Noted.{Table, are_rising, comes_before, floor_of, is_answer_of, is_done, is_settled, noted_for, still_noted, with_answer, with_floor, with_note, with_told}
+use Rattle.cx_base.specs.Noted.{Table, are_rising, comes_before, floor_of, is_answer_of, is_done, is_settled, noted_for}
+use Rattle.cx_base.specs.Noted.{still_noted, with_answer, with_floor, with_note, with_told}
 use Rattle.cx_base.proofs.Used.{none_placed, same_client, still_rising, turned_test}
-use Rattle.cx_table.specs.Entries.{IsHeld, above, are_above, are_of, floor_in, is_above, is_lower, notes_in, of_client, raised, rise}
+use Rattle.cx_table.specs.Entries.{IsHeld, above, are_above, are_of, floor_in, is_above, is_lower, notes_in, of_client}
+use Rattle.cx_table.specs.Entries.{raised, rise}
 use Rattle.cx_table.specs.Judged.{is_new, judge_in, judge_of, judge_noted}
 use Rattle.cx_table.specs.declared.entry.Entry.{Entry}
 use Rattle.cx_table.specs.declared.judge.Judge.TheVariants as judge
@@ -20,7 +23,8 @@ use Rattle.cx_table.proofs.Rising.{all_with, left_with, rise_left, rise_with}
 -- floors
 
 pub floor_told : (client floor n : ℕ) (floors : List Floor) → are_rising n floors ≡ true → (k : ℕ)
-    → floor_of k (with_floor client floor floors) ≡ (if client == k then Some (raised (floor_of k floors) floor) else floor_of k floors)
+    → floor_of k (with_floor client floor floors)
+    ≡ (if client == k then Some (raised (floor_of k floors) floor) else floor_of k floors)
 floor_told client floor n [] r k = refl
 floor_told client floor n (f ∷ floors) r k =
     go (cases_Bool (f.client == client)) (cases_Bool (nat_lt client f.client)) (cases_Bool (client == k)) (cases_Bool (f.client == k)) (floor_told client floor (f.client + 1) floors rest k)
@@ -28,10 +32,13 @@ floor_told client floor n (f ∷ floors) r k =
     rest : are_rising (f.client + 1) floors ≡ true
     rest = (and_parts (nat_le n f.client) (are_rising (f.client + 1) floors) r).1
 
-    go : ((f.client == client) ≡ true) ⊎ ((f.client == client) ≡ false) → (nat_lt client f.client ≡ true) ⊎ (nat_lt client f.client ≡ false)
+    go : ((f.client == client) ≡ true) ⊎ ((f.client == client) ≡ false)
+        → (nat_lt client f.client ≡ true) ⊎ (nat_lt client f.client ≡ false)
         → ((client == k) ≡ true) ⊎ ((client == k) ≡ false) → ((f.client == k) ≡ true) ⊎ ((f.client == k) ≡ false)
-        → floor_of k (with_floor client floor floors) ≡ (if client == k then Some (raised (floor_of k floors) floor) else floor_of k floors)
-        → floor_of k (with_floor client floor (f ∷ floors)) ≡ (if client == k then Some (raised (floor_of k (f ∷ floors)) floor) else floor_of k (f ∷ floors))
+        → floor_of k (with_floor client floor floors)
+        ≡ (if client == k then Some (raised (floor_of k floors) floor) else floor_of k floors)
+        → floor_of k (with_floor client floor (f ∷ floors))
+        ≡ (if client == k then Some (raised (floor_of k (f ∷ floors)) floor) else floor_of k (f ∷ floors))
     go (inl s) b (inl t) u h = rw (s, t, same_client k f.client client true (eqb-true f.client client s) t) refl
     go (inl s) b (inr t) u h = rw (s, t, same_client k f.client client false (eqb-true f.client client s) t) refl
     go (inr s) (inl b) (inl t) u h =
@@ -45,7 +52,8 @@ floor_told client floor n (f ∷ floors) r k =
 -- answers
 
 pub notes_told : (client floor k : ℕ) (notes : List Answered)
-    → of_client k (still_noted client floor notes) ≡ (if client == k then above floor (of_client k notes) else of_client k notes)
+    → of_client k (still_noted client floor notes)
+    ≡ (if client == k then above floor (of_client k notes) else of_client k notes)
 notes_told client floor k [] = same (client == k)
   where
     none : List Answered
@@ -57,10 +65,13 @@ notes_told client floor k [] = same (client == k)
 notes_told client floor k (a ∷ notes) =
     go (cases_Bool (client == k)) (cases_Bool (a.client == k)) (cases_Bool (a.client == client)) (cases_Bool (nat_le a.seq floor)) (notes_told client floor k notes)
   where
-    go : ((client == k) ≡ true) ⊎ ((client == k) ≡ false) → ((a.client == k) ≡ true) ⊎ ((a.client == k) ≡ false) → ((a.client == client) ≡ true) ⊎ ((a.client == client) ≡ false)
+    go : ((client == k) ≡ true) ⊎ ((client == k) ≡ false) → ((a.client == k) ≡ true) ⊎ ((a.client == k) ≡ false)
+        → ((a.client == client) ≡ true) ⊎ ((a.client == client) ≡ false)
         → (nat_le a.seq floor ≡ true) ⊎ (nat_le a.seq floor ≡ false)
-        → of_client k (still_noted client floor notes) ≡ (if client == k then above floor (of_client k notes) else of_client k notes)
-        → of_client k (still_noted client floor (a ∷ notes)) ≡ (if client == k then above floor (of_client k (a ∷ notes)) else of_client k (a ∷ notes))
+        → of_client k (still_noted client floor notes)
+        ≡ (if client == k then above floor (of_client k notes) else of_client k notes)
+        → of_client k (still_noted client floor (a ∷ notes))
+        ≡ (if client == k then above floor (of_client k (a ∷ notes)) else of_client k (a ∷ notes))
     go (inl s) (inl t) (inl u) (inl v) h =
         let gone : nat_lt floor a.seq ≡ false = grind (arith, nat_tests, v) in
         let rest : of_client k (still_noted client floor notes) ≡ above floor (of_client k notes) = rw s at h in
@@ -87,17 +98,21 @@ pub own_of : (client : ℕ) (notes : List Answered) → are_of client (of_client
 own_of client [] = refl
 own_of client (a ∷ notes) = go (cases_Bool (a.client == client)) (own_of client notes)
   where
-    go : ((a.client == client) ≡ true) ⊎ ((a.client == client) ≡ false) → are_of client (of_client client notes) ≡ true → are_of client (of_client client (a ∷ notes)) ≡ true
+    go : ((a.client == client) ≡ true) ⊎ ((a.client == client) ≡ false) → are_of client (of_client client notes) ≡ true
+        → are_of client (of_client client (a ∷ notes)) ≡ true
     go (inl t) rest = rw t (and_from (a.client == client) (are_of client (of_client client notes)) t rest)
     go (inr t) rest = rw t rest
 
 -- what is noted for a client's number is among the client's
-pub noted_own : (client seq : ℕ) (notes : List Answered) → noted_for client seq (of_client client notes) ≡ noted_for client seq notes
+pub noted_own : (client seq : ℕ) (notes : List Answered)
+    → noted_for client seq (of_client client notes) ≡ noted_for client seq notes
 noted_own client seq [] = refl
 noted_own client seq (a ∷ notes) = go (cases_Bool (a.client == client)) (cases_Bool (a.seq == seq)) (noted_own client seq notes)
   where
-    go : ((a.client == client) ≡ true) ⊎ ((a.client == client) ≡ false) → ((a.seq == seq) ≡ true) ⊎ ((a.seq == seq) ≡ false)
-        → noted_for client seq (of_client client notes) ≡ noted_for client seq notes → noted_for client seq (of_client client (a ∷ notes)) ≡ noted_for client seq (a ∷ notes)
+    go : ((a.client == client) ≡ true) ⊎ ((a.client == client) ≡ false)
+        → ((a.seq == seq) ≡ true) ⊎ ((a.seq == seq) ≡ false)
+        → noted_for client seq (of_client client notes) ≡ noted_for client seq notes
+        → noted_for client seq (of_client client (a ∷ notes)) ≡ noted_for client seq (a ∷ notes)
     go (inl t) (inl s) rest = rw (t, t, s) refl
     go (inl t) (inr s) rest = rw (t, t, s) rest
     go (inr t) s rest = rw t rest
@@ -106,39 +121,49 @@ noted_own client seq (a ∷ notes) = go (cases_Bool (a.client == client)) (cases
 abbrev may_stand : ℕ → List Floor → Answered → Bool
 may_stand client floors a = if client == a.client then not (is_done a.seq (floor_of a.client floors)) else is_above a.seq (floor_of a.client floors)
 
-stood : (client : ℕ) (floors : List Floor) (a : Answered) → is_above a.seq (floor_of a.client floors) ≡ true → may_stand client floors a ≡ true
+stood : (client : ℕ) (floors : List Floor) (a : Answered) → is_above a.seq (floor_of a.client floors) ≡ true
+    → may_stand client floors a ≡ true
 stood client floors a h = go (cases_Bool (client == a.client)) (floor_of a.client floors) h
   where
     free : (o : Option ℕ) → is_above a.seq o ≡ true → not (is_done a.seq o) ≡ true
     free None h = cc
     free (Some floor) h = grind (arith, nat_tests, h)
 
-    go : ((client == a.client) ≡ true) ⊎ ((client == a.client) ≡ false) → (o : Option ℕ) → is_above a.seq o ≡ true → (if client == a.client then not (is_done a.seq o) else is_above a.seq o) ≡ true
+    go : ((client == a.client) ≡ true) ⊎ ((client == a.client) ≡ false) → (o : Option ℕ) → is_above a.seq o ≡ true
+        → (if client == a.client then not (is_done a.seq o) else is_above a.seq o) ≡ true
     go (inl t) o h = rw t (free o h)
     go (inr t) o h = rw t h
 
-all_stood : (client : ℕ) (floors : List Floor) (notes : List Answered) → list_all (λ (a : Answered). is_above a.seq (floor_of a.client floors)) notes ≡ true → list_all (may_stand client floors) notes ≡ true
+all_stood : (client : ℕ) (floors : List Floor) (notes : List Answered)
+    → list_all (λ (a : Answered). is_above a.seq (floor_of a.client floors)) notes ≡ true
+    → list_all (may_stand client floors) notes ≡ true
 all_stood client floors [] all = refl
 all_stood client floors (a ∷ notes) all =
     let parts = and_parts (is_above a.seq (floor_of a.client floors)) (list_all (λ (x : Answered). is_above x.seq (floor_of x.client floors)) notes) all in
     and_from (may_stand client floors a) (list_all (may_stand client floors) notes) (stood client floors a parts.0) (all_stood client floors notes parts.1)
 
 -- those that stay lie above their clients' floors
-above_told : (client floor : ℕ) (floors : List Floor) (notes : List Answered) → are_rising 0 floors ≡ true → list_all (may_stand client floors) notes ≡ true
+above_told : (client floor : ℕ) (floors : List Floor) (notes : List Answered) → are_rising 0 floors ≡ true
+    → list_all (may_stand client floors) notes ≡ true
     → are_above (record { floors = with_floor client floor floors; notes = still_noted client floor notes }) ≡ true
 above_told client floor floors [] rising all = refl
 above_told client floor floors (a ∷ notes) rising all =
     let parts = and_parts (may_stand client floors a) (list_all (may_stand client floors) notes) all in
     go (cases_Bool (client == a.client)) (cases_Bool (nat_le a.seq floor)) (floor_told client floor 0 floors rising a.client) parts.0 (above_told client floor floors notes rising parts.1)
   where
-    higher : (o : Option ℕ) → not (is_done a.seq o) ≡ true → nat_le a.seq floor ≡ false → is_above a.seq (Some (raised o floor)) ≡ true
+    higher : (o : Option ℕ) → not (is_done a.seq o) ≡ true → nat_le a.seq floor ≡ false
+        → is_above a.seq (Some (raised o floor)) ≡ true
     higher None free v = grind (arith, nat_tests, v)
     higher (Some f) free v = grind (arith, nat_tests, free, v)
 
-    go : ((client == a.client) ≡ true) ⊎ ((client == a.client) ≡ false) → (nat_le a.seq floor ≡ true) ⊎ (nat_le a.seq floor ≡ false)
-        → floor_of a.client (with_floor client floor floors) ≡ (if client == a.client then Some (raised (floor_of a.client floors) floor) else floor_of a.client floors)
-        → may_stand client floors a ≡ true → are_above (record { floors = with_floor client floor floors; notes = still_noted client floor notes }) ≡ true
-        → are_above (record { floors = with_floor client floor floors; notes = still_noted client floor (a ∷ notes) }) ≡ true
+    go : ((client == a.client) ≡ true) ⊎ ((client == a.client) ≡ false)
+        → (nat_le a.seq floor ≡ true) ⊎ (nat_le a.seq floor ≡ false)
+        → floor_of a.client (with_floor client floor floors)
+        ≡ (if client == a.client then Some (raised (floor_of a.client floors) floor) else floor_of a.client floors)
+        → may_stand client floors a ≡ true
+        → are_above (record { floors = with_floor client floor floors; notes = still_noted client floor notes }) ≡ true
+        → are_above (record { floors = with_floor client floor floors; notes = still_noted client floor (a ∷ notes) })
+        ≡ true
     go (inl t) (inl v) is one rest = (let turned : (a.client == client) ≡ true = turned_test a.client client ∙ t in rw (turned, v) rest)
     go (inl t) (inr v) is one rest =
         let turned : (a.client == client) ≡ true = turned_test a.client client ∙ t in
@@ -152,7 +177,8 @@ above_told client floor floors (a ∷ notes) rising all =
         rw turned (and_from (is_above a.seq (floor_of a.client (with_floor client floor floors))) _ (rw floor_is above) rest)
 
 -- a client's entry holds what the table has of it
-module _ (t : Table) (es : List (ℕ × Entry)) (held : IsHeld t es) (client : ℕ) (entry : Entry) (found : lookup (nat_eq client) es ≡ Some entry) where
+module _ (t : Table) (es : List (ℕ × Entry)) (held : IsHeld t es) (client : ℕ) (entry : Entry)
+    (found : lookup (nat_eq client) es ≡ Some entry) where
   pub entry_floor : entry.floor ≡ floor_of client t.floors
   entry_floor = ap floor_in (sym found) ∙ held.floors client
 
@@ -174,7 +200,8 @@ module _ (t : Table) (es : List (ℕ × Entry)) (held : IsHeld t es) (client : �
       ∙ ap (λ (o : Option Answered). if is_done seq (floor_of client t.floors) then judge.Past else judge_noted o) (entry_noted seq)
 
 -- a client without an entry has used no number
-pub judge_none : (t : Table) (es : List (ℕ × Entry)) → IsHeld t es → (client seq : ℕ) → lookup (nat_eq client) es ≡ None → judge.New ≡ judge_of t client seq
+pub judge_none : (t : Table) (es : List (ℕ × Entry)) → IsHeld t es → (client seq : ℕ) → lookup (nat_eq client) es ≡ None
+    → judge.New ≡ judge_of t client seq
 judge_none t es held client seq none =
     let no_floor : floor_of client t.floors ≡ None = sym (held.floors client) ∙ ap floor_in none in
     let no_notes : of_client client t.notes ≡ [] = sym (held.notes client) ∙ ap notes_in none in
@@ -182,49 +209,60 @@ judge_none t es held client seq none =
     rw (no_floor, no_note) refl
 
 -- a client that has an answer has told a floor below its number
-noted_above : (client seq : ℕ) (floors : List Floor) (notes : List Answered) (a : Answered) → list_all (λ (x : Answered). is_above x.seq (floor_of x.client floors)) notes ≡ true
+noted_above : (client seq : ℕ) (floors : List Floor) (notes : List Answered) (a : Answered)
+    → list_all (λ (x : Answered). is_above x.seq (floor_of x.client floors)) notes ≡ true
     → noted_for client seq notes ≡ Some a → is_above seq (floor_of client floors) ≡ true
 noted_above client seq floors [] a all e = cc
 noted_above client seq floors (x ∷ notes) a all e =
     let parts = and_parts (is_above x.seq (floor_of x.client floors)) (list_all (λ (y : Answered). is_above y.seq (floor_of y.client floors)) notes) all in
     go (cases_Bool (is_answer_of client seq x)) parts.0 e (noted_above client seq floors notes a parts.1)
   where
-    go : (is_answer_of client seq x ≡ true) ⊎ (is_answer_of client seq x ≡ false) → is_above x.seq (floor_of x.client floors) ≡ true → noted_for client seq (x ∷ notes) ≡ Some a
-        → (noted_for client seq notes ≡ Some a → is_above seq (floor_of client floors) ≡ true) → is_above seq (floor_of client floors) ≡ true
+    go : (is_answer_of client seq x ≡ true) ⊎ (is_answer_of client seq x ≡ false)
+        → is_above x.seq (floor_of x.client floors) ≡ true → noted_for client seq (x ∷ notes) ≡ Some a
+        → (noted_for client seq notes ≡ Some a → is_above seq (floor_of client floors) ≡ true)
+        → is_above seq (floor_of client floors) ≡ true
     go (inl s) one e rest =
         let p = and_parts (x.client == client) (x.seq == seq) s in
         subst (λ (k : ℕ). is_above k (floor_of client floors) ≡ true) (eqb-true x.seq seq p.1) (subst (λ (k : ℕ). is_above x.seq (floor_of k floors) ≡ true) (eqb-true x.client client p.0) one)
     go (inr s) one e rest = rest (rw s at e)
 
 -- a client whose number isn't new has told a floor
-pub judged_told : (t : Table) → are_above t ≡ true → (client seq : ℕ) → is_new (judge_of t client seq) ≡ false → IsSome (floor_of client t.floors)
+pub judged_told : (t : Table) → are_above t ≡ true → (client seq : ℕ) → is_new (judge_of t client seq) ≡ false
+    → IsSome (floor_of client t.floors)
 judged_told t above client seq judged = go (floor_of client t.floors) refl (noted_for client seq t.notes) refl judged
   where
-    go : (o : Option ℕ) → floor_of client t.floors ≡ o → (p : Option Answered) → noted_for client seq t.notes ≡ p → is_new (if is_done seq o then judge.Past else judge_noted p) ≡ false → IsSome o
+    go : (o : Option ℕ) → floor_of client t.floors ≡ o → (p : Option Answered) → noted_for client seq t.notes ≡ p
+        → is_new (if is_done seq o then judge.Past else judge_noted p) ≡ false → IsSome o
     go None is None has e = absurd (true≢false e)
     go None is (Some a) has e = (let told : is_above seq (floor_of client t.floors) ≡ true = noted_above client seq t.floors t.notes a above has in absurd (true≢false (sym (rw is at told))))
     go (Some floor) is p has e = search rules
 
 -- a number that is new isn't done with, and has no answer
-pub new_number : (t : Table) (client seq : ℕ) → judge_of t client seq ≡ judge.New → (not (is_done seq (floor_of client t.floors)) ≡ true) × (noted_for client seq t.notes ≡ None)
+pub new_number : (t : Table) (client seq : ℕ) → judge_of t client seq ≡ judge.New
+    → (not (is_done seq (floor_of client t.floors)) ≡ true) × (noted_for client seq t.notes ≡ None)
 new_number t client seq new = go (is_done seq (floor_of client t.floors)) refl (noted_for client seq t.notes) refl new
   where
-    go : (d : Bool) → is_done seq (floor_of client t.floors) ≡ d → (o : Option Answered) → noted_for client seq t.notes ≡ o → (if d then judge.Past else judge_noted o) ≡ judge.New
+    go : (d : Bool) → is_done seq (floor_of client t.floors) ≡ d → (o : Option Answered)
+        → noted_for client seq t.notes ≡ o → (if d then judge.Past else judge_noted o) ≡ judge.New
         → (not (is_done seq (floor_of client t.floors)) ≡ true) × (noted_for client seq t.notes ≡ None)
     go true is o has e = cc
     go false is None has e = (rw is refl, has)
     go false is (Some a) has e = cc
 
 -- the table that has been told, or has one more answer, is what is held with another entry
-module _ (t : Table) (es ns : List (ℕ × Entry)) (held : IsHeld t es) (client floor : ℕ) (old new : Entry) (found : lookup (nat_eq client) es ≡ Some old) (changed : IsChanged client new es ns) (told : new.floor ≡ Some (raised old.floor floor)) where
-  floors_told : (k : ℕ) → floor_of k (with_floor client floor t.floors) ≡ (if client == k then new.floor else floor_of k t.floors)
+module _ (t : Table) (es ns : List (ℕ × Entry)) (held : IsHeld t es) (client floor : ℕ) (old new : Entry)
+    (found : lookup (nat_eq client) es ≡ Some old) (changed : IsChanged client new es ns)
+    (told : new.floor ≡ Some (raised old.floor floor)) where
+  floors_told : (k : ℕ)
+      → floor_of k (with_floor client floor t.floors) ≡ (if client == k then new.floor else floor_of k t.floors)
   floors_told k = floor_told client floor 0 t.floors held.floors_rise k ∙ go (cases_Bool (client == k))
     where
       own : new.floor ≡ Some (raised (floor_of client t.floors) floor)
       own = told ∙ ap (λ (o : Option ℕ). Some (raised o floor)) (entry_floor t es held client old found)
 
       go : ((client == k) ≡ true) ⊎ ((client == k) ≡ false)
-          → (if client == k then Some (raised (floor_of k t.floors) floor) else floor_of k t.floors) ≡ (if client == k then new.floor else floor_of k t.floors)
+          → (if client == k then Some (raised (floor_of k t.floors) floor) else floor_of k t.floors)
+          ≡ (if client == k then new.floor else floor_of k t.floors)
       go (inl s) = rw s (ap (λ (x : ℕ). Some (raised (floor_of x t.floors) floor)) (sym (eqb-true client k s)) ∙ sym own)
       go (inr s) = rw s refl
 
@@ -241,11 +279,13 @@ module _ (t : Table) (es ns : List (ℕ × Entry)) (held : IsHeld t es) (client 
       own = left ∙ ap (λ (l : List Answered). above floor l) (entry_notes t es held client old found)
 
       go : (k : ℕ) → ((client == k) ≡ true) ⊎ ((client == k) ≡ false)
-          → (if client == k then above floor (of_client k t.notes) else of_client k t.notes) ≡ (if client == k then new.notes.items else of_client k t.notes)
+          → (if client == k then above floor (of_client k t.notes) else of_client k t.notes)
+          ≡ (if client == k then new.notes.items else of_client k t.notes)
       go k (inl s) = rw s (ap (λ (x : ℕ). above floor (of_client x t.notes)) (sym (eqb-true client k s)) ∙ sym own)
       go k (inr s) = rw s refl
 
-  pub noted_held : (a : Answered) → a.client ≡ client → judge_of t a.client a.seq ≡ judge.New → new.notes.items ≡ above floor (with_note a old.notes.items)
+  pub noted_held : (a : Answered) → a.client ≡ client → judge_of t a.client a.seq ≡ judge.New
+      → new.notes.items ≡ above floor (with_note a old.notes.items)
       → IsHeld (with_answer a floor t) ns
   noted_held a same number left = subst (λ (k : ℕ). IsHeld (with_told k floor (record t { notes = with_note a t.notes })) ns) (sym same)
       (held_by client new es ns changed t (with_told client floor (record t { notes = with_note a t.notes })) held rising_told
@@ -260,14 +300,17 @@ module _ (t : Table) (es ns : List (ℕ × Entry)) (held : IsHeld t es) (client 
       stands (inl s) = rw s free.0
       stands (inr s) = (let equal : (client == a.client) ≡ true = grind (arith, nat_tests, same) in absurd (both_ways (client == a.client) s equal))
 
-      among : (k : ℕ) → of_client k (with_note a t.notes) ≡ (if a.client == k then with_note a (of_client k t.notes) else of_client k t.notes)
+      among : (k : ℕ)
+          → of_client k (with_note a t.notes)
+          ≡ (if a.client == k then with_note a (of_client k t.notes) else of_client k t.notes)
       among k = left_with (λ (x : Answered). x.client == k) a t.notes held.notes_rise
 
       own : new.notes.items ≡ above floor (with_note a (of_client client t.notes))
       own = left ∙ ap (λ (l : List Answered). above floor (with_note a l)) (entry_notes t es held client old found)
 
       go : (k : ℕ) → ((client == k) ≡ true) ⊎ ((client == k) ≡ false)
-          → (if client == k then above floor (of_client k (with_note a t.notes)) else of_client k (with_note a t.notes)) ≡ (if client == k then new.notes.items else of_client k t.notes)
+          → (if client == k then above floor (of_client k (with_note a t.notes)) else of_client k (with_note a t.notes))
+          ≡ (if client == k then new.notes.items else of_client k t.notes)
       go k (inl s) =
           let here : (a.client == client) ≡ true = grind (arith, nat_tests, same) in
           let with_it : of_client client (with_note a t.notes) ≡ with_note a (of_client client t.notes) = rw here at (among client) in

@@ -1,5 +1,6 @@
 -- What is held of each client, and how it is the table that contracts see.
-use Rattle.std.specs.Prelude.{◌≡◌, ℕ, ◌-◌, ◌≤◌, ◌==◌, ◌&&◌, Bool, true, false, max, nat_eq, nat_lt, filter, slice_get, List, [], ◌∷◌, Option, None, Some, vec_capacity, vec_len}
+use Rattle.std.specs.Prelude.{◌≡◌, ℕ, ◌-◌, ◌≤◌, ◌==◌, ◌&&◌, Bool, true, false, List, [], ◌∷◌, Option, None, Some}
+use Rattle.std.specs.Prelude.{max, nat_eq, nat_lt, filter, slice_get, vec_capacity, vec_len}
 use Rattle.std.specs.List.{list_all}
 use Rattle.std.specs.List.Sorted.{IsPartitionPoint}
 use Rattle.std.specs.Map.{lookup}
@@ -26,7 +27,9 @@ above floor notes = filter (λ (a : Answered). nat_lt floor a.seq) notes
 
 -- the answers before a place are to numbers below this one, and no other is
 abbrev pub IsPlace : ℕ → List Answered → ℕ → Type 0
-IsPlace seq notes place = IsPartitionPoint (λ (a : Answered). nat_lt a.seq seq ≡ true) (λ (a : Answered). nat_lt a.seq seq ≡ false) notes place
+IsPlace seq notes place =
+    IsPartitionPoint (λ (a : Answered). nat_lt a.seq seq ≡ true)
+    (λ (a : Answered). nat_lt a.seq seq ≡ false) notes place
 
 -- whether each answer comes before all that stand after it, by an order
 abbrev pub rise : (Answered → Answered → Bool) → List Answered → Bool
@@ -75,7 +78,8 @@ pub record IsRoomAt (client count : ℕ) (entries : List (ℕ × Entry)) (place 
   pub at : IsEntryAt client entries place
   pub room : count ≤ room_in (Some at.entry)
 
--- each client's entry holds what the table has of the client; the table rises, and its answers lie above their clients' floors
+-- each client's entry holds what the table has of the client; the table rises, and its answers lie above their clients'
+-- floors
 pub record IsHeld (t : Table) (entries : List (ℕ × Entry)) : Type 0 where
   pub floors_rise : are_rising 0 t.floors ≡ true
   pub notes_rise : rise comes_before t.notes ≡ true

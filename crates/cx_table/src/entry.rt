@@ -1,6 +1,7 @@
 //! What is held of one client.
 
-ghost use Rattle.std.specs.Prelude.{◌≡◌, ◌+◌, ◌<◌, ◌≤◌, true, false, length, nat_le, nat_lt, slice_get, Some, None, Option, IsOk, OnOk, vec_capacity, vec_len};
+ghost use Rattle.std.specs.Prelude.{◌≡◌, ◌+◌, ◌<◌, ◌≤◌, true, false, Some, None, Option, IsOk, OnOk};
+ghost use Rattle.std.specs.Prelude.{length, nat_le, nat_lt, slice_get, vec_capacity, vec_len};
 ghost use Rattle.std.specs.List.{list_all};
 ghost use Rattle.std.specs.Option.{option_copied};
 ghost use Rattle.cx_base.specs.declared.command.Answered.{Answered as Note};
@@ -11,8 +12,8 @@ ghost use Rattle.cx_table.specs.Judged.{judge_in};
 use crate::judge::Judge;
 use cx_base::{Answered, NoMemory};
 
-/// What is held of one client: the greatest floor that it told, and the answers noted for its numbers above that, by rising number.
-/// One without a floor is room that was taken before the client's first command.
+/// What is held of one client: the greatest floor that it told, and the answers noted for its numbers above that, by
+/// rising number. One without a floor is room that was taken before the client's first command.
 #[derive(Drop)]
 pub struct Entry {
     pub floor: Option<u64>,

@@ -1,8 +1,8 @@
 //! A replica's client table: up to which number each client is done, and the answers to its numbers above that.
 //!
-//! Only replicas and what folds their values use it. Its theorems are: `Table::judge` says exactly whether a number is new, has
-//! an answer (which is given again) or is past; `Table::note` adds an answer, and `Table::note` and `Table::tell` drop those with
-//! which a client is done.
+//! Only replicas and what folds their values use it. Its theorems are: `Table::judge` says exactly whether a number is
+//! new, has an answer (which is given again) or is past; `Table::note` adds an answer, and `Table::note` and
+//! `Table::tell` drop those with which a client is done.
 #![tactic(auto)]
 
 mod entries;

@@ -16,8 +16,9 @@ use indexmap::IndexMap;
 use std::alloc::Global;
 use std::marker::Model;
 
-/// The floor of each client that told one, and the answers noted for its numbers above that: at most 64 for a client whose
-/// commands' floors fit. Contracts see the rising lists of both, and for how many more answers of each client there is room.
+/// The floor of each client that told one, and the answers noted for its numbers above that: at most 64 for a client
+/// whose commands' floors fit. Contracts see the rising lists of both, and for how many more answers of each client
+/// there is room.
 #[derive(Drop)]
 pub struct Table {
     alloc: Global,
@@ -33,7 +34,10 @@ impl Model for Table {
 
     ghost Value = { TableState };
 
-    ghost view = { λ t. record { table = record { floors = t.floors.items; notes = t.notes.items }; rooms = rooms_in t.entries.entries } };
+    ghost view = { λ t. record {
+      table = record { floors = t.floors.items; notes = t.notes.items };
+      rooms = rooms_in t.entries.entries;
+    } };
 
     ghost invariant = { λ t. IsHeld (record { floors = t.floors.items; notes = t.notes.items }) t.entries.entries };
 }
@@ -61,8 +65,8 @@ impl Table {
         Ok(())
     }
 
-    /// Whether a client's number is new, has an answer or is past (VLDB 2021: a replica executes no command twice; floors are
-    /// this project's own). It takes no memory.
+    /// Whether a client's number is new, has an answer or is past (VLDB 2021: a replica executes no command twice;
+    /// floors are this project's own). It takes no memory.
     pub fn judge(&self, client: u16, seq: u64) -> Judge
         ensures judge { result ≡ judge_of self.now.table client seq }
         ensures told { is_new result ≡ false → IsSome (floor_of client self.now.table.floors) }
@@ -73,8 +77,9 @@ impl Table {
         }
     }
 
-    /// Notes the answer of a client's new number, one more than its slot and the reply, and that the client told a floor with
-    /// it. Out of memory, which it can't be where there is room for an answer of the client, the table stays as it is.
+    /// Notes the answer of a client's new number, one more than its slot and the reply, and that the client told a
+    /// floor with it. Out of memory, which it can't be where there is room for an answer of the client, the table stays
+    /// as it is.
     pub fn note(
         &mut self,
         client: u16,
@@ -84,7 +89,8 @@ impl Table {
         reply: &Reply,
     ) -> Result<(), NoMemory>
         requires new { judge_of self.old.table client seq ≡ judge.New }
-        ensures ok { OnOk result (self.new.table ≡ with_answer (record { client = client; seq = seq; at = at; reply = reply.now }) floor self.old.table) }
+        ensures ok { OnOk result (self.new.table
+            ≡ with_answer (record { client = client; seq = seq; at = at; reply = reply.now }) floor self.old.table) }
         ensures err { OnErr result (self.new.table ≡ self.old.table) }
         ensures succeeds { 0 < room_for client self.old.rooms → IsOk result }
         ensures room { TakesRoom client self.old.rooms self.new.rooms }

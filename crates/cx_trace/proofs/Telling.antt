@@ -1,13 +1,14 @@
 -- Which datagrams tell a client something.
 use Rattle.std.proofs.Common.{◌≡◌, ℕ, false, [], refl}
 use Rattle.cx_msg.specs.Letter.{Letter}
-use Rattle.cx_msg.specs.Messages.{body_shape}
+use Rattle.cx_msg.specs.Names.{name_of_kind, name_of_message}
 use Rattle.cx_msg.specs.declared.message.Msg.{Msg}
 use Rattle.cx_msg.specs.declared.message.Msg.TheVariants.{Submit, Batch, Leads, MatchA, MatchB, MatchNack, Phase1A, Phase1B, Nack, Propose, Phase2A, Phase2B, Chosen, ChosenIn, Results, Answer, Held, Fetch, Inform, Informed, GarbageA, GarbageB, ReadReq, MatchRead, MatchReadAck, PreRead, PreReadAck, Read, ReadAnswer}
 use Rattle.cx_trace.specs.Trace.{tells, told_of, told_text}
 
 -- a message of another kind tells nothing
-nothing_told : (client : ℕ) (m : Msg) → tells (body_shape m).tag ≡ false → told_text client m ≡ []
+nothing_told : (client : ℕ) (m : Msg) → tells (name_of_message m) ≡ false → told_text client m ≡ []
+unfolding name_of_kind
 nothing_told client (Submit a) h = refl
 nothing_told client (Batch a) h = refl
 nothing_told client (Leads a) h = refl
@@ -38,6 +39,6 @@ nothing_told client (PreReadAck a b c) h = refl
 nothing_told client (Read a b c) h = refl
 nothing_told client (ReadAnswer a b c) h = cc
 
-pub tells_nothing : (d : Letter) → tells (body_shape d.msg).tag ≡ false → told_of d ≡ []
+pub tells_nothing : (d : Letter) → tells (name_of_message d.msg) ≡ false → told_of d ≡ []
 unfolding told_of
 tells_nothing d h = nothing_told d.to.index d.msg h

@@ -1,5 +1,6 @@
 -- The lines of the trace: events, and the datagrams that they send.
 use Rattle.std.specs.Prelude.{ℕ, Bool, ◌+◌, ◌==◌, ◌||◌, List, [], ◌∷◌, ◌++◌, codes, decimal, Option, None, Some, if◌then◌else◌}
+use Rattle.std.specs.Str.{bytes_eq}
 use Rattle.cx_base.specs.Role.{role, role_text}
 use Rattle.cx_base.specs.Why.{why_text}
 use Rattle.cx_base.specs.declared.event.Event.{Event}
@@ -99,9 +100,9 @@ told_text client (Read a b c) = []
 unfoldable pub told_of : Letter → List ℕ
 told_of d = told_text d.to.index d.msg
 
--- whether messages of a kind tell the client that gets them something: answers, and what reads found
-abbrev pub tells : ℕ → Bool
-tells kind = kind == 16 || kind == 29
+-- whether messages of this name tell the client that gets them something: answers, and what reads found
+abbrev pub tells : List ℕ → Bool
+tells name = bytes_eq name (codes "Answer") || bytes_eq name (codes "ReadAnswer")
 
 -- a number, two roles and a name
 abbrev pub named_text : ℕ → RoleId → RoleId → List ℕ → List ℕ

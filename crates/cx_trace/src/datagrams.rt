@@ -23,11 +23,11 @@ pub fn put_told(text: &mut Vec<u8>, client: u16, msg: &Msg) -> Result<(), NoMemo
     }
 }
 
-// Whether messages of a kind tell the client that gets them something.
-fn tells(kind: u8) -> bool
-    ensures { result ≡ tells kind }
+// Whether messages of this name tell the client that gets them something.
+fn tells(name: &str) -> bool
+    ensures { result ≡ tells name.now }
 {
-    kind == 16 || kind == 29
+    name == "Answer" || name == "ReadAnswer"
 }
 
 // What a datagram that was read tells the client that gets it.
@@ -43,7 +43,7 @@ fn put_told_by(alloc: Global, text: &mut Vec<u8>, spelled: &Spelled<'_>) -> Resu
     ensures ok { OnOk result (text.new.items ≡ text.old.items ++ told_of spelled.now) }
     ensures err { OnErr result (take (length text.old.items) text.new.items ≡ text.old.items) }
 {
-    if !tells(spelled.kind()) {
+    if !tells(spelled.name()) {
         return Ok(());
     }
     let datagram = spelled.datagram(alloc)?;

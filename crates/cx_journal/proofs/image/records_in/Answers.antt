@@ -1,10 +1,10 @@
 use Rattle.std.proofs.Common.{ℕ, ◌≡◌, ◌+◌, [], ◌∷◌, ◌++◌, length, sym, ◌∙◌, ap, arith}
 use Rattle.cx_journal.specs.Payload.{payloads}
-use Rattle.cx_journal.specs.Image.{image_at, with_all, with_first}
+use Rattle.cx_journal.specs.Image.{image_at, with_first}
 use Rattle.cx_journal.specs.Journal.{frames, gates_from}
 use Rattle.cx_journal.proofs.Crash.{frames-more, length-frames-more}
 use Rattle.cx_journal.proofs.Gates.{gates-push, payloads-push, all_kept-push}
-use Rattle.cx_journal.proofs.Reading.{image-long, with_all-push, with_all-Ok}
+use Rattle.cx_journal.proofs.Reading.{image-long, with_all, with_all-push, with_all-Ok}
 use Rattle.cx_journal.proofs.Breaks.{read_stop, breaks_so}
 use Rattle.cx_journal.proofs.image.records_in.Goals as goal
 

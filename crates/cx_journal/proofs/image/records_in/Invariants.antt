@@ -1,7 +1,8 @@
 use Rattle.std.proofs.Common.{◌≡◌, ◌+◌, ◌++◌, [], ◌∷◌, true, length}
 use Rattle.cx_journal.specs.Payload.{payloads, all_kept_by}
-use Rattle.cx_journal.specs.Image.{image_at, with_all}
+use Rattle.cx_journal.specs.Image.{image_at}
 use Rattle.cx_journal.specs.Journal.{frames, gates_from}
+use Rattle.cx_journal.proofs.Reading.{with_all}
 use Rattle.cx_journal.proofs.image.records_in.Given as goal
 
 abbrev pub invariant-reading : goal.invariant-reading

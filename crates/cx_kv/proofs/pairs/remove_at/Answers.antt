@@ -13,7 +13,8 @@ here c = omega (arith, c.args.order.now.ok.0, c.requires.inside)
 within : (c : After-remove-gap) → c.remove-gap.result < length c.args.list.now.items
 within c = gap_inside (length c.args.list.now.items) c.args.order.now.items c.args.place c.remove-gap.result c.remove-gap.ensures.value c.requires.ordered.below (here c)
 
-after : (c : After-rename) → c.rename.new.order ≡ map (renamed (c.len-last.result - 1) c.remove-gap.result) c.remove-gap.new.self.items
+after : (c : After-rename)
+    → c.rename.new.order ≡ map (renamed (c.len-last.result - 1) c.remove-gap.result) c.remove-gap.new.self.items
 after c = c.rename.ensures ∙ ap (λ (l : List ℕ). map (renamed (c.len-last.result - 1) c.remove-gap.result) l) c.deref_mut.ensures.value
 
 pub swap_remove-requires : goal.swap_remove-requires
@@ -25,13 +26,16 @@ returns-clause-text c = λ d.
     ap (λ (p : Pair). p.text) (picked_is c.args.list.now.items c.args.order.now.items c.args.place c.remove-gap.result c.remove-gap.result c.swap_remove.result d
     c.remove-gap.ensures.value (within at) (here at) c.swap_remove.ensures.value)
 
-back : (c : After-rename) → take c.remove-gap.new.self.len (c.rename.new.order ++ drop (length c.rename.new.order) c.remove-gap.new.self.items) ≡ c.rename.new.order
+back : (c : After-rename)
+    → take c.remove-gap.new.self.len
+    (c.rename.new.order ++ drop (length c.rename.new.order) c.remove-gap.new.self.items) ≡ c.rename.new.order
 back c =
     let rest = c.remove-gap.new.self.items in
     let same : length c.rename.new.order ≡ length rest = ap (λ (l : List ℕ). length l) (after c) ∙ length-map rest (renamed (c.len-last.result - 1) c.remove-gap.result) in
     written c.remove-gap.new.self.len c.rename.new.order rest same c.remove-gap.new.self.ok.0
 
-last : (c : After-rename) → c.remove-gap.result < length c.args.list.now.items → c.len-last.result - 1 + 1 ≡ vec_len c.args.list.now
+last : (c : After-rename) → c.remove-gap.result < length c.args.list.now.items
+    → c.len-last.result - 1 + 1 ≡ vec_len c.args.list.now
 last c some = omega (arith, c.len-last.ensures, c.args.list.now.ok.0, some)
 
 pub returns-clause-pairs : goal.returns-clause-pairs

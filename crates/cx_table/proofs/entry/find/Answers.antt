@@ -8,7 +8,8 @@ use Rattle.cx_table.proofs.Notes.{answer_at, found}
 use Rattle.cx_table.proofs.entry.find.Goals as goal
 use Rattle.cx_table.proofs.entry.find.Goals.{After-note_at}
 
-noted : (c : After-note_at) (o : Option Answered) → o ≡ slice_get c.args.notes.now c.place_of.result → answer_at c.args.seq o ≡ noted_for c.args.client c.args.seq c.args.notes.now
+noted : (c : After-note_at) (o : Option Answered) → o ≡ slice_get c.args.notes.now c.place_of.result
+    → answer_at c.args.seq o ≡ noted_for c.args.client c.args.seq c.args.notes.now
 noted c o is = ap (answer_at c.args.seq) is ∙ sym (found c.args.client c.args.seq c.args.notes.now c.place_of.result c.requires.own c.requires.rise c.place_of.ensures.place)
 
 pub returns-in_err-note : goal.returns-in_err-note

@@ -19,7 +19,8 @@ table c = record { floors = c.self.inside.floors.items; notes = c.self.inside.no
 held : (c : After-index_mut) → IsHeld (table c) c.room_at.new.entries.entries
 held c = c.room_at.ensures.held (table c) c.self.invariant
 
-found : (c : After-index_mut) → lookup (nat_eq c.args.client) c.room_at.new.entries.entries ≡ Some c.index_mut.result.now
+found : (c : After-index_mut)
+    → lookup (nat_eq c.args.client) c.room_at.new.entries.entries ≡ Some c.index_mut.result.now
 found c = write_found c.room_at.new.entries c.in_ok-place.place c.args.client c.index_mut.result.now c.index_mut.result.now c.room_at.ensures.unique c.in_ok-place.ensures.place.at c.index_mut.ensures.value
 
 new : (c : After-index_mut) → judge_of (table c) c.args.client c.args.seq ≡ judge.New

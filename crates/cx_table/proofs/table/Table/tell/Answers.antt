@@ -13,7 +13,8 @@ use Rattle.cx_table.proofs.table.Table.tell.Goals.{After-index_mut}
 abbrev table : After-index_mut → Table
 table c = record { floors = c.self.inside.floors.items; notes = c.self.inside.notes.items }
 
-found : (c : After-index_mut) → lookup (nat_eq c.args.client) c.self.inside.entries.entries ≡ Some c.index_mut.result.now
+found : (c : After-index_mut)
+    → lookup (nat_eq c.args.client) c.self.inside.entries.entries ≡ Some c.index_mut.result.now
 found c = write_found c.self.inside.entries c.in-Some.place c.args.client c.index_mut.result.now c.index_mut.result.now c.place_of.ensures.unique c.in-Some.ensures.place c.index_mut.ensures.value
 
 pub tell-requires : goal.tell-requires
