@@ -10,8 +10,8 @@ use cx_role::{Outbox, Role, StepFault, WakeFault, is_for};
 use std::alloc::Global;
 use std::marker::Model;
 
-/// An acceptor: the round that it promised, the chosen watermark, its last vote at each slot from there on by rising slot,
-/// and one more than the greatest slot that it ever voted at (VLDB 2021; the watermark is this project's own).
+/// An acceptor: the round that it promised, the chosen watermark, its last vote at each slot from there on by rising
+/// slot, and one more than the greatest slot that it ever voted at (VLDB 2021; the watermark is this project's own).
 #[derive(Drop)]
 pub struct Acceptor {
     pub(crate) alloc: Global,
@@ -31,9 +31,16 @@ impl Model for Acceptor {
 
     ghost Value = { Running AcceptorDurable (Unit {0}) };
 
-    ghost view = { λ a. record { cluster = a.cluster; me = a.me; live = a.live; durable = record { promise = a.promise; cw = a.cw; votes = a.votes.items; top = a.top }; volatile = tt } };
+    ghost view = { λ a. record {
+      cluster = a.cluster;
+      me = a.me;
+      live = a.live;
+      volatile = tt;
+      durable = record { promise = a.promise; cw = a.cw; votes = a.votes.items; top = a.top };
+    } };
 
-    ghost invariant = { λ a. IsSound a.me (record { promise = a.promise; cw = a.cw; votes = a.votes.items; top = a.top }) };
+    ghost invariant = { λ a.
+        IsSound a.me (record { promise = a.promise; cw = a.cw; votes = a.votes.items; top = a.top }) };
 }
 
 impl Role for Acceptor {

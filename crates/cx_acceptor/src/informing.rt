@@ -1,11 +1,11 @@
 //! The rows of how many slots are chosen.
 
-ghost use Rattle.std.specs.Prelude.{◌≡◌, [], true, false, IfOk, IsErrOf, IsTrue, OnErr};
+ghost use Rattle.std.specs.Prelude.{◌≡◌, [], true, IsTrue};
 ghost use Rattle.cx_base.specs.declared.role.Kind.{Kind};
 ghost use Rattle.cx_base.specs.Role.{role};
 ghost use Rattle.cx_model.specs.Acceptor.{acceptor_rules, inform_row, pre_read_row};
 ghost use Rattle.cx_field.specs.Fields as field;
-ghost use Rattle.cx_role.specs.Role.{Replies, Steps, StaysAt, FailsAt, KeepsDurable, takes_no_memory};
+ghost use Rattle.cx_role.specs.Role.{IsReply, IsStep};
 
 use crate::Acceptor;
 use cx_base::{NoMemory, RoleId, Round, Why};
@@ -15,8 +15,8 @@ use cx_msg::{Record, informed, pre_read_ack};
 use cx_role::{Outbox, StepFault, keep};
 
 impl Acceptor {
-    /// A leader that retires earlier rounds informs how many slots enough replicas hold; what is kept of it is the greatest
-    /// number, and its round as a promise (this project's own).
+    /// A leader that retires earlier rounds informs how many slots enough replicas hold; what is kept of it is the
+    /// greatest number, and its round as a promise (this project's own).
     pub(crate) fn inform<K: Keeper>(
         &mut self,
         keeper: &mut K,
@@ -30,12 +30,9 @@ impl Acceptor {
         requires sender { from ≡ role Kind.Leader from.index }
         requires round { IsTrue (field.round.fits round) }
         requires mark { IsTrue (field.mark.fits mark) }
-        ensures ok { IfOk result (λ why. Steps K.append_gives acceptor_rules self.old (inform_row self.old.me self.old.durable from round mark) why keeper.old keeper.new self.new out.new.list) }
-        ensures no_memory { IsErrOf result StepFault.NoMemory → StaysAt K.append_gives self.old self.new keeper.old keeper.new out.new.list }
-        ensures spared { IsErrOf result StepFault.NoMemory → takes_no_memory (inform_row self.old.me self.old.durable from round mark).why ≡ false }
-        ensures told { K.tells keeper.new ≡ K.tells keeper.old }
-        ensures failed { IsErrOf result StepFault.Failed → FailsAt K.append_gives (inform_row self.old.me self.old.durable from round mark) keeper.old keeper.new self.new out.new.list }
-        ensures keeps { IsErrOf result StepFault.Failed → KeepsDurable self.old self.new }
+        ensures { IsStep K.append_gives K.tells acceptor_rules self.old
+            (inform_row self.old.me self.old.durable from round mark)
+            result self.new keeper.old keeper.new out.new.list }
     {
         if round.is_before(&self.promise) {
             return Ok(self.refuse(round, out)?);
@@ -63,8 +60,8 @@ impl Acceptor {
         requires sender { from ≡ role Kind.Reader from.index }
         requires token { IsTrue (field.token.fits token) }
         requires watermark { IsTrue (field.round0.fits watermark) }
-        ensures ok { IfOk result (λ why. Replies acceptor_rules self.now (pre_read_row self.now.me self.now.durable from token watermark) why self.now out.new.list) }
-        ensures no_memory { OnErr result (out.new.list ≡ []) }
+        ensures { IsReply acceptor_rules self.now (pre_read_row self.now.me self.now.durable from token watermark)
+            result self.now out.new.list }
     {
         let mark = self.cw.max(self.top);
         out.room(1)?;

@@ -1,12 +1,13 @@
 //! The row of a promise.
 
-ghost use Rattle.std.specs.Prelude.{◌≡◌, ◌∷◌, [], true, false, IfOk, IsErrOf, IsTrue, OnOk, OnErr};
+ghost use Rattle.std.specs.Prelude.{◌≡◌, ◌∷◌, [], true, IfOk, IsTrue};
 ghost use Rattle.cx_base.specs.declared.role.Kind.{Kind};
 ghost use Rattle.cx_base.specs.Role.{role};
 ghost use Rattle.cx_base.specs.Round.{is_before};
 ghost use Rattle.cx_model.specs.Acceptor.{acceptor_rules, nack_to, phase1a_row};
+ghost use Rattle.cx_model.specs.Outcome.{replied};
 ghost use Rattle.cx_field.specs.Fields as field;
-ghost use Rattle.cx_role.specs.Role.{Steps, StaysAt, FailsAt, KeepsDurable, takes_no_memory};
+ghost use Rattle.cx_role.specs.Role.{IsReply, IsStep};
 
 use crate::Acceptor;
 use cx_base::{Few, NoMemory, RoleId, Round, Why, copy_all};
@@ -16,8 +17,8 @@ use cx_msg::{Record, nack, phase1b};
 use cx_role::{Outbox, StepFault, keep};
 
 impl Acceptor {
-    /// A leader asks to promise its round, and for the votes from the watermark on; they are reported once the promise is kept
-    /// (VLDB 2021).
+    /// A leader asks to promise its round, and for the votes from the watermark on; they are reported once the promise
+    /// is kept (VLDB 2021).
     pub(crate) fn phase1a<K: Keeper>(
         &mut self,
         keeper: &mut K,
@@ -29,12 +30,9 @@ impl Acceptor {
         requires empty { out.old.list ≡ [] }
         requires sender { from ≡ role Kind.Leader from.index }
         requires round { IsTrue (field.round.fits round) }
-        ensures ok { IfOk result (λ why. Steps K.append_gives acceptor_rules self.old (phase1a_row self.old.me self.old.durable from round) why keeper.old keeper.new self.new out.new.list) }
-        ensures no_memory { IsErrOf result StepFault.NoMemory → StaysAt K.append_gives self.old self.new keeper.old keeper.new out.new.list }
-        ensures spared { IsErrOf result StepFault.NoMemory → takes_no_memory (phase1a_row self.old.me self.old.durable from round).why ≡ false }
-        ensures told { K.tells keeper.new ≡ K.tells keeper.old }
-        ensures failed { IsErrOf result StepFault.Failed → FailsAt K.append_gives (phase1a_row self.old.me self.old.durable from round) keeper.old keeper.new self.new out.new.list }
-        ensures keeps { IsErrOf result StepFault.Failed → KeepsDurable self.old self.new }
+        ensures { IsStep K.append_gives K.tells acceptor_rules self.old
+            (phase1a_row self.old.me self.old.durable from round)
+            result self.new keeper.old keeper.new out.new.list }
     {
         if round.is_before(&self.promise) {
             return Ok(self.refuse(round, out)?);
@@ -56,9 +54,9 @@ impl Acceptor {
         requires before { is_before round self.now.durable.promise ≡ true }
         requires empty { out.old.list ≡ [] }
         requires round { IsTrue (field.round.fits round) }
-        ensures why { IfOk result (λ why. why ≡ Why.Nack) }
-        ensures ok { OnOk result (out.new.list ≡ nack_to self.now.me round self.now.durable.promise ∷ []) }
-        ensures no_memory { OnErr result (out.new.list ≡ []) }
+        ensures { IsReply acceptor_rules self.now
+            (replied Why.Nack tt (nack_to self.now.me round self.now.durable.promise ∷ []))
+            result self.now out.new.list }
     {
         out.room(1)?;
         out.push(nack(self.me.index, round.id, round, self.promise));

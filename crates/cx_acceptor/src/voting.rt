@@ -1,12 +1,12 @@
 //! The row of a vote.
 
-ghost use Rattle.std.specs.Prelude.{◌≡◌, [], true, false, IfOk, IsErrOf, IsTrue};
+ghost use Rattle.std.specs.Prelude.{◌≡◌, [], true, IsTrue};
 ghost use Rattle.cx_base.specs.declared.role.Kind.{Kind};
 ghost use Rattle.cx_base.specs.Role.{role};
 ghost use Rattle.cx_model.specs.Acceptor.{acceptor_rules, phase2a_row};
 ghost use Rattle.cx_field.specs.Fields as field;
 ghost use Rattle.cx_field.specs.Fields.{in_window};
-ghost use Rattle.cx_role.specs.Role.{Steps, StaysAt, FailsAt, KeepsDurable, takes_no_memory};
+ghost use Rattle.cx_role.specs.Role.{IsStep};
 
 use crate::Acceptor;
 use crate::votes::{has_vote, keep_from, place};
@@ -17,8 +17,8 @@ use cx_msg::{Record, phase2b};
 use cx_role::{Outbox, StepFault, keep};
 
 impl Acceptor {
-    /// A proxy leader asks for a vote: in a round below the promised one the round's leader is warned, else the vote is kept
-    /// before it is sent, once for each round and slot (VLDB 2021).
+    /// A proxy leader asks for a vote: in a round below the promised one the round's leader is warned, else the vote is
+    /// kept before it is sent, once for each round and slot (VLDB 2021).
     pub(crate) fn phase2a<K: Keeper>(
         &mut self,
         keeper: &mut K,
@@ -37,12 +37,9 @@ impl Acceptor {
         requires mark { IsTrue (field.mark.fits cw) }
         requires window { IsTrue (in_window cw slot) }
         requires value { IsTrue (field.value.fits value.now) }
-        ensures ok { IfOk result (λ why. Steps K.append_gives acceptor_rules self.old (phase2a_row self.old.me self.old.durable from round slot cw value.now) why keeper.old keeper.new self.new out.new.list) }
-        ensures no_memory { IsErrOf result StepFault.NoMemory → StaysAt K.append_gives self.old self.new keeper.old keeper.new out.new.list }
-        ensures spared { IsErrOf result StepFault.NoMemory → takes_no_memory (phase2a_row self.old.me self.old.durable from round slot cw value.now).why ≡ false }
-        ensures told { K.tells keeper.new ≡ K.tells keeper.old }
-        ensures failed { IsErrOf result StepFault.Failed → FailsAt K.append_gives (phase2a_row self.old.me self.old.durable from round slot cw value.now) keeper.old keeper.new self.new out.new.list }
-        ensures keeps { IsErrOf result StepFault.Failed → KeepsDurable self.old self.new }
+        ensures { IsStep K.append_gives K.tells acceptor_rules self.old
+            (phase2a_row self.old.me self.old.durable from round slot cw value.now)
+            result self.new keeper.old keeper.new out.new.list }
     {
         if round.is_before(&self.promise) {
             return Ok(self.refuse(round, out)?);

@@ -7,10 +7,11 @@ use Rattle.cx_model.specs.Batcher.{batcher_rules}
 use Rattle.cx_model.specs.Unbatcher.{unbatcher_rules}
 use Rattle.cx_model.specs.Rules.{refused_from}
 
-pub batcher_refuses : (c : Cluster) (me : RoleId) (d : Unit {0}) (rs : List Record) → 1 ≤ length rs → refused_from batcher_rules c me d 0 rs ≡ Some 0
-batcher_refuses c me d [] h = absurd (omega arith)
-batcher_refuses c me d (r ∷ rs) h = refl
+module _ (c : Cluster) (me : RoleId) (d : Unit {0}) where
+  pub batcher_refuses : (rs : List Record) → 1 ≤ length rs → refused_from batcher_rules c me d 0 rs ≡ Some 0
+  batcher_refuses [] h = absurd (omega arith)
+  batcher_refuses (r ∷ rs) h = refl
 
-pub unbatcher_refuses : (c : Cluster) (me : RoleId) (d : Unit {0}) (rs : List Record) → 1 ≤ length rs → refused_from unbatcher_rules c me d 0 rs ≡ Some 0
-unbatcher_refuses c me d [] h = absurd (omega arith)
-unbatcher_refuses c me d (r ∷ rs) h = refl
+  pub unbatcher_refuses : (rs : List Record) → 1 ≤ length rs → refused_from unbatcher_rules c me d 0 rs ≡ Some 0
+  unbatcher_refuses [] h = absurd (omega arith)
+  unbatcher_refuses (r ∷ rs) h = refl

@@ -11,7 +11,8 @@ use Rattle.cx_model.specs.Batcher.{BatcherVolatile, batcher_takes}
 use Rattle.cx_model.specs.Outcome.{answered}
 
 -- what is neither a command nor a round
-pub other_takes : (c : Cluster) (me : RoleId) (v : BatcherVolatile) (m : Msg) → ((k : Command) → m ≡ msg.Submit k → ⊥) → ((i : Round) → m ≡ msg.Leads i → ⊥)
+pub other_takes : (c : Cluster) (me : RoleId) (v : BatcherVolatile) (m : Msg)
+    → ((k : Command) → m ≡ msg.Submit k → ⊥) → ((i : Round) → m ≡ msg.Leads i → ⊥)
     → batcher_takes c me v m ≡ answered Stranger v
 other_takes c me v (msg.Submit k) submit leads = absurd (submit k refl)
 other_takes c me v (msg.Leads i) submit leads = absurd (leads i refl)

@@ -1,13 +1,27 @@
 -- A batcher and the commands that it holds.
-use Rattle.std.specs.Prelude.{◌≡◌, ℕ, ◌<◌, List, length, IsTrue}
+use Rattle.std.specs.Prelude.{◌≡◌, ℕ, ◌<◌, Bool, List, length, IsTrue}
 use Rattle.std.specs.List.{list_all}
+use Rattle.cx_base.specs.declared.cluster.Cluster.{Cluster}
 use Rattle.cx_base.specs.declared.command.Command.{Command}
 use Rattle.cx_base.specs.declared.role.Kind.TheVariants.{Batcher}
 use Rattle.cx_base.specs.declared.role.RoleId.{RoleId}
+use Rattle.cx_base.specs.declared.round.Round.{Round}
 use Rattle.cx_field.specs.Fields.{command}
+use Rattle.cx_model.specs.Batcher.{BatcherVolatile}
+use Rattle.cx_model.specs.Rules.{Running}
 
 -- a batcher, and fewer commands than a batch, each in its ranges
 pub record CanWait (batch : ℕ) (me : RoleId) (waiting : List Command) : Type 0 where
   pub kind : me.kind ≡ Batcher
   pub room : length waiting < batch
   pub fit : IsTrue (list_all (λ (k : Command). command.fits k) waiting)
+
+-- which state it is in
+abbrev pub batcher_view : Cluster → RoleId → Bool → List Command → Round → Running (Unit {0}) BatcherVolatile
+batcher_view c me live waiting round = record {
+  cluster = c;
+  me = me;
+  live = live;
+  durable = tt;
+  volatile = record { waiting = waiting; round = round };
+}

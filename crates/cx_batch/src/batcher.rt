@@ -1,13 +1,13 @@
 //! The batcher.
 
-ghost use Rattle.std.specs.Prelude.{◌≡◌, ◌≤◌, ◌++◌, ◌∷◌, [], length, vec_len, IfOk, OnOk, OnErr, IsTrue, false};
+ghost use Rattle.std.specs.Prelude.{◌≡◌, ◌≤◌, ◌++◌, ◌∷◌, [], vec_len, OnOk, OnErr, IsTrue};
 ghost use Rattle.std.specs.List.{list_all};
 ghost use Rattle.cx_base.specs.declared.command.Command.{Command};
 ghost use Rattle.cx_base.specs.declared.role.Kind.TheVariants as kind;
 ghost use Rattle.cx_field.specs.Fields as field;
-ghost use Rattle.cx_model.specs.Rules.{Running, opened};
-ghost use Rattle.cx_model.specs.Batcher.{BatcherVolatile, batcher_rules, batch_to, submit_row, leads_row, batcher_tick};
-ghost use Rattle.cx_role.specs.Role.{Replies, takes_no_memory};
+ghost use Rattle.cx_model.specs.Rules.{opened};
+ghost use Rattle.cx_model.specs.Batcher.{BatcherVolatile, batcher_rules, batch_to, submit_row, leads_row};
+ghost use Rattle.cx_role.specs.Role.{IsReply, Replies};
 
 use cx_base::{Cluster, Command, Duplicate, Few, NoMemory, Order, RoleId, Round, Why};
 use cx_keeper::Keeper;
@@ -30,11 +30,11 @@ pub struct Batcher {
 impl Model for Batcher {
     ghost use Rattle.cx_model.specs.Rules.{Running};
     ghost use Rattle.cx_model.specs.Batcher.{BatcherVolatile};
-    ghost use Rattle.cx_batch.specs.Waiting.{CanWait};
+    ghost use Rattle.cx_batch.specs.Waiting.{CanWait, batcher_view};
 
     ghost Value = { Running (Unit {0}) BatcherVolatile };
 
-    ghost view = { λ b. record { cluster = b.cluster; me = b.me; live = b.live; durable = tt; volatile = record { waiting = b.waiting.items; round = b.round } } };
+    ghost view = { λ b. batcher_view b.cluster b.me b.live b.waiting.items b.round };
 
     ghost invariant = { λ b. CanWait b.cluster.batch b.me b.waiting.items };
 }
@@ -59,10 +59,9 @@ impl Batcher {
     fn submit(&mut self, command: &Command, out: &mut Outbox) -> Result<Why, NoMemory>
         requires fits { IsTrue (field.command.fits command.now) }
         requires empty { out.old.list ≡ [] }
-        ensures ok { IfOk result (λ why. Replies batcher_rules self.old (submit_row self.old.cluster self.old.me self.old.volatile command.now) why self.new out.new.list) }
-        ensures spared { OnErr result (takes_no_memory (submit_row self.old.cluster self.old.me self.old.volatile command.now).why ≡ false) }
-        ensures state { OnErr result (self.new ≡ self.old) }
-        ensures sends { OnErr result (out.new.list ≡ []) }
+        ensures { IsReply batcher_rules self.old
+            (submit_row self.old.cluster self.old.me self.old.volatile command.now)
+            result self.new out.new.list }
     {
         out.room(1)?;
         push_copy(self.alloc, &mut self.waiting, command)?;
@@ -154,7 +153,7 @@ impl Role for Batcher {
 }
 
 // The gathered commands, to the leader of the round.
-#[tactic(auto, using(crate::proofs::Letters::commands_fit))]
+#[tactic(auto, using(cx_field::proofs::ListLaws::commands_fit))]
 fn batch_to(me: RoleId, round: Round, waiting: Vec<Command>) -> Datagram
     requires kind { me.kind ≡ kind.Batcher }
     requires some { 1 ≤ vec_len waiting }

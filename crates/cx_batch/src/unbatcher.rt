@@ -5,7 +5,6 @@ ghost use Rattle.std.specs.List.{list_all};
 ghost use Rattle.cx_base.specs.declared.command.Answered.{Answered};
 ghost use Rattle.cx_base.specs.declared.role.Kind.TheVariants as kind;
 ghost use Rattle.cx_field.specs.Fields as field;
-ghost use Rattle.cx_model.specs.Rules.{Running};
 ghost use Rattle.cx_model.specs.Unbatcher.{unbatcher_rules, answer_to};
 
 use cx_base::{Answered, Cluster, NoMemory, Order, RoleId, Why};
@@ -30,7 +29,13 @@ impl Model for Unbatcher {
 
     ghost Value = { Running (Unit {0}) (Unit {0}) };
 
-    ghost view = { λ u. record { cluster = u.cluster; me = u.me; live = u.live; durable = tt; volatile = tt } };
+    ghost view = { λ u. record {
+      cluster = u.cluster;
+      me = u.me;
+      live = u.live;
+      durable = tt;
+      volatile = tt;
+    } };
 
     ghost invariant = { λ u. u.me.kind ≡ kind.Unbatcher };
 }
@@ -70,7 +75,7 @@ impl Role for Unbatcher {
         })
     }
 
-    #[tactic(auto, using(crate::proofs::Letters::answers_fit), unfolding(cx_msg::specs::Messages::results))]
+    #[tactic(auto, using(cx_field::proofs::ListLaws::each_answer_fits), unfolding(cx_msg::specs::Messages::results))]
     fn take<K: Keeper>(
         &mut self,
         _keeper: &mut K,

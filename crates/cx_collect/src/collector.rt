@@ -27,7 +27,11 @@ impl Model for Collector {
 
     ghost Value = { Collecting };
 
-    ghost view = { λ k. record { grid = k.grid; f = k.f; collection = record { stage = k.stage; mark = k.mark; counted = k.counted } } };
+    ghost view = { λ k. record {
+      grid = k.grid;
+      f = k.f;
+      collection = record { stage = k.stage; mark = k.mark; counted = k.counted };
+    } };
 
     ghost invariant = { λ k. IsCount k.f k.forgotten (record { stage = k.stage; mark = k.mark; counted = k.counted }) };
 }

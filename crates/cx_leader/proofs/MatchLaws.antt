@@ -17,12 +17,14 @@ use Rattle.cx_model.specs.Names.{names_entry, names_round, names_grid}
 use Rattle.cx_phase1.specs.Counting.{are_ids}
 use Rattle.cx_leader.specs.State.{is_named}
 
-entries_told-push : (told : List MatchAnswer) (a : MatchAnswer) → entries_told (told ++ a ∷ []) ≡ entries_told told ++ a.entries
+entries_told-push : (told : List MatchAnswer) (a : MatchAnswer)
+    → entries_told (told ++ a ∷ []) ≡ entries_told told ++ a.entries
 entries_told-push [] a = append-nil a.entries
 entries_told-push (b ∷ told) a = ap (λ es. b.entries ++ es) (entries_told-push told a) ∙ sym (append_assoc b.entries (entries_told told) a.entries)
 
 -- the entries from a round on, with those of one more answer
-pub entries_from-push : (w : Round) (told : List MatchAnswer) (a : MatchAnswer) → entries_from w (entries_told (told ++ a ∷ [])) ≡ entries_from w (entries_told told) ++ entries_from w a.entries
+pub entries_from-push : (w : Round) (told : List MatchAnswer) (a : MatchAnswer)
+    → entries_from w (entries_told (told ++ a ∷ [])) ≡ entries_from w (entries_told told) ++ entries_from w a.entries
 entries_from-push w told a = ap (entries_from w) (entries_told-push told a) ∙ filter-append _ (entries_told told) a.entries
 
 greatest_high : (ns : List ℕ) (k : ℕ) → All (λ n. n ≤ k) ns → greatest_of ns ≤ k
@@ -44,27 +46,40 @@ named_below n k (id ∷ ids) le h =
     let here : nat_lt id k ≡ true = lt-ltb id k (omega (arith, ltb-true id n p.0)) in
     and_from (nat_lt id k) (list_all (λ x. nat_lt x k) ids) here (named_below n k ids le p.1)
 
-entries_named : (c : Cluster) (told : List MatchAnswer) → list_all (λ (a : MatchAnswer). is_named c a) told ≡ true → list_all (λ (e : Entry). names_entry c e) (entries_told told) ≡ true
-entries_named c [] h = refl
-entries_named c (a ∷ told) h =
-    let p = and_parts (is_named c a) (list_all (λ (x : MatchAnswer). is_named c x) told) h in
-    list_all-append (λ (e : Entry). names_entry c e) a.entries (entries_told told) ∙ and_from (is_named c a) (list_all (λ (e : Entry). names_entry c e) (entries_told told)) p.0 (entries_named c told p.1)
+module _ (c : Cluster) where
+  abbrev are_named : List Entry → Bool
+  are_named es = list_all (λ (e : Entry). names_entry c e) es
 
-filter_ids_by : (c : Cluster) (b : Bool) (e : Entry) (es : List Entry) → names_entry c e ≡ true → are_ids es ≡ true → are_ids (if b then e ∷ es else es) ≡ true
-filter_ids_by c true e es named rest =
-    let p = and_parts (names_round c e.round) (names_grid c e.grid) named in
-    and_from (list_all (λ id. nat_lt id 64) e.grid.members) (are_ids es) (named_below c.acceptors 64 e.grid.members c.acceptors_fit p.1) rest
-filter_ids_by c false e es named rest = rest
+  abbrev all_named : List MatchAnswer → Bool
+  all_named told = list_all (λ (a : MatchAnswer). is_named c a) told
 
-filter_ids : (c : Cluster) (p : Entry → Bool) (es : List Entry) → list_all (λ (e : Entry). names_entry c e) es ≡ true → are_ids (filter p es) ≡ true
-filter_ids c p [] h = refl
-filter_ids c p (e ∷ es) h =
-    let q = and_parts (names_entry c e) (list_all (λ (x : Entry). names_entry c x) es) h in
-    filter_ids_by c (p e) e (filter p es) q.0 (filter_ids c p es q.1)
+  entries_named : (told : List MatchAnswer) → all_named told ≡ true → are_named (entries_told told) ≡ true
+  entries_named [] h = refl
+  entries_named (a ∷ told) h =
+      let p = and_parts (is_named c a) (all_named told) h in
+      list_all-append (λ (e : Entry). names_entry c e) a.entries (entries_told told)
+      ∙ and_from (is_named c a) (are_named (entries_told told)) p.0 (entries_named told p.1)
 
--- the members of the live grids are ids
-pub live_ids : (c : Cluster) (told : List MatchAnswer) → list_all (λ (a : MatchAnswer). is_named c a) told ≡ true → are_ids (live_entries told) ≡ true
-live_ids c told h = filter_ids c _ (entries_told told) (entries_named c told h)
+  filter_ids_by : (b : Bool) (e : Entry) (es : List Entry) → names_entry c e ≡ true → are_ids es ≡ true
+      → are_ids (if b then e ∷ es else es) ≡ true
+  filter_ids_by true e es named rest =
+      let p = and_parts (names_round c e.round) (names_grid c e.grid) named in
+      let here = named_below c.acceptors 64 e.grid.members c.acceptors_fit p.1 in
+      and_from (list_all (λ id. nat_lt id 64) e.grid.members) (are_ids es) here rest
+  filter_ids_by false e es named rest = rest
 
-pub named_more : (c : Cluster) (told : List MatchAnswer) (a : MatchAnswer) → list_all (λ (x : MatchAnswer). is_named c x) told ≡ true → is_named c a ≡ true → list_all (λ (x : MatchAnswer). is_named c x) (told ++ a ∷ []) ≡ true
-named_more c told a h k = list_all-append (λ (x : MatchAnswer). is_named c x) told (a ∷ []) ∙ and_from (list_all (λ (x : MatchAnswer). is_named c x) told) (is_named c a && true) h (and_from (is_named c a) true k refl)
+  filter_ids : (p : Entry → Bool) (es : List Entry) → are_named es ≡ true → are_ids (filter p es) ≡ true
+  filter_ids p [] h = refl
+  filter_ids p (e ∷ es) h =
+      let q = and_parts (names_entry c e) (are_named es) h in
+      filter_ids_by (p e) e (filter p es) q.0 (filter_ids p es q.1)
+
+  -- the members of the live grids are ids
+  pub live_ids : (told : List MatchAnswer) → all_named told ≡ true → are_ids (live_entries told) ≡ true
+  live_ids told h = filter_ids _ (entries_told told) (entries_named told h)
+
+  pub named_more : (told : List MatchAnswer) (a : MatchAnswer) → all_named told ≡ true → is_named c a ≡ true
+      → all_named (told ++ a ∷ []) ≡ true
+  named_more told a h k =
+      list_all-append (λ (x : MatchAnswer). is_named c x) told (a ∷ [])
+      ∙ and_from (all_named told) (is_named c a && true) h (and_from (is_named c a) true k refl)

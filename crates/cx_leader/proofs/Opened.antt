@@ -30,3 +30,6 @@ zeros_low k first (suc n) = All-cons (λ h. h ≤ k) 0 (map (λ (r : ℕ). 0) (n
 -- no replica reported anything
 pub none_told : (c : Cluster) → IsHeld c (map (λ (r : ℕ). 0) (below c.replicas))
 none_told c = record { count = length-zeros 0 c.replicas; marks = zeros_low (2 ^ 40) 0 c.replicas }
+
+-- what opening a leader needs
+pub ruleset openings = (leader_itself, leader_named, none_told)

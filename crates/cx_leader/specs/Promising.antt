@@ -1,16 +1,28 @@
 -- What a leader knows of its first phase.
-use Rattle.std.specs.Prelude.{List, [], ◌∷◌, ◌++◌, Option}
+use Rattle.std.specs.Prelude.{List, [], ◌∷◌, ◌++◌, Option, map}
 use Rattle.std.specs.Option.{option_map, option_map_or}
 use Rattle.cx_base.specs.declared.cluster.Cluster.{Cluster}
 use Rattle.cx_base.specs.declared.role.RoleId.{RoleId}
 use Rattle.cx_base.specs.declared.why.Why.TheVariants as why
 use Rattle.cx_field.specs.declared.parts.Entry.{Entry}
+use Rattle.cx_model.specs.declared.states.MatchAnswer.{MatchAnswer}
+use Rattle.cx_model.specs.declared.states.Mode.TheVariants as mode
 use Rattle.cx_model.specs.declared.states.Promised.{Promised}
-use Rattle.cx_model.specs.Leader.{LeaderVolatile, finish}
-use Rattle.cx_model.specs.Outcome.{Outcome, answered}
-use Rattle.cx_phase1.specs.Counting.{Counting}
+use Rattle.cx_model.specs.Leader.{LeaderVolatile, finish, phase1a_to}
+use Rattle.cx_model.specs.Matched.{live_entries, members_of}
+use Rattle.cx_model.specs.Outcome.{Outcome, answered, replied}
+use Rattle.cx_phase1.specs.Counting.{Counting, told_by}
 use Rattle.cx_phase1.specs.declared.told.Told.{Told}
 use Rattle.cx_phase1.specs.declared.told.Told.TheVariants as told
+
+-- one more matchmaker has answered
+abbrev pub with_answer : MatchAnswer → LeaderVolatile → LeaderVolatile
+with_answer a v = record v { told = v.told ++ a ∷ [] }
+
+-- the acceptors of the live grids are asked
+abbrev pub ask_row : Cluster → RoleId → Entry → LeaderVolatile → List Entry → Outcome LeaderVolatile
+ask_row c me own v live =
+    replied why.Phase1 (record v { mode = mode.Phase1 }) (map (phase1a_to me own.round) (members_of c live))
 
 -- the acceptors that were counted, if somebody was asked
 abbrev pub promises_of : Option Counting → List Promised
@@ -20,9 +32,20 @@ promises_of phase1 = option_map_or (λ (k : Counting). k.promises) phase1 []
 abbrev pub live_of : Option Counting → Option (List Entry)
 live_of phase1 = option_map (λ (k : Counting). k.live) phase1
 
+-- what it counts of its first phase
+abbrev pub counting : LeaderVolatile → Counting
+counting v = record { live = live_entries v.told; promises = v.promises }
+
+-- one more acceptor has promised
+abbrev pub with_promise : Promised → LeaderVolatile → LeaderVolatile
+with_promise p v = record v { promises = v.promises ++ p ∷ [] }
+
 -- the row of an acceptor's answer, by how the answer counts
-abbrev pub promised_row : Cluster → RoleId → Entry → LeaderVolatile → Promised → Told → Outcome LeaderVolatile
-promised_row c me own v p told.Unasked = answered why.Unasked v
-promised_row c me own v p told.Same = answered why.Same v
-promised_row c me own v p told.Counted = answered why.Counted (record v { promises = v.promises ++ p ∷ [] })
-promised_row c me own v p told.Whole = finish c me own (record v { promises = v.promises ++ p ∷ [] })
+abbrev pub told_row : Cluster → RoleId → Entry → LeaderVolatile → Promised → Told → Outcome LeaderVolatile
+told_row c me own v p told.Unasked = answered why.Unasked v
+told_row c me own v p told.Same = answered why.Same v
+told_row c me own v p told.Counted = answered why.Counted (with_promise p v)
+told_row c me own v p told.Whole = finish c me own (with_promise p v)
+
+abbrev pub promised_row : Cluster → RoleId → Entry → LeaderVolatile → Promised → Outcome LeaderVolatile
+promised_row c me own v p = told_row c me own v p (told_by (counting v) p)

@@ -1,18 +1,23 @@
 -- What a leader proposed, as contracts see it.
-use Rattle.std.specs.Prelude.{◌≡◌, ◌≤◌, ◌<◌, ◌+◌, ◌-◌, ◌^◌, ℕ, Bool, true, false, nat_le, max, map, filter, List, [], ◌∷◌, ◌++◌, All, Option, None, Some, IsTrue, if◌then◌else◌}
+use Rattle.std.specs.Prelude.{◌≡◌, ◌≤◌, ◌<◌, ◌+◌, ◌-◌, ◌^◌, ℕ, Bool, true, false, nat_le, max, map, filter}
+use Rattle.std.specs.Prelude.{List, [], ◌∷◌, ◌++◌, All, Option, None, Some, IsTrue}
 use Rattle.cx_base.specs.declared.command.Placed.{Placed}
 use Rattle.cx_base.specs.declared.command.Value.{Value}
-use Rattle.cx_base.specs.Grid.{is_in}
+use Rattle.cx_base.specs.declared.cluster.Cluster.{Cluster}
+use Rattle.cx_base.specs.declared.role.Kind.TheVariants.{Leader}
 use Rattle.cx_base.specs.Lists.{numbers}
+use Rattle.cx_base.specs.Role.{role}
 use Rattle.cx_model.specs.declared.states.Plan.{Plan}
-use Rattle.cx_model.specs.Leader.{are_known, without_known}
+use Rattle.cx_model.specs.Leader.{are_known, propose_to}
 use Rattle.cx_model.specs.Plan.{placed_from}
+use Rattle.cx_field.specs.declared.parts.Entry.{Entry}
 use Rattle.cx_field.specs.Fields as field
+use Rattle.cx_msg.specs.Letter.{Letter}
 use Rattle.cx_phase1.specs.Window.{IsWindow, is_used_up}
-use Rattle.cx_ring.specs.Ring.{RingState, value_at}
+use Rattle.cx_ring.specs.Ring.{RingState}
 
--- the chosen watermark and the next free slot; the slot before which it proposed when it began to lead; what it proposed from the
--- watermark on, and which of these slots it knows to be chosen
+-- the chosen watermark and the next free slot; the slot before which it proposed when it began to lead; what it
+-- proposed from the watermark on, and which of these slots it knows to be chosen
 pub record Proposing : Type 0 where
   pub cw : ℕ
   pub next : ℕ
@@ -58,9 +63,9 @@ raised cw p =
 abbrev pub is_settled : Proposing → Bool
 is_settled p = are_known p.chosen p.cw p.end
 
--- the values that aren't known to be chosen
-abbrev pub open_values : Proposing → List Placed
-open_values p = without_known p.chosen p.proposed
+-- what a leader with this watermark sends to propose these values in its round
+abbrev pub propose_sends : Cluster → ℕ → Entry → ℕ → List Placed → List Letter
+propose_sends c leader own cw ps = map (propose_to c (role Leader leader) own cw) ps
 
 -- a slot that a leader with this watermark may propose at
 pub record IsSlot (cw s : ℕ) : Type 0 where
@@ -68,24 +73,20 @@ pub record IsSlot (cw s : ℕ) : Type 0 where
   pub high : s < cw + 32
   pub end : s < 2 ^ 40
 
--- a value that has a spelling, at such a slot
-pub record IsProposal (cw : ℕ) (p : Placed) : Type 0 where
-  pub slot : IsSlot cw p.slot
-  pub value : IsTrue (field.value.fits p.value)
+-- a value that has a spelling
+abbrev pub IsSpelled : Placed → Type 0
+IsSpelled p = IsTrue (field.value.fits p.value)
 
 -- the slots from the watermark on have one value each, up to the next free one
 pub record IsProposing (cw next : ℕ) (proposed : List Placed) : Type 0 where
   pub window : IsWindow cw next
   pub slots : map (λ (p : Placed). p.slot) proposed ≡ numbers cw (next - cw)
-  pub values : All (IsProposal cw) proposed
+  pub values : All IsSpelled proposed
 
--- the value of a slot, unless the slot is known to be chosen
+-- the value of a slot, if it has one
 abbrev pub only : Option Placed → List Placed
 only None = []
 only (Some x) = x ∷ []
-
-abbrev pub open_value : ℕ → Proposing → List Placed
-open_value s p = if is_in s p.chosen then [] else only (value_at (λ (x : Placed). x.slot) s p.proposed)
 
 -- the windows whose values are held, and of which it is known what is chosen, begin at the watermark
 pub record IsHolding (cw next : ℕ) (list : RingState Placed) (known : ℕ) : Type 0 where

@@ -1,19 +1,50 @@
 -- What the parts of a leader owe one another.
-use Rattle.std.specs.Prelude.{◌≡◌, ◌≤◌, ◌<◌, ◌+◌, ◌^◌, ◌==◌, ℕ, Bool, true, ◌&&◌, ◌||◌, not, is_some, length, Option, None, Some, IsTrue, List, All}
+use Rattle.std.specs.Prelude.{◌≡◌, ◌≤◌, ◌<◌, ◌+◌, ◌^◌, ◌==◌, ℕ, Bool, true, ◌&&◌, ◌||◌, not, is_some, length}
+use Rattle.std.specs.Prelude.{Option, None, Some, IsTrue, List, All}
 use Rattle.std.specs.List.{list_all}
 use Rattle.std.specs.Option.{option_map}
 use Rattle.cx_base.specs.declared.cluster.Cluster.{Cluster}
+use Rattle.cx_base.specs.declared.role.Kind.TheVariants as kind
+use Rattle.cx_base.specs.declared.round.Round.{Round}
+use Rattle.cx_base.specs.Role.{role}
 use Rattle.cx_collect.specs.Collecting.{Collecting}
 use Rattle.cx_field.specs.Fields as field
 use Rattle.cx_field.specs.declared.parts.Entry.{Entry}
 use Rattle.cx_model.specs.declared.states.MatchAnswer.{MatchAnswer}
 use Rattle.cx_model.specs.declared.states.Mode.{Mode}
 use Rattle.cx_model.specs.Collection.{is_off}
-use Rattle.cx_model.specs.Leader.{is_idle, is_matching, is_promising}
+use Rattle.cx_model.specs.Leader.{LeaderDurable, LeaderVolatile, is_idle, is_matching, is_promising}
 use Rattle.cx_model.specs.Matched.{live_entries}
 use Rattle.cx_model.specs.Names.{names_entry}
+use Rattle.cx_model.specs.Rules.{Running}
 use Rattle.cx_phase1.specs.Counting.{Counting}
-use Rattle.cx_leader.specs.Promising.{live_of}
+use Rattle.cx_leader.specs.Promising.{live_of, promises_of}
+use Rattle.cx_leader.specs.Proposing.{Proposing}
+
+-- a leader as contracts see it, by the parts that it holds
+abbrev pub leader_view : Cluster → ℕ → Bool → Option Entry → Mode → Round → List ℕ → List MatchAnswer → Option Counting
+    → Proposing → Collecting → Running LeaderDurable LeaderVolatile
+leader_view c index live own mode seen held told phase1 p k =
+    record {
+      cluster = c;
+      me = role kind.Leader index;
+      live = live;
+      durable = record { own = own };
+      volatile =
+          record {
+            mode = mode;
+            seen = seen;
+            held = held;
+            told = told;
+            promises = promises_of phase1;
+            cw = p.cw;
+            next = p.next;
+            end = p.end;
+            proposed = p.proposed;
+            chosen = p.chosen;
+            collection = k.collection;
+          };
+    }
 
 -- a round of its own that has a spelling, if there is one
 abbrev pub own_fits : ℕ → Option Entry → Bool
@@ -30,8 +61,8 @@ pub record IsBegun (c : Cluster) (index : ℕ) (own : Option Entry) (mode : Mode
   pub fits : IsTrue (own_fits index own)
   pub begun : IsTrue (is_idle mode || is_some own)
 
--- It counts at most f + 1 matchmakers. While it asks acceptors, it asks those of the live grids that the matchmakers reported, and
--- none before that.
+-- It counts at most f + 1 matchmakers. While it asks acceptors, it asks those of the live grids that the matchmakers
+-- reported, and none before that.
 pub record IsMatched (c : Cluster) (mode : Mode) (told : List MatchAnswer) (phase1 : Option Counting) : Type 0 where
   pub count : length told ≤ c.f + 1
   pub fewer : IsTrue (is_matching mode) → length told ≤ c.f
@@ -51,7 +82,8 @@ pub record IsRetiring (c : Cluster) (own : Option Entry) (k : Collecting) : Type
   pub mark : k.collection.mark ≤ 2 ^ 40
 
 -- what holds of each leader
-pub record IsLeader (c : Cluster) (index : ℕ) (own : Option Entry) (mode : Mode) (told : List MatchAnswer) (phase1 : Option Counting) (held : List ℕ) (k : Collecting) : Type 0 where
+pub record IsLeader (c : Cluster) (index : ℕ) (own : Option Entry) (mode : Mode) (told : List MatchAnswer)
+    (phase1 : Option Counting) (held : List ℕ) (k : Collecting) : Type 0 where
   pub begun : IsBegun c index own mode
   pub matched : IsMatched c mode told phase1
   pub holding : IsHeld c held

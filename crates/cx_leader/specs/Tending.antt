@@ -1,11 +1,8 @@
 -- What a node that tends its roles asks of a leader.
-use Rattle.std.specs.Prelude.{◌-◌, Bool, not, ◌&&◌, nat_lt, nat_le, filter, length, is_some}
-use Rattle.std.specs.List.{list_all}
+use Rattle.std.specs.Prelude.{Bool, not, ◌&&◌, nat_lt, nat_le, filter, length, is_some}
 use Rattle.cx_base.specs.declared.cluster.Cluster.{Cluster}
-use Rattle.cx_base.specs.Grid.{is_in}
-use Rattle.cx_base.specs.Lists.{numbers}
 use Rattle.cx_model.specs.Collection.{is_off, is_retired}
-use Rattle.cx_model.specs.Leader.{LeaderDurable, LeaderVolatile, is_leading, is_settled}
+use Rattle.cx_model.specs.Leader.{LeaderDurable, LeaderVolatile, are_known, is_leading, is_settled}
 use Rattle.cx_model.specs.Matched.{enough}
 
 -- whether it never began a round
@@ -16,7 +13,8 @@ is_new d = not (is_some d.own)
 abbrev pub has_heard : Cluster → LeaderVolatile → Bool
 has_heard c v = nat_le (enough c) (length (filter (λ n. nat_lt 0 n) v.held))
 
--- whether an order to collect would begin: it leads, hasn't begun in this round, and all that it proposed at first is known to be chosen
+-- whether an order to collect would begin: it leads, hasn't begun in this round, and all that it proposed at first is
+-- known to be chosen
 abbrev pub can_collect : LeaderVolatile → Bool
 can_collect v = is_leading v.mode && is_off v.collection.stage && is_settled v
 
@@ -24,7 +22,8 @@ can_collect v = is_leading v.mode && is_off v.collection.stage && is_settled v
 abbrev pub has_open : LeaderVolatile → Bool
 has_open v = nat_lt v.cw v.next
 
--- Whether its ticks can do no more for its open slots, of which there is one: it leads, has retired the earlier rounds, and knows each
--- of these slots to be chosen.
+-- Whether its ticks can do no more for its open slots, of which there is one: it leads, has retired the earlier rounds,
+-- and knows each of these slots to be chosen.
 abbrev pub is_spent : LeaderVolatile → Bool
-is_spent v = is_leading v.mode && is_retired v.collection.stage && has_open v && list_all (λ s. is_in s v.chosen) (numbers v.cw (v.next - v.cw))
+is_spent v =
+    is_leading v.mode && is_retired v.collection.stage && has_open v && are_known v.chosen v.cw v.next

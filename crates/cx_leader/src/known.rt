@@ -11,8 +11,8 @@ use cx_ring::{Ring, Slotted, Tells, Told};
 use std::alloc::Global;
 use std::marker::Model;
 
-/// The slots of a window that are known to be chosen: looked up at once, where contracts see the list of them in the order in
-/// which they were noted.
+/// The slots of a window that are known to be chosen: looked up at once, where contracts see the list of them in the
+/// order in which they were noted.
 #[derive(Drop)]
 pub struct Known {
     slots: Ring<u64, Itself>,
@@ -85,7 +85,8 @@ impl Known {
         Ok(())
     }
 
-    /// Lets the window begin at a slot, or leaves a later beginning; the slots below it are forgotten. It takes no memory.
+    /// Lets the window begin at a slot, or leaves a later beginning; the slots below it are forgotten. It takes no
+    /// memory.
     #[tactic(auto, using(crate::proofs::Knows::same_from))]
     pub fn raise(&mut self, first: u64)
         requires { first ≤ 2 ^ 40 }

@@ -1,12 +1,12 @@
 //! The leader's state.
 
-ghost use Rattle.std.specs.Prelude.{◌≡◌, ◌<◌, [], IfOk, OnErr, IsTrue, false, true};
+ghost use Rattle.std.specs.Prelude.{◌≡◌, ◌<◌, [], IfOk, IsTrue, true};
 ghost use Rattle.cx_base.specs.Role.{role};
 ghost use Rattle.cx_base.specs.declared.role.Kind.TheVariants as kind;
 ghost use Rattle.cx_leader.specs.State.{own_fits};
 ghost use Rattle.cx_model.specs.Leader.{LeaderDurable, LeaderVolatile, is_idle, leader_takes, leader_rules};
 ghost use Rattle.cx_model.specs.Names.{names};
-ghost use Rattle.cx_role.specs.Role.{Replies, takes_no_memory};
+ghost use Rattle.cx_role.specs.Role.{IsReply};
 
 use crate::opening::{last_begun, none_held};
 use crate::proposals::Proposals;
@@ -41,16 +41,14 @@ pub struct Leader {
 }
 
 impl Model for Leader {
-    ghost use Rattle.cx_base.specs.Role.{role};
-    ghost use Rattle.cx_base.specs.declared.role.Kind.TheVariants as kind;
     ghost use Rattle.cx_model.specs.Rules.{Running};
     ghost use Rattle.cx_model.specs.Leader.{LeaderDurable, LeaderVolatile};
-    ghost use Rattle.cx_leader.specs.Promising.{promises_of};
-    ghost use Rattle.cx_leader.specs.State.{IsLeader};
+    ghost use Rattle.cx_leader.specs.State.{IsLeader, leader_view};
 
     ghost Value = { Running LeaderDurable LeaderVolatile };
 
-    ghost view = { λ l. record { cluster = l.cluster; me = role kind.Leader l.index; live = l.live; durable = record { own = l.own }; volatile = record { mode = l.mode; seen = l.seen; held = l.held.items; told = l.told.items; promises = promises_of l.phase1; cw = l.proposals.cw; next = l.proposals.next; end = l.proposals.end; proposed = l.proposals.proposed; chosen = l.proposals.chosen; collection = l.collector.collection } } };
+    ghost view = { λ l. leader_view l.cluster l.index l.live l.own l.mode l.seen l.held.items l.told.items l.phase1
+        l.proposals l.collector };
 
     ghost invariant = { λ l. IsLeader l.cluster l.index l.own l.mode l.told.items l.phase1 l.held.items l.collector };
 }
@@ -70,10 +68,9 @@ impl Leader {
     fn taken(&mut self, datagram: &Datagram, out: &mut Outbox) -> Result<Why, NoMemory>
         requires names { IsTrue (names self.old.cluster datagram.now) }
         requires empty { out.old.list ≡ [] }
-        ensures ok { IfOk result (λ why. Replies leader_rules self.old (leader_takes self.old.cluster self.old.me self.old.durable self.old.volatile datagram.now.from datagram.now.msg) why self.new out.new.list) }
-        ensures no_memory { OnErr result (self.new ≡ self.old) }
-        ensures spared { OnErr result (takes_no_memory (leader_takes self.old.cluster self.old.me self.old.durable self.old.volatile datagram.now.from datagram.now.msg).why ≡ false) }
-        ensures sends { OnErr result (out.new.list ≡ []) }
+        ensures { let s = self.old in
+            IsReply leader_rules s (leader_takes s.cluster s.me s.durable s.volatile datagram.now.from datagram.now.msg)
+            result self.new out.new.list }
     {
         let from = datagram.from();
         match datagram.msg() {
@@ -109,7 +106,13 @@ fn opened(
 ) -> Result<Leader, NoMemory>
     requires named { index < cluster.now.leaders }
     requires fits { IsTrue (own_fits index own) }
-    ensures { IfOk result (λ leader. leader ≡ record { cluster = cluster.now; me = role kind.Leader index; live = true; durable = record { own = own }; volatile = leader_rules.fresh cluster.now }) }
+    ensures { IfOk result (λ leader. leader ≡ record {
+      cluster = cluster.now;
+      me = role kind.Leader index;
+      live = true;
+      durable = record { own = own };
+      volatile = leader_rules.fresh cluster.now;
+    }) }
 {
     Ok(Leader {
         alloc,
@@ -136,7 +139,7 @@ impl Role for Leader {
 
     ghost state = { λ s. s };
 
-    #[tactic(auto, using(crate::proofs::Opened::leader_itself, crate::proofs::Opened::leader_named, crate::proofs::Opened::none_told))]
+    #[tactic(auto, using(crate::proofs::Opened::openings))]
     fn open(
         alloc: Global,
         cluster: &Cluster,
@@ -147,7 +150,7 @@ impl Role for Leader {
         Ok(opened(alloc, cluster, me.index, own)?)
     }
 
-    #[tactic(auto, using(crate::proofs::Opened::leader_itself, crate::proofs::Opened::leader_named, crate::proofs::Opened::none_told))]
+    #[tactic(auto, using(crate::proofs::Opened::openings))]
     fn reopen(self, records: &[Record]) -> Result<Self, WakeFault> {
         let Leader {
             alloc,

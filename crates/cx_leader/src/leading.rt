@@ -1,14 +1,15 @@
-//! What a leader that leads does: it proposes what its first phase reported, or what it proposed in the round before, gives each
-//! batch a slot, and notes which slots are chosen (VLDB 2021).
+//! What a leader that leads does: it proposes what its first phase reported, or what it proposed in the round before,
+//! gives each batch a slot, and notes which slots are chosen (VLDB 2021).
 
-ghost use Rattle.std.specs.Prelude.{◌≡◌, ◌++◌, [], Some, map, IsTrue, IfOk, OnOk, OnErr, false};
+ghost use Rattle.std.specs.Prelude.{◌≡◌, ◌++◌, [], Some, map, IsTrue, OnOk, OnErr};
 ghost use Rattle.cx_base.specs.declared.role.Kind.{Kind as KindOf};
 ghost use Rattle.cx_base.specs.Lists.{below};
 ghost use Rattle.cx_base.specs.Role.{role};
 ghost use Rattle.cx_field.specs.Fields as field;
-ghost use Rattle.cx_model.specs.Leader.{leads_to, propose_to, lead_with, batch_row, chosen_in_row, leader_rules};
+ghost use Rattle.cx_model.specs.Leader.{leads_to, lead_with, batch_row, chosen_in_row, leader_rules};
 ghost use Rattle.cx_phase1.specs.Planned.{IsPlan};
-ghost use Rattle.cx_role.specs.Role.{Replies, takes_no_memory};
+ghost use Rattle.cx_role.specs.Role.{IsReply};
+ghost use Rattle.cx_leader.specs.Proposing.{propose_sends};
 
 use crate::Leader;
 use crate::proposals::Proposals;
@@ -20,7 +21,8 @@ use cx_model::{Mode, Plan};
 use cx_role::Outbox;
 use std::alloc::Global;
 
-/// Proposes all values in a leader's own round, and announces the round to the batchers. Out of memory, nothing is sent.
+/// Proposes all values in a leader's own round, and announces the round to the batchers. Out of memory, nothing is
+/// sent.
 pub fn begin_to_lead(
     alloc: Global,
     cluster: &Cluster,
@@ -31,7 +33,9 @@ pub fn begin_to_lead(
 ) -> Result<(), NoMemory>
     requires round { IsTrue (field.round.fits own.now.round) }
     requires empty { out.old.list ≡ [] }
-    ensures list { OnOk result (out.new.list ≡ map (propose_to cluster.now (role Kind.Leader leader) own.now proposals.now.cw) proposals.now.proposed ++ map (leads_to (role Kind.Leader leader) own.now.round) (below cluster.now.batchers)) }
+    ensures list { OnOk result (out.new.list
+        ≡ propose_sends cluster.now leader own.now proposals.now.cw proposals.now.proposed
+        ++ map (leads_to (role Kind.Leader leader) own.now.round) (below cluster.now.batchers)) }
     ensures none { OnErr result (out.new.list ≡ []) }
 {
     out.room(WINDOW_LENGTH + usize::from(cluster.batchers))?;
@@ -57,10 +61,9 @@ impl Leader {
         requires own { self.old.durable.own ≡ Some own.now }
         requires plan { IsPlan plan.now }
         requires empty { out.old.list ≡ [] }
-        ensures ok { IfOk result (λ why. Replies leader_rules self.old (lead_with self.old.cluster self.old.me own.now self.old.volatile plan.now) why self.new out.new.list) }
-        ensures no_memory { OnErr result (self.new ≡ self.old) }
-        ensures spared { OnErr result (takes_no_memory (lead_with self.old.cluster self.old.me own.now self.old.volatile plan.now).why ≡ false) }
-        ensures sends { OnErr result (out.new.list ≡ []) }
+        ensures { let s = self.old in
+            IsReply leader_rules s (lead_with s.cluster s.me own.now s.volatile plan.now)
+            result self.new out.new.list }
     {
         let proposals = Proposals::planned(self.alloc, plan)?;
         begin_to_lead(self.alloc, &self.cluster, self.index, own, &proposals, out)?;
@@ -75,10 +78,9 @@ impl Leader {
     pub(crate) fn batch(&mut self, commands: &Commands, out: &mut Outbox) -> Result<Why, NoMemory>
         requires empty { out.old.list ≡ [] }
         requires commands { IsTrue (field.commands.fits commands.now) }
-        ensures ok { IfOk result (λ why. Replies leader_rules self.old (batch_row self.old.cluster self.old.me self.old.durable self.old.volatile commands.now) why self.new out.new.list) }
-        ensures no_memory { OnErr result (self.new ≡ self.old) }
-        ensures spared { OnErr result (takes_no_memory (batch_row self.old.cluster self.old.me self.old.durable self.old.volatile commands.now).why ≡ false) }
-        ensures sends { OnErr result (out.new.list ≡ []) }
+        ensures { let s = self.old in
+            IsReply leader_rules s (batch_row s.cluster s.me s.durable s.volatile commands.now)
+            result self.new out.new.list }
     {
         if !matches!(self.mode, Mode::Leading) {
             return Ok(Why::Idle);
@@ -100,9 +102,8 @@ impl Leader {
 
     /// A proxy reports that a slot is chosen in this round.
     pub(crate) fn chosen_in(&mut self, round: Round, slot: u64) -> Result<Why, NoMemory>
-        ensures ok { IfOk result (λ why. Replies leader_rules self.old (chosen_in_row self.old.durable self.old.volatile round slot) why self.new []) }
-        ensures no_memory { OnErr result (self.new ≡ self.old) }
-        ensures spared { OnErr result (takes_no_memory (chosen_in_row self.old.durable self.old.volatile round slot).why ≡ false) }
+        ensures { let s = self.old in
+            IsReply leader_rules s (chosen_in_row s.durable s.volatile round slot) result self.new [] }
     {
         if !matches!(self.mode, Mode::Leading) || !is_same(round, round_of(&self.own)) {
             return Ok(Why::Old);

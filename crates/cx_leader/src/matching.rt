@@ -1,15 +1,14 @@
 //! A leader that asks the matchmakers which grids earlier rounds used (JSys 2021).
 
-ghost use Rattle.std.specs.Prelude.{◌≡◌, ◌++◌, ◌∷◌, [], Some, map, IsTrue, IfOk, OnErr, false};
+ghost use Rattle.std.specs.Prelude.{◌≡◌, ◌++◌, ◌∷◌, [], Some, IsTrue};
 ghost use Rattle.std.specs.List.{list_all};
-ghost use Rattle.cx_base.specs.declared.why.Why.TheVariants as reason;
-ghost use Rattle.cx_model.specs.declared.states.Mode.TheVariants as mode;
-ghost use Rattle.cx_model.specs.Leader.{is_matching, bypass, finish, phase1a_to, matched_by, match_counted, match_b_row, leader_rules};
-ghost use Rattle.cx_model.specs.Matched.{live_entries, members_of};
+ghost use Rattle.cx_model.specs.Leader.{is_matching, bypass, finish, matched_by, match_counted, match_b_row};
+ghost use Rattle.cx_model.specs.Leader.{leader_rules};
+ghost use Rattle.cx_model.specs.Matched.{live_entries};
 ghost use Rattle.cx_model.specs.Names.{names_entry};
-ghost use Rattle.cx_model.specs.Outcome.{replied};
 ghost use Rattle.cx_field.specs.declared.parts.Entry.{Entry as EntryOf};
-ghost use Rattle.cx_role.specs.Role.{Replies, takes_no_memory};
+ghost use Rattle.cx_role.specs.Role.{IsReply};
+ghost use Rattle.cx_leader.specs.Promising.{ask_row, with_answer};
 ghost use Rattle.cx_leader.specs.State.{is_named};
 
 use crate::Leader;
@@ -35,10 +34,8 @@ impl Leader {
         requires own { self.old.durable.own ≡ Some own.now }
         requires named { IsTrue (is_named self.old.cluster answer) }
         requires empty { out.old.list ≡ [] }
-        ensures ok { IfOk result (λ why. Replies leader_rules self.old (finish self.old.cluster self.old.me own.now (record self.old.volatile { told = self.old.volatile.told ++ answer ∷ [] })) why self.new out.new.list) }
-        ensures no_memory { OnErr result (self.new ≡ self.old) }
-        ensures spared { OnErr result (takes_no_memory (finish self.old.cluster self.old.me own.now (record self.old.volatile { told = self.old.volatile.told ++ answer ∷ [] })).why ≡ false) }
-        ensures sends { OnErr result (out.new.list ≡ []) }
+        ensures { let s = self.old in let v = with_answer answer s.volatile in
+            IsReply leader_rules s (finish s.cluster s.me own.now v) result self.new out.new.list }
     {
         self.told.reserve(1)?;
         out.room(usize::from(self.cluster.batchers))?;
@@ -60,10 +57,8 @@ impl Leader {
         requires own { self.old.durable.own ≡ Some own.now }
         requires named { IsTrue (is_named self.old.cluster answer) }
         requires empty { out.old.list ≡ [] }
-        ensures ok { IfOk result (λ why. Replies leader_rules self.old (bypass self.old.cluster self.old.me own.now (record self.old.volatile { told = self.old.volatile.told ++ answer ∷ [] })) why self.new out.new.list) }
-        ensures no_memory { OnErr result (self.new ≡ self.old) }
-        ensures spared { OnErr result (takes_no_memory (bypass self.old.cluster self.old.me own.now (record self.old.volatile { told = self.old.volatile.told ++ answer ∷ [] })).why ≡ false) }
-        ensures sends { OnErr result (out.new.list ≡ []) }
+        ensures { let s = self.old in let v = with_answer answer s.volatile in
+            IsReply leader_rules s (bypass s.cluster s.me own.now v) result self.new out.new.list }
     {
         self.told.reserve(1)?;
         let proposals = &self.proposals;
@@ -87,10 +82,8 @@ impl Leader {
         requires named { IsTrue (is_named self.old.cluster answer) }
         requires live { live.now ≡ live_entries (self.old.volatile.told ++ answer ∷ []) }
         requires empty { out.old.list ≡ [] }
-        ensures ok { IfOk result (λ why. Replies leader_rules self.old (replied reason.Phase1 (record self.old.volatile { told = self.old.volatile.told ++ answer ∷ []; mode = mode.Phase1 }) (map (phase1a_to self.old.me own.now.round) (members_of self.old.cluster live.now))) why self.new out.new.list) }
-        ensures no_memory { OnErr result (self.new ≡ self.old) }
-        ensures spared { OnErr result (takes_no_memory (replied reason.Phase1 (record self.old.volatile { told = self.old.volatile.told ++ answer ∷ []; mode = mode.Phase1 }) (map (phase1a_to self.old.me own.now.round) (members_of self.old.cluster live.now))).why ≡ false) }
-        ensures sends { OnErr result (out.new.list ≡ []) }
+        ensures { let s = self.old in let v = with_answer answer s.volatile in
+            IsReply leader_rules s (ask_row s.cluster s.me own.now v live.now) result self.new out.new.list }
     {
         let phase1 = Phase1::new(self.alloc, live)?;
         self.told.reserve(1)?;
@@ -113,10 +106,9 @@ impl Leader {
         requires own { self.old.durable.own ≡ Some own.now }
         requires named { IsTrue (is_named self.old.cluster answer) }
         requires empty { out.old.list ≡ [] }
-        ensures ok { IfOk result (λ why. Replies leader_rules self.old (matched_by self.old.cluster self.old.me own.now (record self.old.volatile { told = self.old.volatile.told ++ answer ∷ [] }) (live_entries (self.old.volatile.told ++ answer ∷ []))) why self.new out.new.list) }
-        ensures no_memory { OnErr result (self.new ≡ self.old) }
-        ensures spared { OnErr result (takes_no_memory (matched_by self.old.cluster self.old.me own.now (record self.old.volatile { told = self.old.volatile.told ++ answer ∷ [] }) (live_entries (self.old.volatile.told ++ answer ∷ []))).why ≡ false) }
-        ensures sends { OnErr result (out.new.list ≡ []) }
+        ensures { let s = self.old in let v = with_answer answer s.volatile in
+            IsReply leader_rules s (matched_by s.cluster s.me own.now v (live_entries v.told))
+            result self.new out.new.list }
     {
         let live = live_entries(self.alloc, &self.told, &answer)?;
         match live.as_slice() {
@@ -131,10 +123,8 @@ impl Leader {
         requires own { self.old.durable.own ≡ Some own.now }
         requires named { IsTrue (is_named self.old.cluster answer) }
         requires empty { out.old.list ≡ [] }
-        ensures ok { IfOk result (λ why. Replies leader_rules self.old (match_counted self.old.cluster self.old.me self.old.durable.own (record self.old.volatile { told = self.old.volatile.told ++ answer ∷ [] })) why self.new out.new.list) }
-        ensures no_memory { OnErr result (self.new ≡ self.old) }
-        ensures spared { OnErr result (takes_no_memory (match_counted self.old.cluster self.old.me self.old.durable.own (record self.old.volatile { told = self.old.volatile.told ++ answer ∷ [] })).why ≡ false) }
-        ensures sends { OnErr result (out.new.list ≡ []) }
+        ensures { let s = self.old in let v = with_answer answer s.volatile in
+            IsReply leader_rules s (match_counted s.cluster s.me s.durable.own v) result self.new out.new.list }
     {
         if self.told.len() < usize::from(self.cluster.f) {
             self.told.push(answer)?;
@@ -157,10 +147,9 @@ impl Leader {
     ) -> Result<Why, NoMemory>
         requires empty { out.old.list ≡ [] }
         requires named { IsTrue (list_all (λ (e : EntryOf). names_entry self.old.cluster e) entries.now) }
-        ensures ok { IfOk result (λ why. Replies leader_rules self.old (match_b_row self.old.cluster self.old.me self.old.durable self.old.volatile from round watermark entries.now) why self.new out.new.list) }
-        ensures no_memory { OnErr result (self.new ≡ self.old) }
-        ensures spared { OnErr result (takes_no_memory (match_b_row self.old.cluster self.old.me self.old.durable self.old.volatile from round watermark entries.now).why ≡ false) }
-        ensures sends { OnErr result (out.new.list ≡ []) }
+        ensures { let s = self.old in
+            IsReply leader_rules s (match_b_row s.cluster s.me s.durable s.volatile from round watermark entries.now)
+            result self.new out.new.list }
     {
         if !matches!(self.mode, Mode::Matching) || !is_same(round, round_of(&self.own)) {
             return Ok(Why::Old);

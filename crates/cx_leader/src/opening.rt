@@ -36,10 +36,13 @@ pub fn last_begun(
 ) -> Result<Option<Entry>, WakeFault>
     requires before { IsTrue (own_fits me.index before) }
     requires records { IsTrue (all_fit records.now) }
-    ensures own { IfOk result (λ own. record { own = own } ≡ folded_from leader_rules (record { own = before }) records.now) }
-    ensures whole { IfOk result (λ _. refused_from leader_rules cluster.now me (record { own = before }) 0 records.now ≡ None) }
+    ensures own { IfOk result (λ own.
+        record { own = own } ≡ folded_from leader_rules (record { own = before }) records.now) }
+    ensures whole { IfOk result (λ _.
+        refused_from leader_rules cluster.now me (record { own = before }) 0 records.now ≡ None) }
     ensures fits { IfOk result (λ own. IsTrue (own_fits me.index own)) }
-    ensures fault { IfErr result (IsWakeFault (refused_from leader_rules cluster.now me (record { own = before }) 0 records.now)) }
+    ensures fault { IfErr result (IsWakeFault
+        (refused_from leader_rules cluster.now me (record { own = before }) 0 records.now)) }
 {
     let mut own = before;
     for (index, record) in records.iter().enumerate() {

@@ -1,11 +1,10 @@
 //! A leader that asks the acceptors of earlier grids to promise its round (VLDB 2021).
 
-ghost use Rattle.std.specs.Prelude.{◌≡◌, ◌&&◌, [], Some, IsTrue, IfOk, OnErr, false};
+ghost use Rattle.std.specs.Prelude.{◌≡◌, ◌&&◌, [], Some, IsTrue};
+ghost use Rattle.cx_model.specs.declared.states.Promised.{Promised};
 ghost use Rattle.cx_model.specs.Leader.{is_promising, is_own, phase1b_row, leader_rules};
-ghost use Rattle.cx_model.specs.Matched.{live_entries};
 ghost use Rattle.cx_field.specs.Fields as field;
-ghost use Rattle.cx_phase1.specs.Counting.{told_by};
-ghost use Rattle.cx_role.specs.Role.{Replies, takes_no_memory};
+ghost use Rattle.cx_role.specs.Role.{IsReply};
 ghost use Rattle.cx_leader.specs.Promising.{promised_row};
 
 use crate::Leader;
@@ -24,8 +23,8 @@ impl Leader {
         matches!(self.mode, Mode::Phase1) && is_same(round, round_of(&self.own))
     }
 
-    // An acceptor that is asked in this round has answered. The answer is counted in a copy, which is put in place when nothing
-    // can fail any more.
+    // An acceptor that is asked in this round has answered. The answer is counted in a copy, which is put in place when
+    // nothing can fail any more.
     fn promised(
         &mut self,
         own: &Entry,
@@ -39,10 +38,8 @@ impl Leader {
         requires cw { IsTrue (field.mark.fits cw) }
         requires votes { IsTrue ((field.votes cw).fits votes.now) }
         requires empty { out.old.list ≡ [] }
-        ensures ok { IfOk result (λ why. Replies leader_rules self.old (promised_row self.old.cluster self.old.me own.now self.old.volatile (record { acceptor = acceptor; cw = cw; votes = votes.now }) (told_by (record { live = live_entries self.old.volatile.told; promises = self.old.volatile.promises }) (record { acceptor = acceptor; cw = cw; votes = votes.now }))) why self.new out.new.list) }
-        ensures no_memory { OnErr result (self.new ≡ self.old) }
-        ensures spared { OnErr result (takes_no_memory (promised_row self.old.cluster self.old.me own.now self.old.volatile (record { acceptor = acceptor; cw = cw; votes = votes.now }) (told_by (record { live = live_entries self.old.volatile.told; promises = self.old.volatile.promises }) (record { acceptor = acceptor; cw = cw; votes = votes.now }))).why ≡ false) }
-        ensures sends { OnErr result (out.new.list ≡ []) }
+        ensures { let s = self.old in let p : Promised = record { acceptor = acceptor; cw = cw; votes = votes.now } in
+            IsReply leader_rules s (promised_row s.cluster s.me own.now s.volatile p) result self.new out.new.list }
     {
         let Some(phase1) = &self.phase1 else {
             return Ok(Why::Unasked);
@@ -77,10 +74,9 @@ impl Leader {
         requires cw { IsTrue (field.mark.fits cw) }
         requires votes { IsTrue ((field.votes cw).fits votes.now) }
         requires empty { out.old.list ≡ [] }
-        ensures ok { IfOk result (λ why. Replies leader_rules self.old (phase1b_row self.old.cluster self.old.me self.old.durable self.old.volatile from round cw votes.now) why self.new out.new.list) }
-        ensures no_memory { OnErr result (self.new ≡ self.old) }
-        ensures spared { OnErr result (takes_no_memory (phase1b_row self.old.cluster self.old.me self.old.durable self.old.volatile from round cw votes.now).why ≡ false) }
-        ensures sends { OnErr result (out.new.list ≡ []) }
+        ensures { let s = self.old in
+            IsReply leader_rules s (phase1b_row s.cluster s.me s.durable s.volatile from round cw votes.now)
+            result self.new out.new.list }
     {
         if !self.asks(round) {
             return Ok(Why::Old);

@@ -1,17 +1,13 @@
 //! What a leader proposed, and what it knows to be chosen.
 
-ghost use Rattle.std.specs.Prelude.{◌≡◌, ◌≤◌, ◌<◌, ◌+◌, ◌-◌, ◌^◌, ◌++◌, ◌∷◌, [], true, not, max, map, length, None, Some, All, IsTrue, IfOk, IfSome, OnOk, OnErr};
-ghost use Rattle.std.specs.List.{list_all};
-ghost use Rattle.cx_base.specs.declared.role.Kind.{Kind as KindOf};
+ghost use Rattle.std.specs.Prelude.{◌≡◌, ◌≤◌, ◌<◌, ◌+◌, ◌^◌, ◌++◌, true, length, IsTrue, IfOk, OnOk, OnErr};
 ghost use Rattle.cx_base.specs.Grid.{is_in};
-ghost use Rattle.cx_base.specs.Lists.{numbers};
-ghost use Rattle.cx_base.specs.Role.{role};
 ghost use Rattle.cx_field.specs.Fields as field;
-ghost use Rattle.cx_model.specs.Leader.{propose_to};
+ghost use Rattle.cx_model.specs.Leader.{are_known, without_known};
 ghost use Rattle.cx_model.specs.Plan.{placed_from};
 ghost use Rattle.cx_phase1.specs.Planned.{IsPlan};
-ghost use Rattle.cx_phase1.specs.Window.{IsWindow, is_used_up};
-ghost use Rattle.cx_leader.specs.Proposing.{Proposing, Adds, IsSlot, nothing_from, planned, led_on, with_value, with_chosen, raised, is_settled, only, open_value, open_values};
+ghost use Rattle.cx_leader.specs.Proposing.{Adds, nothing_from, planned, led_on, with_chosen, raised, is_settled};
+ghost use Rattle.cx_leader.specs.Proposing.{only, propose_sends};
 ghost use Rattle.cx_ring.specs.Ring.{value_at};
 
 use crate::known::Known;
@@ -25,8 +21,8 @@ use cx_role::Outbox;
 use std::alloc::Global;
 use std::marker::Model;
 
-/// The values that a leader proposed from the chosen watermark on, one a slot, and which of these slots it knows to be chosen
-/// in its round. While it goes on to the next round these are the values of the round before.
+/// The values that a leader proposed from the chosen watermark on, one a slot, and which of these slots it knows to be
+/// chosen in its round. While it goes on to the next round these are the values of the round before.
 #[derive(Drop)]
 pub struct Proposals {
     slots: Slots,
@@ -41,7 +37,13 @@ impl Model for Proposals {
 
     ghost Value = { Proposing };
 
-    ghost view = { λ p. record { cw = p.slots.cw; next = p.slots.next; end = p.end; proposed = p.list.items; chosen = p.chosen.list } };
+    ghost view = { λ p. record {
+      cw = p.slots.cw;
+      next = p.slots.next;
+      end = p.end;
+      proposed = p.list.items;
+      chosen = p.chosen.list;
+    } };
 
     ghost invariant = { λ p. IsHolding p.slots.cw p.slots.next p.list p.chosen.first };
 }
@@ -111,7 +113,8 @@ impl Proposals {
         self.chosen.clear();
     }
 
-    /// Lets the next round begin with all that was proposed, where nothing is known to be chosen yet. It takes no memory.
+    /// Lets the next round begin with all that was proposed, where nothing is known to be chosen yet. It takes no
+    /// memory.
     pub fn lead_on(&mut self)
         ensures { self.new ≡ led_on self.old }
     {
@@ -147,8 +150,8 @@ impl Proposals {
         Ok(())
     }
 
-    /// Raises the chosen watermark, a number of slots of at most 2^40, or leaves a greater one: the slots below it are forgotten,
-    /// and none of them is free. It takes no memory.
+    /// Raises the chosen watermark, a number of slots of at most 2^40, or leaves a greater one: the slots below it are
+    /// forgotten, and none of them is free. It takes no memory.
     pub fn raise(&mut self, cw: u64)
         requires { cw ≤ 2 ^ 40 }
         ensures { self.new ≡ raised cw self.old }
@@ -159,9 +162,10 @@ impl Proposals {
         self.chosen.raise(cw);
     }
 
-    // Proposes the value of a slot, if it has one.
+    // Proposes the value of a slot, if it has one, unless the slot is known to be chosen.
     fn propose(
         &self,
+        known: &Known,
         alloc: Global,
         cluster: &Cluster,
         leader: u16,
@@ -171,40 +175,47 @@ impl Proposals {
     ) -> Result<(), NoMemory>
         requires spare { 0 < out.old.spare }
         requires round { IsTrue (field.round.fits own.now.round) }
-        ensures list { OnOk result (out.new.list ≡ out.old.list ++ map (propose_to cluster.now (role Kind.Leader leader) own.now self.now.cw) (only (value_at (λ p. p.slot) slot self.now.proposed))) }
+        ensures list { let p = self.now in OnOk result (out.new.list ≡ out.old.list
+            ++ propose_sends cluster.now leader own.now p.cw
+            (without_known known.now.list (only (value_at (λ x. x.slot) slot p.proposed)))) }
         ensures spare { OnOk result (out.old.spare ≤ out.new.spare + 1) }
     {
         let Some(placed) = self.list.get(slot) else {
             return Ok(());
         };
+        if known.contains(placed.slot) {
+            return Ok(());
+        }
         let value = placed.value.copy(alloc)?;
         let cw = self.slots.cw();
         out.push(proposal(cluster, leader, own, cw, placed.slot, value));
         Ok(())
     }
 
-    // The same, unless the slot is known to be chosen.
-    fn propose_if_open(
+    // Proposes each value whose slot is not known to be chosen.
+    fn propose_each(
         &self,
+        known: &Known,
         alloc: Global,
         cluster: &Cluster,
         leader: u16,
         own: &Entry,
-        slot: u64,
         out: &mut Outbox,
     ) -> Result<(), NoMemory>
-        requires spare { 0 < out.old.spare }
+        requires spare { 32 ≤ out.old.spare }
         requires round { IsTrue (field.round.fits own.now.round) }
-        ensures list { OnOk result (out.new.list ≡ out.old.list ++ map (propose_to cluster.now (role Kind.Leader leader) own.now self.now.cw) (open_value slot self.now)) }
-        ensures spare { OnOk result (out.old.spare ≤ out.new.spare + 1) }
+        ensures list { let p = self.now in OnOk result (out.new.list ≡ out.old.list
+            ++ propose_sends cluster.now leader own.now p.cw (without_known known.now.list p.proposed)) }
+        ensures spare { OnOk result (out.old.spare ≤ out.new.spare + 32) }
     {
-        if !self.is_chosen(slot) {
-            self.propose(alloc, cluster, leader, own, slot, out)?;
+        for slot in self.slots.cw()..self.slots.next() {
+            self.propose(known, alloc, cluster, leader, own, slot, out)?;
         }
         Ok(())
     }
 
     /// Proposes each value, at most 32 of them; out of memory, it may leave some sent.
+    #[tactic(auto, using(crate::proofs::Proposed::none_known))]
     pub fn propose_all(
         &self,
         alloc: Global,
@@ -215,12 +226,12 @@ impl Proposals {
     ) -> Result<(), NoMemory>
         requires spare { 32 ≤ out.old.spare }
         requires round { IsTrue (field.round.fits own.now.round) }
-        ensures list { OnOk result (out.new.list ≡ out.old.list ++ map (propose_to cluster.now (role Kind.Leader leader) own.now self.now.cw) self.now.proposed) }
+        ensures list { let p = self.now in
+            OnOk result (out.new.list ≡ out.old.list ++ propose_sends cluster.now leader own.now p.cw p.proposed) }
         ensures spare { OnOk result (out.old.spare ≤ out.new.spare + 32) }
     {
-        for slot in self.slots.cw()..self.slots.next() {
-            self.propose(alloc, cluster, leader, own, slot, out)?;
-        }
+        let none = Known::new(alloc, 0);
+        self.propose_each(&none, alloc, cluster, leader, own, out)?;
         Ok(())
     }
 
@@ -235,12 +246,11 @@ impl Proposals {
     ) -> Result<(), NoMemory>
         requires spare { 32 ≤ out.old.spare }
         requires round { IsTrue (field.round.fits own.now.round) }
-        ensures list { OnOk result (out.new.list ≡ out.old.list ++ map (propose_to cluster.now (role Kind.Leader leader) own.now self.now.cw) (open_values self.now)) }
+        ensures list { let p = self.now in OnOk result (out.new.list ≡ out.old.list
+            ++ propose_sends cluster.now leader own.now p.cw (without_known p.chosen p.proposed)) }
         ensures spare { OnOk result (out.old.spare ≤ out.new.spare + 32) }
     {
-        for slot in self.slots.cw()..self.slots.next() {
-            self.propose_if_open(alloc, cluster, leader, own, slot, out)?;
-        }
+        self.propose_each(&self.chosen, alloc, cluster, leader, own, out)?;
         Ok(())
     }
 
@@ -268,7 +278,7 @@ impl Proposals {
 
     /// Whether each slot from the chosen watermark to the next free one is known to be chosen.
     pub fn all_chosen(&self) -> bool
-        ensures { result ≡ list_all (λ s. is_in s self.now.chosen) (numbers self.now.cw (self.now.next - self.now.cw)) }
+        ensures { result ≡ are_known self.now.chosen self.now.cw self.now.next }
     {
         let cw = self.slots.cw();
         self.chosen

@@ -12,9 +12,11 @@ use cx_field::NackReason;
 use cx_model::Mode;
 
 impl Leader {
-    /// An acceptor has promised a greater round, which is noted whatever the answer; a leader of the refused round gives it up.
+    /// An acceptor has promised a greater round, which is noted whatever the answer; a leader of the refused round
+    /// gives it up.
     pub(crate) fn nack(&mut self, round: Round, promise: Round) -> Why
-        ensures { Replies leader_rules self.old (nack_row self.old.durable self.old.volatile round promise) result self.new [] }
+        ensures { let s = self.old in
+            Replies leader_rules s (nack_row s.durable s.volatile round promise) result self.new [] }
     {
         self.seen = later(self.seen, promise);
         if matches!(self.mode, Mode::Idle) || !is_same(round, round_of(&self.own)) {
@@ -26,7 +28,8 @@ impl Leader {
 
     /// A matchmaker does not record the round, and reports another one; where it has no room the leader goes on.
     pub(crate) fn match_nack(&mut self, round: Round, reason: NackReason, other: Round) -> Why
-        ensures { Replies leader_rules self.old (match_nack_row self.old.durable self.old.volatile round reason other) result self.new [] }
+        ensures { let s = self.old in
+            Replies leader_rules s (match_nack_row s.durable s.volatile round reason other) result self.new [] }
     {
         self.seen = later(self.seen, other);
         if matches!(self.mode, Mode::Idle) || !is_same(round, round_of(&self.own)) {

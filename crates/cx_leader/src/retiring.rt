@@ -1,9 +1,9 @@
-//! How a leader retires the rounds below its own (JSys 2021): a column of its grid learns how many slots enough replicas hold
-//! (this project's own), then f + 1 matchmakers forget the earlier rounds.
+//! How a leader retires the rounds below its own (JSys 2021): a column of its grid learns how many slots enough
+//! replicas hold (this project's own), then f + 1 matchmakers forget the earlier rounds.
 
-ghost use Rattle.std.specs.Prelude.{◌≡◌, ◌<◌, ◌&&◌, [], IfOk, OnErr, false};
+ghost use Rattle.std.specs.Prelude.{◌≡◌, ◌<◌, ◌&&◌, []};
 ghost use Rattle.cx_model.specs.Leader.{is_leading, is_own, collect_row, informed_row, garbage_b_row, leader_rules};
-ghost use Rattle.cx_role.specs.Role.{Replies, takes_no_memory};
+ghost use Rattle.cx_role.specs.Role.{IsReply, Replies};
 
 use crate::Leader;
 use crate::rounds::{is_same, round_of};
@@ -22,14 +22,12 @@ impl Leader {
         matches!(self.mode, Mode::Leading) && is_same(round, round_of(&self.own))
     }
 
-    /// The order to retire all earlier rounds, once all that it proposed when it began to lead is known to be chosen, or
-    /// held.
+    /// The order to retire all earlier rounds, once all that it proposed when it began to lead is known to be chosen,
+    /// or held.
     pub(crate) fn collect(&mut self, out: &mut Outbox) -> Result<Why, NoMemory>
         requires empty { out.old.list ≡ [] }
-        ensures ok { IfOk result (λ why. Replies leader_rules self.old (collect_row self.old.cluster self.old.me self.old.durable self.old.volatile) why self.new out.new.list) }
-        ensures no_memory { OnErr result (self.new ≡ self.old) }
-        ensures spared { OnErr result (takes_no_memory (collect_row self.old.cluster self.old.me self.old.durable self.old.volatile).why ≡ false) }
-        ensures sends { OnErr result (out.new.list ≡ []) }
+        ensures { let s = self.old in
+            IsReply leader_rules s (collect_row s.cluster s.me s.durable s.volatile) result self.new out.new.list }
     {
         if !matches!(self.mode, Mode::Leading) {
             return Ok(Why::Idle);
@@ -60,10 +58,9 @@ impl Leader {
     ) -> Result<Why, NoMemory>
         requires acceptor { from.index < 64 }
         requires empty { out.old.list ≡ [] }
-        ensures ok { IfOk result (λ why. Replies leader_rules self.old (informed_row self.old.cluster self.old.me self.old.durable self.old.volatile from round cw) why self.new out.new.list) }
-        ensures no_memory { OnErr result (self.new ≡ self.old) }
-        ensures spared { OnErr result (takes_no_memory (informed_row self.old.cluster self.old.me self.old.durable self.old.volatile from round cw).why ≡ false) }
-        ensures sends { OnErr result (out.new.list ≡ []) }
+        ensures { let s = self.old in
+            IsReply leader_rules s (informed_row s.cluster s.me s.durable s.volatile from round cw)
+            result self.new out.new.list }
     {
         if !self.leads(round)
             || !matches!(self.collector.stage(), Stage::Informing)
@@ -92,7 +89,8 @@ impl Leader {
     /// A matchmaker has forgotten the earlier rounds; with f + 1 of them all are retired.
     pub(crate) fn forgotten(&mut self, from: RoleId, round: Round) -> Why
         requires matchmaker { from.index < 64 }
-        ensures { Replies leader_rules self.old (garbage_b_row self.old.cluster self.old.durable self.old.volatile from round) result self.new [] }
+        ensures { let s = self.old in
+            Replies leader_rules s (garbage_b_row s.cluster s.durable s.volatile from round) result self.new [] }
     {
         if !self.leads(round) || !matches!(self.collector.stage(), Stage::Collecting) {
             return Why::Old;

@@ -1,12 +1,11 @@
 //! Which rounds follow one another, and the orders to begin one.
 
-ghost use Rattle.std.specs.Prelude.{◌≡◌, ◌==◌, ◌&&◌, ◌+◌, [], true, Some, IfOk, IsErrOf, IsTrue, false};
+ghost use Rattle.std.specs.Prelude.{◌≡◌, ◌==◌, ◌&&◌, ◌+◌, [], true, Some, IsTrue};
 ghost use Rattle.cx_base.specs.Round.{same_round};
 ghost use Rattle.cx_model.specs.Leader.{round_of, follows, begin_in, lead_row, change_row, leader_rules};
 ghost use Rattle.cx_model.specs.Names.{names_round, names_grid};
-ghost use Rattle.cx_model.specs.Rules.{IsFit};
 ghost use Rattle.cx_field.specs.Fields as field;
-ghost use Rattle.cx_role.specs.Role.{Steps, StaysAt, FailsAt, KeepsDurable, takes_no_memory};
+ghost use Rattle.cx_role.specs.Role.{IsStep, MayKeep};
 
 use crate::Leader;
 use crate::sending::{ask_matchmakers, matchmakers};
@@ -52,7 +51,8 @@ fn follows(own: Round, round: Round) -> bool
 
 /// Whether a leader with this last round may begin that one with this grid.
 pub fn may_begin(cluster: &Cluster, leader: u16, own: Round, round: Round, grid: &Grid) -> bool
-    ensures { result ≡ (names_round cluster.now round && names_grid cluster.now grid.now && (round.id == leader) && follows own round) }
+    ensures { result ≡ (names_round cluster.now round && names_grid cluster.now grid.now && (round.id == leader)
+        && follows own round) }
 {
     names_round(cluster, round)
         && names_grid(cluster, grid)
@@ -74,12 +74,9 @@ impl Leader {
         requires empty { out.old.list ≡ [] }
         requires round { IsTrue (field.round.fits round) }
         requires own { round.id ≡ self.old.me.index }
-        ensures ok { IfOk result (λ why. Steps K.append_gives leader_rules self.old (begin_in self.old.cluster self.old.me self.old.volatile grid.now (Some round)) why keeper.old keeper.new self.new out.new.list) }
-        ensures no_memory { IsErrOf result StepFault.NoMemory → StaysAt K.append_gives self.old self.new keeper.old keeper.new out.new.list }
-        ensures spared { IsErrOf result StepFault.NoMemory → takes_no_memory (begin_in self.old.cluster self.old.me self.old.volatile grid.now (Some round)).why ≡ false }
-        ensures told { K.tells keeper.new ≡ K.tells keeper.old }
-        ensures failed { IsErrOf result StepFault.Failed → FailsAt K.append_gives (begin_in self.old.cluster self.old.me self.old.volatile grid.now (Some round)) keeper.old keeper.new self.new out.new.list }
-        ensures keeps { IsErrOf result StepFault.Failed → KeepsDurable self.old self.new }
+        ensures { let s = self.old in
+            IsStep K.append_gives K.tells leader_rules s (begin_in s.cluster s.me s.volatile grid.now (Some round))
+            result self.new keeper.old keeper.new out.new.list }
     {
         let count = matchmakers(&self.cluster);
         out.room(usize::from(count))?;
@@ -108,13 +105,11 @@ impl Leader {
     ) -> Result<Why, StepFault>
         requires live { self.old.live ≡ true }
         requires empty { out.old.list ≡ [] }
-        ensures ok { IfOk result (λ why. Steps K.append_gives leader_rules self.old (lead_row self.old.cluster self.old.me self.old.durable self.old.volatile grid.now) why keeper.old keeper.new self.new out.new.list) }
-        ensures no_memory { IsErrOf result StepFault.NoMemory → StaysAt K.append_gives self.old self.new keeper.old keeper.new out.new.list }
-        ensures spared { IsErrOf result StepFault.NoMemory → takes_no_memory (lead_row self.old.cluster self.old.me self.old.durable self.old.volatile grid.now).why ≡ false }
-        ensures told { K.tells keeper.new ≡ K.tells keeper.old }
-        ensures failed { IsErrOf result StepFault.Failed → FailsAt K.append_gives (lead_row self.old.cluster self.old.me self.old.durable self.old.volatile grid.now) keeper.old keeper.new self.new out.new.list }
-        ensures keeps { IsErrOf result StepFault.Failed → KeepsDurable self.old self.new }
-        ensures fits { IsFit leader_rules self.old.cluster self.old.me self.old.durable (lead_row self.old.cluster self.old.me self.old.durable self.old.volatile grid.now).kept }
+        ensures step { let s = self.old in
+            IsStep K.append_gives K.tells leader_rules s (lead_row s.cluster s.me s.durable s.volatile grid.now)
+            result self.new keeper.old keeper.new out.new.list }
+        ensures fits { let s = self.old in
+            MayKeep leader_rules s (lead_row s.cluster s.me s.durable s.volatile grid.now) }
     {
         if !names_grid(&self.cluster, grid) {
             return Ok(Why::Stranger);
@@ -135,13 +130,11 @@ impl Leader {
     ) -> Result<Why, StepFault>
         requires live { self.old.live ≡ true }
         requires empty { out.old.list ≡ [] }
-        ensures ok { IfOk result (λ why. Steps K.append_gives leader_rules self.old (change_row self.old.cluster self.old.me self.old.durable self.old.volatile grid.now) why keeper.old keeper.new self.new out.new.list) }
-        ensures no_memory { IsErrOf result StepFault.NoMemory → StaysAt K.append_gives self.old self.new keeper.old keeper.new out.new.list }
-        ensures spared { IsErrOf result StepFault.NoMemory → takes_no_memory (change_row self.old.cluster self.old.me self.old.durable self.old.volatile grid.now).why ≡ false }
-        ensures told { K.tells keeper.new ≡ K.tells keeper.old }
-        ensures failed { IsErrOf result StepFault.Failed → FailsAt K.append_gives (change_row self.old.cluster self.old.me self.old.durable self.old.volatile grid.now) keeper.old keeper.new self.new out.new.list }
-        ensures keeps { IsErrOf result StepFault.Failed → KeepsDurable self.old self.new }
-        ensures fits { IsFit leader_rules self.old.cluster self.old.me self.old.durable (change_row self.old.cluster self.old.me self.old.durable self.old.volatile grid.now).kept }
+        ensures step { let s = self.old in
+            IsStep K.append_gives K.tells leader_rules s (change_row s.cluster s.me s.durable s.volatile grid.now)
+            result self.new keeper.old keeper.new out.new.list }
+        ensures fits { let s = self.old in
+            MayKeep leader_rules s (change_row s.cluster s.me s.durable s.volatile grid.now) }
     {
         if !names_grid(&self.cluster, grid) {
             return Ok(Why::Stranger);

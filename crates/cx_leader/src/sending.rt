@@ -55,7 +55,8 @@ pub fn ask_acceptors(
 )
     requires spare { cluster.now.acceptors ≤ out.old.spare }
     requires round { IsTrue (field.round.fits round) }
-    ensures { out.new.list ≡ out.old.list ++ map (phase1a_to (role Kind.Leader leader) round) (members_of cluster.now phase1.now.live) }
+    ensures { out.new.list ≡ out.old.list
+        ++ map (phase1a_to (role Kind.Leader leader) round) (members_of cluster.now phase1.now.live) }
 {
     for acceptor in 0..cluster.acceptors {
         if phase1.asks(acceptor) {
@@ -70,7 +71,8 @@ pub fn inform_members(leader: u16, own: &Entry, mark: u64, cluster: &Cluster, ou
     requires spare { cluster.now.acceptors ≤ out.old.spare }
     requires round { IsTrue (field.round.fits own.now.round) }
     requires mark { mark ≤ 2 ^ 40 }
-    ensures { out.new.list ≡ out.old.list ++ map (inform_to (role Kind.Leader leader) own.now.round mark) (members_in cluster.now own.now.grid) }
+    ensures { out.new.list ≡ out.old.list
+        ++ map (inform_to (role Kind.Leader leader) own.now.round mark) (members_in cluster.now own.now.grid) }
 {
     for acceptor in 0..cluster.acceptors {
         if is_member(&own.grid, acceptor) {
@@ -104,7 +106,8 @@ pub fn proposal(
     requires round { IsTrue (field.round.fits own.now.round) }
     requires slot { IsSlot cw slot }
     requires value { IsTrue (field.value.fits value) }
-    ensures { result ≡ propose_to cluster.now (role Kind.Leader leader) own.now cw (record { slot = slot; value = value }) }
+    ensures { result
+        ≡ propose_to cluster.now (role Kind.Leader leader) own.now cw (record { slot = slot; value = value }) }
 {
     let proxy = slot % u64::from(cluster.proxies);
     propose(leader, proxy as u16, own.round, own.grid, slot, cw, value)

@@ -28,8 +28,8 @@ impl Leader {
         heard(&self.held) > usize::from(self.cluster.f)
     }
 
-    /// Whether an order to collect would begin: it leads, has not begun in this round, and all that it proposed at first is known
-    /// to be chosen.
+    /// Whether an order to collect would begin: it leads, has not begun in this round, and all that it proposed at
+    /// first is known to be chosen.
     pub fn can_collect(&self) -> bool
         ensures { result ≡ can_collect self.now.volatile }
     {
@@ -52,8 +52,8 @@ impl Leader {
         self.proposals.cw() < self.proposals.next()
     }
 
-    /// Whether its ticks can do no more for its open slots, of which there is one: it leads, has retired the earlier rounds, and
-    /// knows each of these slots to be chosen.
+    /// Whether its ticks can do no more for its open slots, of which there is one: it leads, has retired the earlier
+    /// rounds, and knows each of these slots to be chosen.
     pub fn is_spent(&self) -> bool
         ensures { result ≡ is_spent self.now.volatile }
     {

@@ -1,10 +1,10 @@
 //! What a leader asks again while it waits.
 
-ghost use Rattle.std.specs.Prelude.{◌≡◌, ◌≤◌, ◌+◌, ◌*◌, ◌++◌, [], Some, IfOk, IsTrue, OnErr, false};
+ghost use Rattle.std.specs.Prelude.{◌≡◌, ◌≤◌, ◌+◌, ◌*◌, ◌++◌, [], Some, IsTrue};
 ghost use Rattle.cx_model.specs.declared.states.Mode.TheVariants as mode;
 ghost use Rattle.cx_model.specs.Leader.{stage_sends, tick_in, leader_rules};
 ghost use Rattle.cx_field.specs.Fields as field;
-ghost use Rattle.cx_role.specs.Role.{Replies, takes_no_memory};
+ghost use Rattle.cx_role.specs.Role.{IsReply};
 
 use crate::Leader;
 use crate::sending::{
@@ -20,9 +20,9 @@ impl Leader {
     pub(crate) fn match_again(&self, own: &Entry, out: &mut Outbox) -> Result<Why, NoMemory>
         requires round { IsTrue (field.round.fits own.now.round) }
         requires empty { out.old.list ≡ [] }
-        ensures ok { IfOk result (λ why. Replies leader_rules self.now (tick_in self.now.cluster self.now.me self.now.volatile mode.Matching (Some own.now)) why self.now out.new.list) }
-        ensures spared { OnErr result (takes_no_memory (tick_in self.now.cluster self.now.me self.now.volatile mode.Matching (Some own.now)).why ≡ false) }
-        ensures err { OnErr result (out.new.list ≡ []) }
+        ensures { let s = self.now in
+            IsReply leader_rules s (tick_in s.cluster s.me s.volatile mode.Matching (Some own.now))
+            result s out.new.list }
     {
         let count = matchmakers(&self.cluster);
         out.room(usize::from(count))?;
@@ -35,9 +35,9 @@ impl Leader {
         requires mode { self.now.volatile.mode ≡ mode.Phase1 }
         requires round { IsTrue (field.round.fits own.now.round) }
         requires empty { out.old.list ≡ [] }
-        ensures ok { IfOk result (λ why. Replies leader_rules self.now (tick_in self.now.cluster self.now.me self.now.volatile mode.Phase1 (Some own.now)) why self.now out.new.list) }
-        ensures spared { OnErr result (takes_no_memory (tick_in self.now.cluster self.now.me self.now.volatile mode.Phase1 (Some own.now)).why ≡ false) }
-        ensures err { OnErr result (out.new.list ≡ []) }
+        ensures { let s = self.now in
+            IsReply leader_rules s (tick_in s.cluster s.me s.volatile mode.Phase1 (Some own.now))
+            result s out.new.list }
     {
         let Some(phase1) = &self.phase1 else {
             return Ok(Why::Resent);
@@ -52,7 +52,8 @@ impl Leader {
         requires round { IsTrue (field.round.fits own.now.round) }
         requires acceptors { self.now.cluster.acceptors ≤ out.old.spare }
         requires matchmakers { 2 * self.now.cluster.f + 1 ≤ out.old.spare }
-        ensures { out.new.list ≡ out.old.list ++ stage_sends self.now.cluster self.now.me own.now self.now.volatile.collection }
+        ensures { let s = self.now in
+            out.new.list ≡ out.old.list ++ stage_sends s.cluster s.me own.now s.volatile.collection }
     {
         match self.collector.stage() {
             Stage::Informing => {
@@ -69,9 +70,9 @@ impl Leader {
     pub(crate) fn lead_again(&self, own: &Entry, out: &mut Outbox) -> Result<Why, NoMemory>
         requires round { IsTrue (field.round.fits own.now.round) }
         requires empty { out.old.list ≡ [] }
-        ensures ok { IfOk result (λ why. Replies leader_rules self.now (tick_in self.now.cluster self.now.me self.now.volatile mode.Leading (Some own.now)) why self.now out.new.list) }
-        ensures spared { OnErr result (takes_no_memory (tick_in self.now.cluster self.now.me self.now.volatile mode.Leading (Some own.now)).why ≡ false) }
-        ensures err { OnErr result (out.new.list ≡ []) }
+        ensures { let s = self.now in
+            IsReply leader_rules s (tick_in s.cluster s.me s.volatile mode.Leading (Some own.now))
+            result s out.new.list }
     {
         let batchers = self.cluster.batchers;
         let asked = self.cluster.acceptors + matchmakers(&self.cluster);

@@ -29,7 +29,13 @@ impl Model for Matchmaker {
 
     ghost Value = { Running MatchmakerDurable (Unit {0}) };
 
-    ghost view = { λ m. record { cluster = m.cluster; me = m.me; live = m.live; durable = record { watermark = m.watermark; entries = m.entries.items }; volatile = tt } };
+    ghost view = { λ m. record {
+      cluster = m.cluster;
+      me = m.me;
+      live = m.live;
+      durable = record { watermark = m.watermark; entries = m.entries.items };
+      volatile = tt;
+    } };
 
     ghost invariant = { λ m. IsSound m.me (record { watermark = m.watermark; entries = m.entries.items }) };
 }

@@ -1,11 +1,11 @@
 //! The rows of a matchmaker.
 
-ghost use Rattle.std.specs.Prelude.{◌≡◌, [], true, IfOk, IsErrOf, IsTrue, OnErr, false};
+ghost use Rattle.std.specs.Prelude.{◌≡◌, [], true, IsTrue};
 ghost use Rattle.cx_base.specs.declared.role.Kind.{Kind};
 ghost use Rattle.cx_base.specs.Role.{role};
 ghost use Rattle.cx_model.specs.Matchmaker.{garbage_a_row, matchmaker_rules, match_a_row, match_read_row};
 ghost use Rattle.cx_field.specs.Fields as field;
-ghost use Rattle.cx_role.specs.Role.{Replies, Steps, StaysAt, FailsAt, KeepsDurable, takes_no_memory};
+ghost use Rattle.cx_role.specs.Role.{IsReply, IsStep};
 
 use crate::Matchmaker;
 use crate::entries::{earlier, has_entry, has_later, last_round, retire, told};
@@ -31,12 +31,9 @@ impl Matchmaker {
         requires sender { from ≡ role Kind.Leader from.index }
         requires round { IsTrue (field.round.fits round) }
         requires grid { IsTrue (field.grid.fits grid) }
-        ensures ok { IfOk result (λ why. Steps K.append_gives matchmaker_rules self.old (match_a_row self.old.me self.old.durable from round grid) why keeper.old keeper.new self.new out.new.list) }
-        ensures no_memory { IsErrOf result StepFault.NoMemory → StaysAt K.append_gives self.old self.new keeper.old keeper.new out.new.list }
-        ensures spared { IsErrOf result StepFault.NoMemory → takes_no_memory (match_a_row self.old.me self.old.durable from round grid).why ≡ false }
-        ensures told { K.tells keeper.new ≡ K.tells keeper.old }
-        ensures failed { IsErrOf result StepFault.Failed → FailsAt K.append_gives (match_a_row self.old.me self.old.durable from round grid) keeper.old keeper.new self.new out.new.list }
-        ensures keeps { IsErrOf result StepFault.Failed → KeepsDurable self.old self.new }
+        ensures { IsStep K.append_gives K.tells matchmaker_rules self.old
+            (match_a_row self.old.me self.old.durable from round grid)
+            result self.new keeper.old keeper.new out.new.list }
     {
         if round.is_before(&self.watermark) {
             out.room(1)?;
@@ -91,12 +88,9 @@ impl Matchmaker {
         requires sender { from ≡ role Kind.Leader from.index }
         requires round { IsTrue (field.round.fits round) }
         requires grid { IsTrue (field.grid.fits grid) }
-        ensures ok { IfOk result (λ why. Steps K.append_gives matchmaker_rules self.old (garbage_a_row self.old.me self.old.durable from round grid) why keeper.old keeper.new self.new out.new.list) }
-        ensures no_memory { IsErrOf result StepFault.NoMemory → StaysAt K.append_gives self.old self.new keeper.old keeper.new out.new.list }
-        ensures spared { IsErrOf result StepFault.NoMemory → takes_no_memory (garbage_a_row self.old.me self.old.durable from round grid).why ≡ false }
-        ensures told { K.tells keeper.new ≡ K.tells keeper.old }
-        ensures failed { IsErrOf result StepFault.Failed → FailsAt K.append_gives (garbage_a_row self.old.me self.old.durable from round grid) keeper.old keeper.new self.new out.new.list }
-        ensures keeps { IsErrOf result StepFault.Failed → KeepsDurable self.old self.new }
+        ensures { IsStep K.append_gives K.tells matchmaker_rules self.old
+            (garbage_a_row self.old.me self.old.durable from round grid)
+            result self.new keeper.old keeper.new out.new.list }
     {
         out.room(1)?;
         if !self.watermark.is_before(&round) {
@@ -121,9 +115,8 @@ impl Matchmaker {
         requires empty { out.old.list ≡ [] }
         requires sender { from ≡ role Kind.Reader from.index }
         requires token { IsTrue (field.token.fits token) }
-        ensures ok { IfOk result (λ why. Replies matchmaker_rules self.now (match_read_row self.now.me self.now.durable from token) why self.now out.new.list) }
-        ensures no_memory { OnErr result (out.new.list ≡ []) }
-        ensures spared { OnErr result (takes_no_memory (match_read_row self.now.me self.now.durable from token).why ≡ false) }
+        ensures { IsReply matchmaker_rules self.now
+            (match_read_row self.now.me self.now.durable from token) result self.now out.new.list }
     {
         let entries = told(self.alloc, &self.entries)?;
         out.room(1)?;

@@ -92,8 +92,12 @@ impl Phase1 {
     pub fn answer(&mut self, acceptor: u16, cw: u64, votes: &Votes) -> Result<Told, NoMemory>
         requires cw { IsTrue (field.mark.fits cw) }
         requires votes { IsTrue ((field.votes cw).fits votes.now) }
-        ensures told { IfOk result (λ told. told ≡ told_by self.old (record { acceptor = acceptor; cw = cw; votes = votes.now })) }
-        ensures counted { OnOk result (self.new ≡ counted_by self.old (record { acceptor = acceptor; cw = cw; votes = votes.now })) }
+        ensures told { IfOk result
+            (λ told. told ≡ told_by self.old
+            (record { acceptor = acceptor; cw = cw; votes = votes.now })) }
+        ensures counted { OnOk result
+            (self.new ≡ counted_by self.old
+            (record { acceptor = acceptor; cw = cw; votes = votes.now })) }
         ensures no_memory { OnErr result (self.new ≡ self.old) }
         ensures spared { OnErr result (is_member_of self.old.live acceptor ≡ true) }
     {

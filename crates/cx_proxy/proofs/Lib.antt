@@ -1,5 +1,4 @@
 pub mod Holding
 pub mod Receivers
 pub mod Rows
-pub mod Replying
 pub mod Same

@@ -1,6 +1,6 @@
 -- The rows of a proxy leader, as its code takes them.
-use Rattle.std.proofs.Common.{◌≡◌, ℕ, ◌≤◌, ◌==◌, Bool, true, false, max, if◌then◌else◌, List, [], ◌∷◌, ◌&&◌, not, length, Option, None, Some, refl, ap, ◌∙◌, arith}
-use Rattle.std.specs.Prelude.{nat_le, nat_lt}
+use Rattle.std.proofs.Common.{◌≡◌, ℕ, ◌≤◌, Bool, true, false, max, if◌then◌else◌, List, [], ◌∷◌, ◌&&◌, not, length, map, Option, None, Some, Result, Ok, Err, IsErr, refl, ap, ◌∙◌, sym, arith}
+use Rattle.std.specs.Prelude.{nat_lt}
 use Rattle.std.proofs.lemmas.Bool.Decides.{nat_tests}
 use Rattle.cx_base.specs.declared.cluster.Cluster.{Cluster}
 use Rattle.cx_base.specs.declared.role.RoleId.{RoleId}
@@ -8,112 +8,117 @@ use Rattle.cx_base.specs.declared.round.Round.{Round}
 use Rattle.cx_base.specs.declared.why.Why.{Why}
 use Rattle.cx_base.specs.declared.why.Why.TheVariants as why
 use Rattle.cx_base.specs.Grid.{is_in}
-use Rattle.cx_grid.specs.Quorum.{with_mark}
 use Rattle.cx_base.specs.Round.{is_before, same_round}
+use Rattle.cx_grid.specs.Quorum.{with_mark}
+use Rattle.cx_msg.specs.Letter.{Letter}
 use Rattle.cx_msg.specs.declared.kept.Record.{Record}
 use Rattle.cx_model.specs.declared.states.Pending.{Pending}
-use Rattle.cx_model.specs.Outcome.{Outcome, answered}
-use Rattle.cx_model.specs.Proxy.{ProxyVolatile, proxy_rules, pending_at, raised_to, ask, propose_over, propose_row, vote_counted, vote_for}
-use Rattle.cx_model.specs.Rules.{refused_from}
-use Rattle.cx_role.specs.Role.{takes_no_memory}
+use Rattle.cx_model.specs.Outcome.{Outcome, answered, replied}
+use Rattle.cx_model.specs.Proxy.{ProxyVolatile, proxy_rules, pending_at, raised_to, phase2a_to, column_for, ask, propose_over, vote_counted, vote_for}
+use Rattle.cx_model.specs.Rules.{Running, refused_from}
+use Rattle.cx_ring.specs.Ring.{RingState, raised}
+use Rattle.cx_ring.proofs.Window.{value_at-from}
+use Rattle.cx_role.specs.Role.{IsReply, takes_no_memory}
 use Rattle.cx_proxy.specs.Declined.{declined, declined_over, uncounted}
-use Rattle.cx_proxy.specs.Slots.{slot_of}
-use Rattle.cx_ring.specs.Ring.{values_from}
+use Rattle.cx_proxy.specs.Holds.{proxy_view}
+use Rattle.cx_proxy.specs.Rows.{proposed, voted}
+use Rattle.cx_proxy.specs.Slots.{ring_with, slot_of}
+use Rattle.cx_proxy.proofs.Same.{pending_at_value}
 
-pub proxy_refuses : (c : Cluster) (me : RoleId) (d : Unit {0}) (rs : List Record) → 1 ≤ length rs → refused_from proxy_rules c me d 0 rs ≡ Some 0
+pub proxy_refuses : (c : Cluster) (me : RoleId) (d : Unit {0}) (rs : List Record) → 1 ≤ length rs
+    → refused_from proxy_rules c me d 0 rs ≡ Some 0
 proxy_refuses c me d [] h = absurd (omega arith)
 proxy_refuses c me d (r ∷ rs) h = refl
 
--- a slot from the watermark on has the value that it had
-found_more : (known s : ℕ) (p : Pending) (ps : List Pending) (keeps is : Bool) → nat_le known p.slot ≡ keeps → (p.slot == s) ≡ is → known ≤ s
-    → pending_at s (values_from slot_of known ps) ≡ pending_at s ps → pending_at s (values_from slot_of known (p ∷ ps)) ≡ pending_at s (p ∷ ps)
-found_more known s p ps true true k i low h = rw (k, i) refl
-found_more known s p ps true false k i low h = rw (k, i) h
-found_more known s p ps false true k i low h = absurd (grind (arith, nat_tests))
-found_more known s p ps false false k i low h = rw (k, i) h
+-- a row that only answers where there is an answer, and else does more
+abbrev or_else : Option Why → ProxyVolatile → Outcome ProxyVolatile → Outcome ProxyVolatile
+or_else None v more = more
+or_else (Some w) v more = answered w v
 
-pub pending_at-from : (known s : ℕ) (ps : List Pending) → known ≤ s → pending_at s (values_from slot_of known ps) ≡ pending_at s ps
-pending_at-from known s [] low = refl
-pending_at-from known s (p ∷ ps) low = found_more known s p ps (nat_le known p.slot) (p.slot == s) refl refl low (pending_at-from known s ps low)
+-- one test more in both
+tested : (b : Bool) (w : Why) (v : ProxyVolatile) (row more : Outcome ProxyVolatile) (o : Option Why)
+    → (b ≡ false → row ≡ or_else o v more)
+    → (if b then answered w v else row) ≡ or_else (if b then Some w else o) v more
+tested true w v row more o e = refl
+tested false w v row more o e = e refl
 
--- a value that is declined changes the watermark alone
-declined_more : (c : Cluster) (me : RoleId) (v : ProxyVolatile) (p : Pending) (past : Bool) (w : Why) → nat_lt p.slot v.known ≡ past
-    → (if past then Some why.Past else declined_over p (pending_at p.slot v.pending)) ≡ Some w → propose_row c me v p ≡ answered w v
-declined_more c me v p true w e h = let same : w ≡ why.Past = cc in rw (e, same) refl
-declined_more c me v p false w e h = rw e (over (pending_at p.slot v.pending) h)
-  where
-    over : (old : Option Pending) → declined_over p old ≡ Some w → propose_over c me v p old ≡ answered w v
-    over None h = cc
-    over (Some old) h = rounds (is_before p.round old.round) (same_round old.round p.round) h
-      where
-        rounds : (less same : Bool) → (if less then Some why.Old else if same then Some why.Same else None) ≡ Some w
-            → (if less then answered why.Old v else if same then answered why.Same v else ask c me v p) ≡ answered w v
-        rounds true same h = let e : w ≡ why.Old = cc in rw e refl
-        rounds false true h = let e : w ≡ why.Same = cc in rw e refl
-        rounds false false h = cc
+-- a row that keeps nothing, as a reply
+replies : {E : Type 0} {s : Running (Unit {0}) ProxyVolatile} {row : Outcome ProxyVolatile}
+    (w : Why) (v : ProxyVolatile) (sent : List Letter) → row ≡ replied w v sent
+    → IsReply {E = E} proxy_rules s row (Ok w) (record s { volatile = v }) sent
+replies w v sent e = rw e (record {
+  ok = record { why = refl; nothing = refl; state = refl; sends = refl };
+  no_memory = tt;
+  spared = tt;
+  sends = tt;
+})
 
--- the values below the watermark do not matter for that
-declined-from : (known : ℕ) (p : Pending) (ps : List Pending) → declined known p (values_from slot_of known ps) ≡ declined known p ps
-declined-from known p ps = past (nat_lt p.slot known) refl
-  where
-    past : (b : Bool) → nat_lt p.slot known ≡ b → declined known p (values_from slot_of known ps) ≡ declined known p ps
-    past true e = rw e refl
-    past false e =
-        let low : known ≤ p.slot = grind (arith, nat_tests) in
-        rw e (ap (λ (o : Option Pending). declined_over p o) (pending_at-from known p.slot ps low))
+module _ (c : Cluster) (me : RoleId) (live : Bool) (ring : RingState Pending) (p : Pending) where
+  abbrev before : Running (Unit {0}) ProxyVolatile
+  before = proxy_view c me live ring
 
-pub declines : (c : Cluster) (me : RoleId) (v : ProxyVolatile) (cw : ℕ) (p : Pending) (known : ℕ) (w : Why) → known ≡ max v.known cw → declined known p v.pending ≡ Some w
-    → propose_row c me (raised_to cw v) p ≡ answered w (raised_to cw v)
-declines c me v cw p known w e h = declined_more c me (raised_to cw v) p (nat_lt p.slot (max v.known cw)) w refl (declined-from (max v.known cw) p v.pending ∙ rw e at h)
+  abbrev later : ProxyVolatile
+  later = raised_to p.cw before.volatile
 
--- a value that is not declined is not past
-pub not_past : (known : ℕ) (p : Pending) (ps : List Pending) → declined known p ps ≡ None → known ≤ p.slot
-not_past known p ps h = past (nat_lt p.slot known) refl h
-  where
-    past : (b : Bool) → nat_lt p.slot known ≡ b → (if b then Some why.Past else declined_over p (pending_at p.slot ps)) ≡ None → known ≤ p.slot
-    past true e h = cc
-    past false e h = grind (arith, nat_tests)
+  over : (old : Option Pending) → propose_over c me later p old ≡ or_else (declined_over p old) later (ask c me later p)
+  over None = refl
+  over (Some old) =
+      tested (is_before p.round old.round) why.Old later _ _ _ (λ _.
+      tested (same_round old.round p.round) why.Same later _ _ None (λ _. refl))
 
-asks_more : (c : Cluster) (me : RoleId) (v : ProxyVolatile) (p : Pending) (past : Bool) → nat_lt p.slot v.known ≡ past
-    → (if past then Some why.Past else declined_over p (pending_at p.slot v.pending)) ≡ None → propose_row c me v p ≡ ask c me v p
-asks_more c me v p true e h = cc
-asks_more c me v p false e h = rw e (over (pending_at p.slot v.pending) h)
-  where
-    over : (old : Option Pending) → declined_over p old ≡ None → propose_over c me v p old ≡ ask c me v p
-    over None h = refl
-    over (Some old) h = rounds (is_before p.round old.round) (same_round old.round p.round) h
-      where
-        rounds : (less same : Bool) → (if less then Some why.Old else if same then Some why.Same else None) ≡ None
-            → (if less then answered why.Old v else if same then answered why.Same v else ask c me v p) ≡ ask c me v p
-        rounds true same h = cc
-        rounds false true h = cc
-        rounds false false h = refl
+  -- what lies below the watermark doesn't matter
+  proposes : proposed before p ≡ or_else (declined ring p) later (ask c me later p)
+  proposes =
+      tested (nat_lt p.slot later.known) why.Past later _ _ _ (λ from.
+      let same : pending_at p.slot later.pending ≡ pending_at p.slot ring.items =
+      pending_at_value p.slot later.pending
+      ∙ value_at-from slot_of later.known p.slot ring.items (grind (arith, nat_tests, from))
+      ∙ sym (pending_at_value p.slot ring.items) in
+      ap (propose_over c me later p) same ∙ over (pending_at p.slot ring.items))
 
--- a value that is not declined is asked for
-pub asks : (c : Cluster) (me : RoleId) (v : ProxyVolatile) (cw : ℕ) (p : Pending) (known : ℕ) → known ≡ max v.known cw → declined known p v.pending ≡ None
-    → propose_row c me (raised_to cw v) p ≡ ask c me (raised_to cw v) p
-asks c me v cw p known e h = asks_more c me (raised_to cw v) p (nat_lt p.slot (max v.known cw)) refl (declined-from (max v.known cw) p v.pending ∙ rw e at h)
+  -- a value that is declined raises the watermark
+  pub declines : {E : Type 0} (w : Why) → declined ring p ≡ Some w
+      → IsReply {E = E} proxy_rules before (proposed before p) (Ok w)
+      (proxy_view c me live (raised slot_of p.cw ring)) []
+  declines w h = replies w later [] (proposes ∙ ap (λ (o : Option Why). or_else o later (ask c me later p)) h)
 
--- which takes memory
-pub asks_spare : (c : Cluster) (me : RoleId) (v : ProxyVolatile) (cw : ℕ) (p : Pending) (known : ℕ) → known ≡ max v.known cw → declined known p v.pending ≡ None
-    → takes_no_memory (propose_row c me (raised_to cw v) p).why ≡ false
-asks_spare c me v cw p known e h = ap (λ (o : Outcome ProxyVolatile). takes_no_memory o.why) (asks c me v cw p known e h)
+  asked : declined ring p ≡ None → proposed before p ≡ ask c me later p
+  asked h = proposes ∙ ap (λ (o : Option Why). or_else o later (ask c me later p)) h
 
--- a vote that does not count changes nothing
-stops : (c : Cluster) (me : RoleId) (v : ProxyVolatile) (acceptor : ℕ) (i : Round) (p : Pending) (w : Why) → uncounted acceptor i p ≡ Some w
-    → vote_for c me v acceptor i (Some p) ≡ answered w v
-stops c me v acceptor i p w h = tests (not (same_round p.round i && is_in acceptor p.grid.members)) p.done (is_in acceptor p.marks) h
+  -- another is asked for
+  pub asks : {E : Type 0} → declined ring p ≡ None
+      → IsReply {E = E} proxy_rules before (proposed before p) (Ok why.Asking)
+      (proxy_view c me live (ring_with p (raised slot_of p.cw ring))) (map (phase2a_to me p) (column_for c p))
+  asks h = replies why.Asking _ _ (asked h)
+
+  -- which takes memory
+  pub lacks : {E : Type 0} (r : Result Why E) → IsErr r → declined ring p ≡ None
+      → IsReply proxy_rules before (proposed before p) r before []
+  lacks (Ok w) is h = cc
+  lacks (Err e) is h = record {
+    ok = tt;
+    no_memory = refl;
+    spared = ap (λ (o : Outcome ProxyVolatile). takes_no_memory o.why) (asked h);
+    sends = refl;
+  }
+
+  -- and is not past
+  pub not_past : declined ring p ≡ None → max ring.first p.cw ≤ p.slot
+  not_past h = grind (arith, nat_tests, h)
+
+-- a vote that doesn't count changes nothing
+pub vote_stops : {E : Type 0} (s : Running (Unit {0}) ProxyVolatile) (acceptor : ℕ) (i : Round) (slot : ℕ)
+    (p : Pending) (w : Why) → pending_at slot s.volatile.pending ≡ Some p → uncounted acceptor i p ≡ Some w
+    → IsReply {E = E} proxy_rules s (voted s acceptor i slot) (Ok w) s []
+vote_stops s acceptor i slot p w is h = replies w s.volatile [] (
+    ap (vote_for s.cluster s.me s.volatile acceptor i) is
+    ∙ votes
+    ∙ ap (λ (o : Option Why). or_else o s.volatile counted) h)
   where
     counted : Outcome ProxyVolatile
-    counted = vote_counted c me v (record p { marks = with_mark acceptor p.marks })
+    counted = vote_counted s.cluster s.me s.volatile (record p { marks = with_mark acceptor p.marks })
 
-    tests : (other done marked : Bool) → (if other then Some why.Unasked else if done then Some why.Done else if marked then Some why.Same else None) ≡ Some w
-        → (if other then answered why.Unasked v else if done then answered why.Done v else if marked then answered why.Same v else counted) ≡ answered w v
-    tests true done marked h = let e : w ≡ why.Unasked = cc in rw e refl
-    tests false true marked h = let e : w ≡ why.Done = cc in rw e refl
-    tests false false true h = let e : w ≡ why.Same = cc in rw e refl
-    tests false false false h = cc
-
-pub vote_stops : (c : Cluster) (me : RoleId) (v : ProxyVolatile) (acceptor : ℕ) (i : Round) (o : Option Pending) (p : Pending) (w : Why) → o ≡ Some p → uncounted acceptor i p ≡ Some w
-    → vote_for c me v acceptor i o ≡ answered w v
-vote_stops c me v acceptor i o p w is h = ap (vote_for c me v acceptor i) is ∙ stops c me v acceptor i p w h
+    votes : vote_for s.cluster s.me s.volatile acceptor i (Some p) ≡ or_else (uncounted acceptor i p) s.volatile counted
+    votes =
+        tested (not (same_round p.round i && is_in acceptor p.grid.members)) why.Unasked _ _ _ _ (λ _.
+        tested p.done why.Done _ _ _ _ (λ _. tested (is_in acceptor p.marks) why.Same _ _ _ None (λ _. refl)))

@@ -1,5 +1,5 @@
 -- Why a proxy leader does not ask for a value, and does not count a vote.
-use Rattle.std.specs.Prelude.{ℕ, ◌&&◌, not, nat_lt, if◌then◌else◌, List, Option, None, Some}
+use Rattle.std.specs.Prelude.{ℕ, ◌&&◌, not, nat_lt, max, if◌then◌else◌, Option, None, Some}
 use Rattle.cx_base.specs.declared.why.Why.{Why}
 use Rattle.cx_base.specs.declared.why.Why.TheVariants.{Done, Old, Past, Same, Unasked}
 use Rattle.cx_base.specs.declared.round.Round.{Round}
@@ -7,6 +7,7 @@ use Rattle.cx_base.specs.Grid.{is_in}
 use Rattle.cx_base.specs.Round.{is_before, same_round}
 use Rattle.cx_model.specs.declared.states.Pending.{Pending}
 use Rattle.cx_model.specs.Proxy.{pending_at}
+use Rattle.cx_ring.specs.Ring.{RingState}
 
 -- a value of a greater round, or of its own, is pending at its slot
 abbrev pub declined_over : Pending → Option Pending → Option Why
@@ -16,11 +17,12 @@ declined_over p (Some old) =
     else if same_round old.round p.round then Some Same
     else None
 
--- the same, or its slot lies below the watermark
-abbrev pub declined : ℕ → Pending → List Pending → Option Why
-declined known p ps = if nat_lt p.slot known then Some Past else declined_over p (pending_at p.slot ps)
+-- the same, or its slot lies below the greatest watermark that is known
+abbrev pub declined : RingState Pending → Pending → Option Why
+declined ring p =
+    if nat_lt p.slot (max ring.first p.cw) then Some Past else declined_over p (pending_at p.slot ring.items)
 
--- Why a vote for a pending value does not count: it is of another round or of no member, all is done, or it was counted.
+-- Why a vote for a pending value does not count: it is of another round or no member's, all is done, or it was counted.
 abbrev pub uncounted : ℕ → Round → Pending → Option Why
 uncounted acceptor i p =
     if not (same_round p.round i && is_in acceptor p.grid.members) then Some Unasked

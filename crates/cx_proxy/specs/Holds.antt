@@ -1,8 +1,11 @@
 -- What a proxy leader holds.
 use Rattle.std.specs.Prelude.{◌≡◌, ℕ, Bool, true, All, IsTrue}
+use Rattle.cx_base.specs.declared.cluster.Cluster.{Cluster}
 use Rattle.cx_base.specs.declared.role.Kind.TheVariants.{Proxy}
 use Rattle.cx_base.specs.declared.role.RoleId.{RoleId}
 use Rattle.cx_model.specs.declared.states.Pending.{Pending}
+use Rattle.cx_model.specs.Proxy.{ProxyVolatile}
+use Rattle.cx_model.specs.Rules.{Running}
 use Rattle.cx_field.specs.Fields as field
 use Rattle.cx_field.specs.Fields.{in_window}
 use Rattle.cx_ring.specs.Ring.{RingState, IsNear}
@@ -25,3 +28,13 @@ pub record Stands (first : ℕ) (room : Bool) (p : Pending) : Type 0 where
 pub record Holds (me : RoleId) (ring : RingState Pending) : Type 0 where
   pub kind : me.kind ≡ Proxy
   pub pending : All (Stands ring.first ring.room) ring.items
+
+-- which state it is in
+abbrev pub proxy_view : Cluster → RoleId → Bool → RingState Pending → Running (Unit {0}) ProxyVolatile
+proxy_view c me live ring = record {
+  cluster = c;
+  me = me;
+  live = live;
+  durable = tt;
+  volatile = record { known = ring.first; pending = ring.items };
+}

@@ -1,3 +1,4 @@
 pub mod Declined
 pub mod Holds
+pub mod Rows
 pub mod Slots

@@ -3,9 +3,9 @@
 ghost use Rattle.std.specs.Prelude.{◌≡◌, ◌+◌, ◌<◌, ◌≤◌, true, None, Some};
 ghost use Rattle.std.specs.Option.{option_copied};
 ghost use Rattle.cx_model.specs.declared.states.Pending.{Pending};
-ghost use Rattle.cx_model.specs.Proxy.{pending_at, with_pending};
+ghost use Rattle.cx_model.specs.Proxy.{pending_at};
 ghost use Rattle.cx_proxy.specs.Declined.{declined, uncounted};
-ghost use Rattle.cx_proxy.specs.Slots.{slot_of};
+ghost use Rattle.cx_proxy.specs.Slots.{ring_with, slot_of};
 
 use cx_base::{Round, Value, Why};
 use cx_grid::{Marks, is_member};
@@ -40,7 +40,7 @@ pub fn put(pendings: &mut Pendings, one: Pending) -> Option<Pending>
     requires room { pendings.old.room ≡ true }
     requires low { pendings.old.first ≤ one.slot }
     requires high { one.slot < pendings.old.first + 32 }
-    ensures items { pendings.new ≡ record pendings.old { items = with_pending one pendings.old.items } }
+    ensures items { pendings.new ≡ ring_with one pendings.old }
     ensures earlier { result ≡ pending_at one.slot pendings.old.items }
 {
     pendings.put(one)
@@ -53,7 +53,8 @@ pub fn note(pendings: &mut Pendings, slot: u64, marks: Marks, done: bool)
     requires low { pendings.old.first ≤ slot }
     requires high { slot < pendings.old.first + 32 }
     ensures none { pending_at slot pendings.old.items ≡ None → pendings.new ≡ pendings.old }
-    ensures some { (p : Pending) → pending_at slot pendings.old.items ≡ Some p → pendings.new ≡ record pendings.old { items = with_pending (record p { marks = marks; done = done }) pendings.old.items } }
+    ensures some { (p : Pending) → pending_at slot pendings.old.items ≡ Some p
+        → pendings.new ≡ ring_with (record p { marks = marks; done = done }) pendings.old }
 {
     let Some(pending) = find(pendings, slot) else {
         return;
@@ -68,10 +69,10 @@ pub fn note(pendings: &mut Pendings, slot: u64, marks: Marks, done: bool)
 }
 
 /// Why a value is not asked for, where it is not. It takes no memory.
-pub fn declined(pendings: &Pendings, known: u64, one: &Pending) -> Option<Why>
-    ensures { result ≡ declined known one.now pendings.now.items }
+pub fn declined(pendings: &Pendings, one: &Pending) -> Option<Why>
+    ensures { result ≡ declined pendings.now one.now }
 {
-    if one.slot < known {
+    if one.slot < pendings.first().max(one.cw) {
         return Some(Why::Past);
     }
     let old = find(pendings, one.slot)?.round;

@@ -1,18 +1,15 @@
 //! The proxy leader.
 
-ghost use Rattle.std.specs.Prelude.{◌≡◌, ◌<◌, ◌^◌, ◌≤◌, [], Some, max, IfOk, OnErr, IsTrue, false};
+ghost use Rattle.std.specs.Prelude.{◌≡◌, ◌<◌, []};
 ghost use Rattle.cx_base.specs.declared.role.Kind.TheVariants as kind;
-ghost use Rattle.cx_field.specs.Fields as field;
-ghost use Rattle.cx_field.specs.Fields.{in_window};
-ghost use Rattle.cx_msg.specs.declared.input.Input.TheVariants as input;
-ghost use Rattle.cx_model.specs.declared.states.Pending.{Pending};
-ghost use Rattle.cx_model.specs.Rules.{Running, opened, outcome_of};
-ghost use Rattle.cx_model.specs.Proxy.{ProxyVolatile, proxy_rules, propose_row, raised_to, pending_of, vote_for, pending_at};
-ghost use Rattle.cx_role.specs.Role.{Replies, takes_no_memory};
+ghost use Rattle.cx_model.specs.Proxy.{ProxyVolatile, proxy_rules};
+ghost use Rattle.cx_model.specs.Rules.{opened};
+ghost use Rattle.cx_role.specs.Role.{IsReply};
 ghost use Rattle.cx_proxy.specs.Holds.{IsPending};
+ghost use Rattle.cx_proxy.specs.Rows.{proposed, voted};
 
 use crate::pendings::{Pendings, declined, find, note, put, uncounted};
-use crate::sends::{again_all, announce, ask_column};
+use crate::sends::{again_all, all_or_none, announce, ask_column};
 use cx_base::{Cluster, Duplicate, NoMemory, Order, RoleId, Round, Value, WINDOW, Why};
 use cx_grid::{Marks, column_whole};
 use cx_keeper::Keeper;
@@ -34,13 +31,13 @@ pub struct Proxy {
 }
 
 impl Model for Proxy {
-    ghost use Rattle.cx_model.specs.Rules.{Running, outcome_of};
+    ghost use Rattle.cx_model.specs.Rules.{Running};
     ghost use Rattle.cx_model.specs.Proxy.{ProxyVolatile};
-    ghost use Rattle.cx_proxy.specs.Holds.{Holds};
+    ghost use Rattle.cx_proxy.specs.Holds.{Holds, proxy_view};
 
     ghost Value = { Running (Unit {0}) ProxyVolatile };
 
-    ghost view = { λ p. record { cluster = p.cluster; me = p.me; live = p.live; durable = tt; volatile = record { known = p.pending.first; pending = p.pending.items } } };
+    ghost view = { λ p. proxy_view p.cluster p.me p.live p.pending };
 
     ghost invariant = { λ p. Holds p.me p.pending };
 }
@@ -60,42 +57,9 @@ impl Proxy {
         }
     }
 
-    // One datagram.
-    fn taken(&mut self, datagram: &Datagram, out: &mut Outbox) -> Result<Why, NoMemory>
-        requires { out.old.list ≡ [] }
-        ensures ok { IfOk result (λ why. Replies proxy_rules self.old (outcome_of proxy_rules self.old (input.Take datagram.now)) why self.new out.new.list) }
-        ensures spared { OnErr result (takes_no_memory (outcome_of proxy_rules self.old (input.Take datagram.now)).why ≡ false) }
-        ensures state { OnErr result (self.new ≡ self.old) }
-    {
-        if !is_for(&self.cluster, self.me, datagram) {
-            return Ok(Why::Stranger);
-        }
-        match datagram.msg() {
-            Msg::Propose {
-                round,
-                grid,
-                slot,
-                cw,
-                value,
-            } => {
-                let pending = Pending {
-                    slot: *slot,
-                    round: *round,
-                    grid: *grid,
-                    cw: *cw,
-                    value: Value::Noop,
-                    marks: Marks::new(),
-                    done: false,
-                };
-                self.propose(pending, value, out)
-            }
-            Msg::Phase2B { round, slot } => self.vote(datagram.from().index, *round, *slot, out),
-            _ => Ok(Why::Stranger),
-        }
-    }
-
-    // A leader hands over a value for a slot. It comes beside the other parts, since it is copied only where it will be asked for:
-    // one that is past or old takes no memory.
+    // A leader hands over a value for a slot. It comes beside the other parts, since it is copied only where it will be
+    // asked for: one that is past or old takes no memory.
+    #[tactic(auto, using(crate::proofs::Holding::mark_limit))]
     fn propose(
         &mut self,
         pending: Pending,
@@ -104,20 +68,19 @@ impl Proxy {
     ) -> Result<Why, NoMemory>
         requires parts { IsPending (record pending { value = value.now }) }
         requires empty { out.old.list ≡ [] }
-        ensures ok { IfOk result (λ why. Replies proxy_rules self.old (propose_row self.old.cluster self.old.me (raised_to pending.cw self.old.volatile) (record pending { value = value.now })) why self.new out.new.list) }
-        ensures spared { OnErr result (takes_no_memory (propose_row self.old.cluster self.old.me (raised_to pending.cw self.old.volatile) (record pending { value = value.now })).why ≡ false) }
-        ensures state { OnErr result (self.new ≡ self.old) }
+        ensures { IsReply proxy_rules self.old (proposed self.old (record pending { value = value.now }))
+            result self.new out.new.list }
     {
-        let known = self.pending.first().max(pending.cw);
-        if let Some(why) = declined(&self.pending, known, &pending) {
-            self.pending.raise(known);
+        if let Some(why) = declined(&self.pending, &pending) {
+            self.pending.raise(pending.cw);
             return Ok(why);
         }
         let mut asked = pending;
         asked.value = value.copy(self.alloc)?;
         self.pending.make_room(self.alloc)?;
-        ask_column(self.alloc, &self.cluster, self.me, &asked, out)?;
-        self.pending.raise(known);
+        let sent = ask_column(self.alloc, &self.cluster, self.me, &asked, out);
+        all_or_none(sent, out)?;
+        self.pending.raise(asked.cw);
         put(&mut self.pending, asked);
         Ok(Why::Asking)
     }
@@ -132,9 +95,7 @@ impl Proxy {
     ) -> Result<Why, NoMemory>
         requires acceptor { acceptor < 64 }
         requires empty { out.old.list ≡ [] }
-        ensures ok { IfOk result (λ why. Replies proxy_rules self.old (vote_for self.old.cluster self.old.me self.old.volatile acceptor round (pending_at slot self.old.volatile.pending)) why self.new out.new.list) }
-        ensures spared { OnErr result (takes_no_memory (vote_for self.old.cluster self.old.me self.old.volatile acceptor round (pending_at slot self.old.volatile.pending)).why ≡ false) }
-        ensures state { OnErr result (self.new ≡ self.old) }
+        ensures { IsReply proxy_rules self.old (voted self.old acceptor round slot) result self.new out.new.list }
     {
         let Some(pending) = find(&self.pending, slot) else {
             return Ok(Why::Unasked);
@@ -148,7 +109,8 @@ impl Proxy {
             note(&mut self.pending, slot, marks, false);
             return Ok(Why::Counted);
         }
-        announce(self.alloc, &self.cluster, self.me, pending, out)?;
+        let sent = announce(self.alloc, &self.cluster, self.me, pending, out);
+        all_or_none(sent, out)?;
         note(&mut self.pending, slot, marks, true);
         Ok(Why::Chosen)
     }
@@ -186,12 +148,32 @@ impl Role for Proxy {
         datagram: &Datagram,
         out: &mut Outbox,
     ) -> Result<Why, StepFault> {
-        match self.taken(datagram, out) {
-            Ok(why) => Ok(why),
-            Err(NoMemory) => {
-                out.clear();
-                Err(StepFault::NoMemory)
+        if !is_for(&self.cluster, self.me, datagram) {
+            return Ok(Why::Stranger);
+        }
+        match datagram.msg() {
+            Msg::Propose {
+                round,
+                grid,
+                slot,
+                cw,
+                value,
+            } => {
+                let pending = Pending {
+                    slot: *slot,
+                    round: *round,
+                    grid: *grid,
+                    cw: *cw,
+                    value: Value::Noop,
+                    marks: Marks::new(),
+                    done: false,
+                };
+                Ok(self.propose(pending, value, out)?)
             }
+            Msg::Phase2B { round, slot } => {
+                Ok(self.vote(datagram.from().index, *round, *slot, out)?)
+            }
+            _ => Ok(Why::Stranger),
         }
     }
 
@@ -208,20 +190,16 @@ impl Role for Proxy {
         if self.pending.is_empty() {
             return Ok(Why::Idle);
         }
-        match again_all(
+        let sent = again_all(
             self.alloc,
             &self.cluster,
             self.me,
             &self.pending,
             WINDOW,
             out,
-        ) {
-            Ok(()) => Ok(Why::Resent),
-            Err(NoMemory) => {
-                out.clear();
-                Err(NoMemory)
-            }
-        }
+        );
+        all_or_none(sent, out)?;
+        Ok(Why::Resent)
     }
 
     fn live(&self) -> bool {

@@ -1,10 +1,11 @@
 //! What a proxy leader sends for a pending value: a value goes to several receivers, each of which gets its own copy.
 
-ghost use Rattle.std.specs.Prelude.{◌≡◌, ◌<◌, ◌≤◌, ◌+◌, ◌*◌, ◌%◌, ◌++◌, ◌∷◌, [], length, map, OnOk, All};
+ghost use Rattle.std.specs.Prelude.{◌≡◌, ◌<◌, ◌≤◌, ◌+◌, ◌*◌, ◌%◌, ◌++◌, ◌∷◌, [], length, map, OnErr, OnOk, All};
 ghost use Rattle.cx_base.specs.declared.role.Kind.TheVariants as kind;
-ghost use Rattle.cx_base.specs.Lists.{numbers, below};
+ghost use Rattle.cx_base.specs.Lists.{numbers};
 ghost use Rattle.cx_model.specs.declared.states.Pending.{Pending};
-ghost use Rattle.cx_model.specs.Proxy.{phase2a_to, column_for, members_for, chosen_to, announcement, again_for, again_at, pending_at};
+ghost use Rattle.cx_model.specs.Proxy.{phase2a_to, column_for, members_for, announcement};
+ghost use Rattle.cx_model.specs.Proxy.{again_for, again_at, pending_at};
 ghost use Rattle.cx_proxy.specs.Holds.{IsPending};
 
 use crate::pendings::{Pendings, find};
@@ -47,7 +48,8 @@ pub fn ask_members(
     requires kind { me.kind ≡ kind.Proxy }
     requires parts { IsPending pending.now }
     requires room { length out.old.list + 16 ≤ 512 }
-    ensures list { OnOk result (out.new.list ≡ out.old.list ++ map (phase2a_to me pending.now) (members_for cluster.now pending.now)) }
+    ensures list { OnOk result (out.new.list
+        ≡ out.old.list ++ map (phase2a_to me pending.now) (members_for cluster.now pending.now)) }
     ensures room { OnOk result (length out.new.list ≤ length out.old.list + 16) }
 {
     // A grid has at most 16 members, as its members show.
@@ -97,13 +99,26 @@ pub fn again_all(
     requires parts { All IsPending pendings.now.items }
     requires room { 16 * count ≤ 512 }
     requires empty { out.old.list ≡ [] }
-    ensures { OnOk result (out.new.list ≡ again_at cluster.now me pendings.now.items (numbers pendings.now.first count)) }
+    ensures { OnOk result (out.new.list
+        ≡ again_at cluster.now me pendings.now.items (numbers pendings.now.first count)) }
 {
     let first = pendings.first();
     for slot in first..first + count {
         again(alloc, cluster, me, pendings, slot, out)?;
     }
     Ok(())
+}
+
+/// What was sent stays, or nothing does when out of memory.
+pub fn all_or_none(sent: Result<(), NoMemory>, out: &mut Outbox) -> Result<(), NoMemory>
+    ensures same { result ≡ sent }
+    ensures ok { OnOk result (out.new.list ≡ out.old.list) }
+    ensures err { OnErr result (out.new.list ≡ []) }
+{
+    if sent.is_err() {
+        out.clear();
+    }
+    sent
 }
 
 // The same for the value that is pending at a slot, if there is one: at most 16 datagrams.
@@ -118,7 +133,8 @@ fn again(
     requires kind { me.kind ≡ kind.Proxy }
     requires parts { All IsPending pendings.now.items }
     requires room { length out.old.list + 16 ≤ 512 }
-    ensures list { OnOk result (out.new.list ≡ out.old.list ++ again_for cluster.now me (pending_at slot pendings.now.items)) }
+    ensures list { OnOk result (out.new.list
+        ≡ out.old.list ++ again_for cluster.now me (pending_at slot pendings.now.items)) }
     ensures room { OnOk result (length out.new.list ≤ length out.old.list + 16) }
 {
     let Some(pending) = find(pendings, slot) else {

@@ -1,53 +1,49 @@
 -- Which acceptors were counted, and the rows that they make.
-use Rattle.std.proofs.Common.{◌≡◌, ℕ, ◌==◌, Bool, true, false, ◌&&◌, ◌||◌, List, [], ◌∷◌, ◌++◌, if◌then◌else◌, refl, ap, sym, ◌∙◌}
+use Rattle.std.proofs.Common.{◌≡◌, ℕ, ◌==◌, Bool, ◌&&◌, ◌||◌, false, List, [], ◌∷◌, ◌++◌, refl, ap, sym, ◌∙◌, arith}
 use Rattle.std.specs.Prelude.{nat_lt}
 use Rattle.std.specs.List.{list_all, list_any}
 use Rattle.std.proofs.lemmas.List.Folds.{list_any-append}
 use Rattle.std.proofs.lemmas.Bool.{eqb-true}
+use Rattle.std.proofs.lemmas.Bool.Decides.{nat_tests}
 use Rattle.cx_base.specs.Grid.{is_in}
 use Rattle.cx_base.specs.Lists.{below}
 use Rattle.cx_grid.specs.Quorum.{row_of, with_mark}
 use Rattle.cx_field.specs.declared.parts.Entry.{Entry}
 use Rattle.cx_model.specs.declared.states.Acked.{Acked}
 use Rattle.cx_model.specs.Matched.{rows_whole}
+use Rattle.cx_model.specs.Outcome.{by_test}
 use Rattle.cx_model.specs.Reader.{acked_by, has_acked}
 
 -- whole rows depend on which acceptors were counted alone
-pub rows_alike : (es : List Entry) (xs ys : List ℕ) → ((id : ℕ) → is_in id xs ≡ is_in id ys) → rows_whole es xs ≡ rows_whole es ys
+pub rows_alike : (es : List Entry) (xs ys : List ℕ) → ((id : ℕ) → is_in id xs ≡ is_in id ys)
+    → rows_whole es xs ≡ rows_whole es ys
 rows_alike es xs ys same =
-    λ j. list_all (λ (e : Entry). nat_lt 0 e.grid.cols && list_any (λ a. list_all (λ id. same id j) (row_of e.grid a)) (below e.grid.rows)) es
+    λ j. list_all (λ (e : Entry). nat_lt 0 e.grid.cols
+    && list_any (λ a. list_all (λ id. same id j) (row_of e.grid a)) (below e.grid.rows)) es
+
+twice : (b c : Bool) → (b || c) ≡ (b || (b || c))
+twice b c = grind (arith, nat_tests)
+
+swap : (a b c : Bool) → (b || (a || c)) ≡ (a || (b || c))
+swap a b c = grind (arith, nat_tests)
 
 -- a set with one more number has it, and those that it had
-pub in_with_mark : (id n : ℕ) (ms : List ℕ) → is_in id (with_mark n ms) ≡ ((n == id) || is_in id ms)
+in_with_mark : (id n : ℕ) (ms : List ℕ) → is_in id (with_mark n ms) ≡ ((n == id) || is_in id ms)
 in_with_mark id n [] = refl
-in_with_mark id n (m ∷ ms) = at (n == m) refl (nat_lt n m) (in_with_mark id n ms)
-  where
-    twice : (b c : Bool) → (b || c) ≡ (b || (b || c))
-    twice true c = refl
-    twice false c = refl
-
-    swap : (a b c : Bool) → (b || (a || c)) ≡ (a || (b || c))
-    swap true true c = refl
-    swap true false c = refl
-    swap false b c = refl
-
-    at : (same : Bool) → (n == m) ≡ same → (less : Bool) → is_in id (with_mark n ms) ≡ ((n == id) || is_in id ms)
-        → is_in id (if same then m ∷ ms else if less then n ∷ m ∷ ms else m ∷ with_mark n ms) ≡ ((n == id) || ((m == id) || is_in id ms))
-    at true e less rest = let is : n ≡ m = eqb-true n m e in rw is (twice (m == id) (is_in id ms))
-    at false e true rest = refl
-    at false e false rest = ap (λ (b : Bool). (m == id) || b) rest ∙ swap (n == id) (m == id) (is_in id ms)
-
-turned : (x y : Bool) → (x || y) ≡ (y || (x || false))
-turned true true = refl
-turned true false = refl
-turned false true = refl
-turned false false = refl
+in_with_mark id n (m ∷ ms) =
+    let Has = λ (more : List ℕ). is_in id more ≡ ((n == id) || ((m == id) || is_in id ms)) in
+    by_test Has (n == m) _ _ (λ same. rw (eqb-true n m same) (twice (m == id) (is_in id ms))) (λ other.
+    by_test Has (nat_lt n m) _ _ (λ less. refl) (λ more.
+    rw (in_with_mark id n ms) (swap (n == id) (m == id) (is_in id ms))))
 
 -- one more is counted
-pub acked_more : (ms : List ℕ) (acks : List Acked) (a : Acked) → ((id : ℕ) → is_in id ms ≡ has_acked id acks) → (id : ℕ) → is_in id (with_mark a.acceptor ms) ≡ has_acked id (acks ++ a ∷ [])
+pub acked_more : (ms : List ℕ) (acks : List Acked) (a : Acked) → ((id : ℕ) → is_in id ms ≡ has_acked id acks) → (id : ℕ)
+    → is_in id (with_mark a.acceptor ms) ≡ has_acked id (acks ++ a ∷ [])
 acked_more ms acks a same id =
-    let one : has_acked id (acks ++ a ∷ []) ≡ (has_acked id acks || ((a.acceptor == id) || false)) = list_any-append (λ (x : Acked). x.acceptor == id) acks (a ∷ []) in
-    in_with_mark id a.acceptor ms ∙ ap (λ (b : Bool). (a.acceptor == id) || b) (same id) ∙ turned (a.acceptor == id) (has_acked id acks) ∙ sym one
+    let last : (b c : Bool) → (b || c) ≡ (c || (b || false)) = λ b c. grind (arith, nat_tests) in
+    in_with_mark id a.acceptor ms ∙ ap (λ (b : Bool). (a.acceptor == id) || b) (same id)
+    ∙ last (a.acceptor == id) (has_acked id acks)
+    ∙ sym (list_any-append (λ (x : Acked). x.acceptor == id) acks (a ∷ []))
 
 -- whoever was counted is one of those
 pub acked_are : (id : ℕ) (acks : List Acked) → has_acked id acks ≡ is_in id (acked_by acks)

@@ -4,4 +4,3 @@ pub mod KeptNothing
 pub mod Live
 pub mod Opened
 pub mod Ranges
-pub mod Sends

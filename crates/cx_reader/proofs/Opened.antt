@@ -14,6 +14,7 @@ pub reader_itself : (me : RoleId) → me.kind ≡ Reader → role Reader me.inde
 reader_itself me is = ap (λ (k : Kind). role k me.index) (sym is)
 
 -- a role without records refuses the first
-pub reader_refuses : (c : Cluster) (me : RoleId) (d : Unit {0}) (rs : List Record) → 1 ≤ length rs → refused_from reader_rules c me d 0 rs ≡ Some 0
+pub reader_refuses : (c : Cluster) (me : RoleId) (d : Unit {0}) (rs : List Record) → 1 ≤ length rs
+    → refused_from reader_rules c me d 0 rs ≡ Some 0
 reader_refuses c me d [] h = absurd (omega arith)
 reader_refuses c me d (r ∷ rs) h = refl

@@ -1,13 +1,13 @@
 //! What the matchmakers answered (JSys 2021): the greatest watermark, and the grids that are not retired.
 
-ghost use Rattle.std.specs.Prelude.{◌≡◌, ◌&&◌, true, not};
+ghost use Rattle.std.specs.Prelude.{◌≡◌, true};
 ghost use Rattle.std.specs.List.{list_any};
-ghost use Rattle.cx_base.specs.Grid.{is_in};
-ghost use Rattle.cx_base.specs.Round.{is_before};
 ghost use Rattle.cx_model.specs.declared.states.MatchAnswer.{MatchAnswer as AnswerOf};
-ghost use Rattle.cx_model.specs.Matched.{later_round, is_counted, greatest_watermark, entries_told, live_entries, is_member_of, rows_whole};
+ghost use Rattle.cx_model.specs.Matched.{later_round, is_counted, greatest_watermark, entries_told};
+ghost use Rattle.cx_model.specs.Matched.{live_entries, is_member_of, rows_whole};
 ghost use Rattle.cx_model.specs.Matchmaker.{entries_from};
 ghost use Rattle.cx_field.specs.declared.parts.Entry.{Entry as EntryOf};
+ghost use Rattle.cx_reader.specs.Live.{is_live, some_live, some_live_with};
 
 use cx_base::Round;
 use cx_field::Entry;
@@ -38,19 +38,19 @@ pub fn is_counted(told: &[MatchAnswer], matchmaker: u16) -> bool
 }
 
 fn is_live(entry: &Entry, watermark: Round) -> bool
-    ensures { result ≡ not (is_before entry.now.round watermark) }
+    ensures { result ≡ is_live watermark entry.now }
 {
     !entry.round.is_before(&watermark)
 }
 
 fn some_live(entries: &[Entry], watermark: Round) -> bool
-    ensures { result ≡ list_any (λ (e : EntryOf). not (is_before e.round watermark)) entries.now }
+    ensures { result ≡ some_live watermark entries.now }
 {
     entries.iter().any(|entry| is_live(entry, watermark))
 }
 
 fn some_live_told(told: &[MatchAnswer], watermark: Round) -> bool
-    ensures { result ≡ list_any (λ (a : AnswerOf). list_any (λ (e : EntryOf). not (is_before e.round watermark)) a.entries) told.now }
+    ensures { result ≡ list_any (λ (a : AnswerOf). some_live watermark a.entries) told.now }
 {
     told.iter()
         .any(|answer| some_live(answer.entries.as_slice(), watermark))
@@ -64,13 +64,13 @@ pub fn has_live(told: &[MatchAnswer]) -> bool
 }
 
 fn some_live_with(entries: &[Entry], watermark: Round, acceptor: u16) -> bool
-    ensures { result ≡ list_any (λ (e : EntryOf). not (is_before e.round watermark) && is_in acceptor e.grid.members) entries.now }
+    ensures { result ≡ some_live_with watermark acceptor entries.now }
 {
     entries.iter().any(|entry| is_live(entry, watermark) && is_member(&entry.grid, acceptor))
 }
 
 fn live_with_told(told: &[MatchAnswer], watermark: Round, acceptor: u16) -> bool
-    ensures { result ≡ list_any (λ (a : AnswerOf). list_any (λ (e : EntryOf). not (is_before e.round watermark) && is_in acceptor e.grid.members) a.entries) told.now }
+    ensures { result ≡ list_any (λ (a : AnswerOf). some_live_with watermark acceptor a.entries) told.now }
 {
     told.iter().any(|answer| some_live_with(answer.entries.as_slice(), watermark, acceptor))
 }

@@ -17,8 +17,8 @@ use cx_role::{Outbox, Role, StepFault, WakeFault, is_for};
 use std::alloc::Global;
 use std::marker::Model;
 
-/// A reader of the cluster: the reads in progress, at most 64 (VLDB 2021: quorum reads; over several grids this project's
-/// own). It keeps no record: who asked asks again when it was lost.
+/// A reader of the cluster: the reads in progress, at most 64 (VLDB 2021: quorum reads; over several grids this
+/// project's own). It keeps no record: who asked asks again when it was lost.
 #[derive(Drop)]
 pub struct Reader {
     pub(crate) alloc: Global,
@@ -36,7 +36,13 @@ impl Model for Reader {
 
     ghost Value = { Running (Unit {0}) ReaderVolatile };
 
-    ghost view = { λ r. record { cluster = r.cluster; me = role kind.Reader r.index; live = r.live; durable = tt; volatile = record { reads = r.reads } } };
+    ghost view = { λ r. record {
+      cluster = r.cluster;
+      me = role kind.Reader r.index;
+      live = r.live;
+      durable = tt;
+      volatile = record { reads = r.reads };
+    } };
 }
 
 // A client's read of this number.

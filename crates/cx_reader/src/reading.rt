@@ -4,11 +4,11 @@ ghost use Rattle.std.specs.Prelude.{◌≡◌, ◌≤◌, ◌<◌, ◌++◌, ◌
 ghost use Rattle.std.specs.List.{list_any};
 ghost use Rattle.cx_base.specs.Role.{role};
 ghost use Rattle.cx_base.specs.declared.role.Kind.{Kind as KindOf};
-ghost use Rattle.cx_model.specs.Matched.{greatest_watermark, is_counted, is_member_of, live_entries, members_of, rows_whole};
+ghost use Rattle.cx_model.specs.Matched.{greatest_watermark, is_counted, is_member_of, live_entries};
+ghost use Rattle.cx_model.specs.Matched.{members_of, rows_whole};
 ghost use Rattle.cx_model.specs.Reader.{acked_by, greatest_mark, has_acked, is_matched, pre_read_to, read_to, reading};
 ghost use Rattle.cx_field.specs.Fields as field;
 ghost use Rattle.cx_field.specs.declared.parts.Entry.{Entry};
-ghost use Rattle.cx_reader.specs.InProgress.{are_acks};
 
 use crate::matched;
 use cx_base::{Cluster, Duplicate, Key, Kind, NoMemory, Round};
@@ -39,7 +39,13 @@ impl Model for Reading {
 
     ghost Value = { InProgress };
 
-    ghost view = { λ r. record { token = r.token; replica = r.replica; key = r.key; told = r.told.items; acks = r.acks.items } };
+    ghost view = { λ r. record {
+      token = r.token;
+      replica = r.replica;
+      key = r.key;
+      told = r.told.items;
+      acks = r.acks.items;
+    } };
 
     ghost invariant = { λ r. IsReading r.token r.told.items r.acks.items r.counted };
 }
@@ -159,7 +165,8 @@ impl Reading {
     /// Asks the members of live grids how far they voted, by rising index. Room was taken beforehand.
     pub fn ask_members(&self, reader: u16, cluster: &Cluster, out: &mut Outbox)
         requires { cluster.now.acceptors ≤ out.old.spare }
-        ensures { out.new.list ≡ out.old.list ++ map (pre_read_to (role KindOf.Reader reader) self.now) (members_of cluster.now (live_entries self.now.told)) }
+        ensures { out.new.list ≡ out.old.list ++ map (pre_read_to (role KindOf.Reader reader) self.now)
+            (members_of cluster.now (live_entries self.now.told)) }
     {
         let token = self.token();
         let watermark = self.watermark();
@@ -185,15 +192,12 @@ impl Duplicate for Reading {
 }
 
 fn greatest_mark(acks: &[Acked]) -> u64
-    requires { IsTrue (are_acks acks.now) }
-    ensures mark { result ≡ greatest_mark acks.now }
-    ensures fits { IsTrue (field.mark.fits result) }
+    ensures { result ≡ greatest_mark acks.now }
 {
-    let mut greatest = 0;
-    for ack in acks {
-        greatest = ack.mark.max(greatest);
+    match acks {
+        [] => 0,
+        [ack, rest @ ..] => ack.mark.max(greatest_mark(rest)),
     }
-    greatest
 }
 
 // The same answers again.

@@ -1,13 +1,16 @@
-//! What a reader does with what it is asked and answered. Memory is taken first, so that running out of it leaves everything as it was.
+//! What a reader does with what it is asked and answered. Memory is taken first, so that running out of it leaves
+//! everything as it was.
 
-ghost use Rattle.std.specs.Prelude.{◌≡◌, ◌≤◌, ◌<◌, ◌+◌, ◌*◌, ◌++◌, [], map, IsTrue, IfOk, OnErr, false};
+ghost use Rattle.std.specs.Prelude.{◌≡◌, ◌≤◌, ◌<◌, ◌+◌, ◌*◌, ◌++◌, [], map, IsTrue};
 ghost use Rattle.cx_base.specs.Lists.{below};
 ghost use Rattle.cx_base.specs.Role.{role};
 ghost use Rattle.cx_base.specs.declared.role.Kind.{Kind as KindOf};
 ghost use Rattle.cx_model.specs.Matched.{live_entries};
-ghost use Rattle.cx_model.specs.Reader.{match_ack_counted, match_ack_row, match_read_to, pre_read_ack_row, pre_read_counted, read_matched, read_req_row, reader_rules, reading_of, send_read};
+ghost use Rattle.cx_model.specs.Reader.{match_ack_counted, match_ack_row, match_read_to, pre_read_ack_row};
+ghost use Rattle.cx_model.specs.Reader.{pre_read_counted, read_matched, read_req_row, reader_rules, reading_of};
+ghost use Rattle.cx_model.specs.Reader.{send_read};
 ghost use Rattle.cx_field.specs.Fields as field;
-ghost use Rattle.cx_role.specs.Role.{Replies, takes_no_memory};
+ghost use Rattle.cx_role.specs.Role.{IsReply};
 
 use crate::reader::Reader;
 use crate::reading::Reading;
@@ -38,10 +41,8 @@ impl Reader {
     /// A client asks for a key. A read that it asks for again begins anew.
     pub(crate) fn begin(&mut self, one: Reading, out: &mut Outbox) -> Result<Why, NoMemory>
         requires empty { out.old.list ≡ [] }
-        ensures ok { IfOk result (λ why. Replies reader_rules self.old (read_req_row self.old.cluster self.old.me self.old.volatile one) why self.new out.new.list) }
-        ensures no_memory { OnErr result (self.new ≡ self.old) }
-        ensures spared { OnErr result (takes_no_memory (read_req_row self.old.cluster self.old.me self.old.volatile one).why ≡ false) }
-        ensures sends { OnErr result (out.new.list ≡ []) }
+        ensures { IsReply reader_rules self.old (read_req_row self.old.cluster self.old.me self.old.volatile one)
+            result self.new out.new.list }
     {
         let token = one.token();
         let why = match self.reads.get(token) {
@@ -67,10 +68,10 @@ impl Reader {
     ) -> Result<Why, NoMemory>
         requires watermark { IsTrue (field.round0.fits watermark) }
         requires empty { out.old.list ≡ [] }
-        ensures ok { IfOk result (λ why. Replies reader_rules self.old (match_ack_row self.old.cluster self.old.me self.old.volatile from watermark entries.now (reading_of token self.old.volatile.reads)) why self.new out.new.list) }
-        ensures no_memory { OnErr result (self.new ≡ self.old) }
-        ensures spared { OnErr result (takes_no_memory (match_ack_row self.old.cluster self.old.me self.old.volatile from watermark entries.now (reading_of token self.old.volatile.reads)).why ≡ false) }
-        ensures sends { OnErr result (out.new.list ≡ []) }
+        ensures { IsReply reader_rules self.old
+            (match_ack_row self.old.cluster self.old.me self.old.volatile from watermark entries.now
+            (reading_of token self.old.volatile.reads))
+            result self.new out.new.list }
     {
         let Some(one) = self.reads.get(token) else {
             return Ok(Why::Unasked);
@@ -93,10 +94,8 @@ impl Reader {
     // One more matchmaker has answered a read.
     fn match_counted(&mut self, one: Reading, out: &mut Outbox) -> Result<Why, NoMemory>
         requires empty { out.old.list ≡ [] }
-        ensures ok { IfOk result (λ why. Replies reader_rules self.old (match_ack_counted self.old.cluster self.old.me self.old.volatile one) why self.new out.new.list) }
-        ensures no_memory { OnErr result (self.new ≡ self.old) }
-        ensures spared { OnErr result (takes_no_memory (match_ack_counted self.old.cluster self.old.me self.old.volatile one).why ≡ false) }
-        ensures sends { OnErr result (out.new.list ≡ []) }
+        ensures { IsReply reader_rules self.old (match_ack_counted self.old.cluster self.old.me self.old.volatile one)
+            result self.new out.new.list }
     {
         if !one.is_matched(&self.cluster) {
             self.reads.put(one)?;
@@ -109,10 +108,9 @@ impl Reader {
     #[tactic(auto, unfolding(cx_field::specs::Fields::mark, cx_wire::specs::Format::u64))]
     fn matched(&mut self, one: Reading, out: &mut Outbox) -> Result<Why, NoMemory>
         requires empty { out.old.list ≡ [] }
-        ensures ok { IfOk result (λ why. Replies reader_rules self.old (read_matched self.old.cluster self.old.me self.old.volatile one (live_entries one.told)) why self.new out.new.list) }
-        ensures no_memory { OnErr result (self.new ≡ self.old) }
-        ensures spared { OnErr result (takes_no_memory (read_matched self.old.cluster self.old.me self.old.volatile one (live_entries one.told)).why ≡ false) }
-        ensures sends { OnErr result (out.new.list ≡ []) }
+        ensures { IsReply reader_rules self.old
+            (read_matched self.old.cluster self.old.me self.old.volatile one (live_entries one.told))
+            result self.new out.new.list }
     {
         if !one.has_live() {
             return self.send(one, 0, out);
@@ -140,10 +138,10 @@ impl Reader {
         requires acceptor { from.index < 64 }
         requires mark { IsTrue (field.mark.fits mark) }
         requires empty { out.old.list ≡ [] }
-        ensures ok { IfOk result (λ why. Replies reader_rules self.old (pre_read_ack_row self.old.cluster self.old.me self.old.volatile from watermark mark (reading_of token self.old.volatile.reads)) why self.new out.new.list) }
-        ensures no_memory { OnErr result (self.new ≡ self.old) }
-        ensures spared { OnErr result (takes_no_memory (pre_read_ack_row self.old.cluster self.old.me self.old.volatile from watermark mark (reading_of token self.old.volatile.reads)).why ≡ false) }
-        ensures sends { OnErr result (out.new.list ≡ []) }
+        ensures { IsReply reader_rules self.old
+            (pre_read_ack_row self.old.cluster self.old.me self.old.volatile from watermark mark
+            (reading_of token self.old.volatile.reads))
+            result self.new out.new.list }
     {
         let Some(one) = self.reads.get(token) else {
             return Ok(Why::Unasked);
@@ -168,10 +166,8 @@ impl Reader {
     // One more acceptor has answered a read.
     fn pre_read_counted(&mut self, one: Reading, out: &mut Outbox) -> Result<Why, NoMemory>
         requires empty { out.old.list ≡ [] }
-        ensures ok { IfOk result (λ why. Replies reader_rules self.old (pre_read_counted self.old.me self.old.volatile one) why self.new out.new.list) }
-        ensures no_memory { OnErr result (self.new ≡ self.old) }
-        ensures spared { OnErr result (takes_no_memory (pre_read_counted self.old.me self.old.volatile one).why ≡ false) }
-        ensures sends { OnErr result (out.new.list ≡ []) }
+        ensures { IsReply reader_rules self.old (pre_read_counted self.old.me self.old.volatile one)
+            result self.new out.new.list }
     {
         if !one.rows_whole() {
             self.reads.put(one)?;
@@ -185,10 +181,8 @@ impl Reader {
     fn send(&mut self, one: Reading, mark: u64, out: &mut Outbox) -> Result<Why, NoMemory>
         requires mark { IsTrue (field.mark.fits mark) }
         requires empty { out.old.list ≡ [] }
-        ensures ok { IfOk result (λ why. Replies reader_rules self.old (send_read self.old.me self.old.volatile one mark) why self.new out.new.list) }
-        ensures no_memory { OnErr result (self.new ≡ self.old) }
-        ensures spared { OnErr result (takes_no_memory (send_read self.old.me self.old.volatile one mark).why ≡ false) }
-        ensures sends { OnErr result (out.new.list ≡ []) }
+        ensures { IsReply reader_rules self.old (send_read self.old.me self.old.volatile one mark)
+            result self.new out.new.list }
     {
         out.room(1)?;
         out.push(one.read(self.index, mark));

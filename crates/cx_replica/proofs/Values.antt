@@ -1,5 +1,6 @@
 -- The commands and the answers of a value, one by one.
-use Rattle.std.proofs.Common.{◌≡◌, ℕ, ◌<◌, ◌≤◌, ◌^◌, Bool, true, ◌&&◌, List, [], ◌∷◌, ◌++◌, length, refl, ap, sym, ◌∙◌, arith}
+use Rattle.std.proofs.Common.{◌≡◌, ℕ, ◌<◌, ◌≤◌, ◌^◌, Bool, true, ◌&&◌, List, [], ◌∷◌, ◌++◌, length, refl, ap, sym, ◌∙◌}
+use Rattle.std.proofs.Common.{arith}
 use Rattle.std.specs.List.{list_all}
 use Rattle.std.proofs.lemmas.Bool.{and_parts}
 use Rattle.std.proofs.lemmas.Bool.Decides.{nat_tests}
@@ -8,34 +9,40 @@ use Rattle.cx_base.specs.declared.command.Command.{Command}
 use Rattle.cx_base.specs.declared.command.Value.{Value}
 use Rattle.cx_base.specs.declared.command.Value.TheVariants.{Batch}
 use Rattle.cx_wire.specs.Format.{Format, u8, u64, each_fits}
-use Rattle.cx_field.specs.Fields.{slot, mark, command, command_with, commands_with, value, value_with, answered, answers, values}
+use Rattle.cx_field.specs.Fields.{slot, mark, command, command_with, commands_with, value, value_with, answered}
+use Rattle.cx_field.specs.Fields.{answers}
+use Rattle.cx_field.specs.Fields.{values}
+use Rattle.cx_replica.specs.Sound.{are_answers, are_commands, are_values}
 
-each_fits-same : {A : Type 0} (f : Format A) (before xs : List A) → each_fits (λ _. f) before xs ≡ list_all (λ (x : A). f.fits x) xs
+each_fits-same : {A : Type 0} (f : Format A) (before xs : List A)
+    → each_fits (λ _. f) before xs ≡ list_all (λ (x : A). f.fits x) xs
 unfolding each_fits
 each_fits-same f before [] = refl
 each_fits-same {A} f before (x ∷ xs) = ap (λ (b : Bool). f.fits x && b) (each_fits-same f (before ++ x ∷ []) xs)
 
 -- each command of a batch that fits
-pub commands_in : (cs : List Command) → value.fits (Batch cs) ≡ true → list_all (λ (c : Command). command.fits c) cs ≡ true
+pub commands_in : (cs : List Command) → value.fits (Batch cs) ≡ true → are_commands cs ≡ true
 unfolding value value_with commands_with command
 commands_in cs h = sym (each_fits-same (command_with true) [] cs) ∙ ((and_parts _ _ ((and_parts _ _ h).1)).1)
 
 -- one to eight answers that fit are the answers of a slot
-pub answers_fit : (list : List Answered) → 1 ≤ length list → length list ≤ 8 → list_all (λ (a : Answered). answered.fits a) list ≡ true → answers.fits list ≡ true
+pub answers_fit : (list : List Answered) → 1 ≤ length list → length list ≤ 8 → are_answers list ≡ true
+    → answers.fits list ≡ true
 unfolding answers u8
 answers_fit list some room fit =
     let each : each_fits (λ _. answered) [] list ≡ true = each_fits-same answered [] list ∙ fit in
     grind (arith, nat_tests, each)
 
 -- one to 32 values that fit are those of a record
-pub values_fit : (list : List Value) → 1 ≤ length list → length list ≤ 32 → list_all (λ (v : Value). value.fits v) list ≡ true → values.fits list ≡ true
+pub values_fit : (list : List Value) → 1 ≤ length list → length list ≤ 32 → are_values list ≡ true
+    → values.fits list ≡ true
 unfolding values u8
 values_fit list some room fit =
     let each : each_fits (λ _. value) [] list ≡ true = each_fits-same value [] list ∙ fit in
     grind (arith, nat_tests, each)
 
 -- each value of a record that fits
-pub values_in : (list : List Value) → values.fits list ≡ true → list_all (λ (v : Value). value.fits v) list ≡ true
+pub values_in : (list : List Value) → values.fits list ≡ true → are_values list ≡ true
 unfolding values
 values_in list h = sym (each_fits-same value [] list) ∙ ((and_parts _ _ ((and_parts _ _ h).1)).1)
 

@@ -11,7 +11,8 @@ use Rattle.cx_model.specs.declared.states.Deferred.{Deferred}
 
 -- the key's text in a map, where `held` slots are held
 abbrev pub answer_at : RoleId → ℕ → List Pair → Deferred → Letter
-answer_at me held pairs r = letter me (role Client r.token.client) (msg.ReadAnswer r.token.seq held (text_at r.key pairs))
+answer_at me held pairs r =
+    letter me (role Client r.token.client) (msg.ReadAnswer r.token.seq held (text_at r.key pairs))
 
 -- the same for each read that waited for no more slots
 abbrev pub answers_at : RoleId → ℕ → List Pair → List Deferred → List Letter

@@ -1,5 +1,6 @@
 -- What executing values leaves, with the room that it has.
-use Rattle.std.specs.Prelude.{◌≡◌, ℕ, ◌+◌, ◌==◌, ◌≤◌, Bool, true, false, if◌then◌else◌, List, [], ◌∷◌, ◌++◌, length, Vec, vec_capacity}
+use Rattle.std.specs.Prelude.{◌≡◌, ℕ, ◌+◌, ◌==◌, ◌≤◌, Bool, true, false, if◌then◌else◌, List, [], ◌∷◌, ◌++◌, length}
+use Rattle.std.specs.Prelude.{Vec, vec_capacity}
 use Rattle.std.specs.declared.alloc.Global.{Global}
 use Rattle.cx_base.specs.declared.command.Answered.{Answered}
 use Rattle.cx_base.specs.declared.command.Command.{Command}
@@ -33,10 +34,10 @@ pub record HasRoom (m : MachineState) (commands : List Command) : Type 0 where
 abbrev pub LeavesRoom : MachineState → List Command → MachineState → Type 0
 LeavesRoom old commands new = (later : List Command) → HasRoom old (commands ++ later) → HasRoom new later
 
--- each is empty, with room for the answers of eight commands
-abbrev pub AreRooms : List (Vec Answered Global) → Type 0
-AreRooms [] = Unit {0}
-AreRooms (room ∷ rooms) = (room.items ≡ []) × (8 ≤ vec_capacity room) × AreRooms rooms
+-- a vector is empty, with room for the answers of eight commands
+pub record IsVacant (room : Vec Answered Global) : Type 0 where
+  pub empty : room.items ≡ []
+  pub wide : 8 ≤ vec_capacity room
 
 -- the values of a record, if it holds some
 abbrev pub values_of : Record → List Value

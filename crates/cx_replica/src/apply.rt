@@ -1,15 +1,12 @@
 //! The row of a chosen value.
 
-ghost use Rattle.std.specs.Prelude.{◌≡◌, ◌+◌, ◌++◌, ◌<◌, ◌≤◌, ◌^◌, [], length, true, IfOk, IsErrOf, OnErr, OnOk, IsTrue, false};
-ghost use Rattle.std.specs.List.{list_all};
-ghost use Rattle.cx_base.specs.declared.command.Value.{Value};
-ghost use Rattle.cx_model.specs.Replica.{replica_rules, machine_from, machine_of, read_answers, results_from};
-ghost use Rattle.cx_model.specs.Rules.{IsFit};
+ghost use Rattle.std.specs.Prelude.{◌≡◌, ◌<◌, ◌^◌, [], length, true, IsTrue};
+ghost use Rattle.cx_model.specs.Replica.{replica_rules};
 ghost use Rattle.cx_field.specs.Fields as field;
 ghost use Rattle.cx_replica.specs.Room.{is_log, values_of};
 ghost use Rattle.cx_replica.specs.Rows.{applied_in, chosen_in};
 ghost use Rattle.cx_replica.specs.Sound.{is_own};
-ghost use Rattle.cx_role.specs.Role.{Steps, StaysAt, FailsAt, KeepsDurable, takes_no_memory};
+ghost use Rattle.cx_role.specs.Role.{IsStep, MayKeep};
 
 use crate::reads::drop_answered;
 use crate::replica::Replica;
@@ -23,7 +20,8 @@ use cx_rlog::Taken;
 use cx_role::{Outbox, StepFault, keep};
 
 impl Replica {
-    /// A value was chosen for a slot. The first for a slot stays; the next slot's is executed, with those that wait after it.
+    /// A value was chosen for a slot. The first for a slot stays; the next slot's is executed, with those that wait
+    /// after it.
     pub(crate) fn chosen<K: Keeper>(
         &mut self,
         keeper: &mut K,
@@ -35,13 +33,9 @@ impl Replica {
         requires empty { out.old.list ≡ [] }
         requires slot { IsTrue (field.slot.fits slot) }
         requires value { IsTrue (is_own self.old.cluster value.now) }
-        ensures ok { IfOk result (λ why. Steps K.append_gives replica_rules self.old (chosen_in self.old slot value.now) why keeper.old keeper.new self.new out.new.list) }
-        ensures no_memory { IsErrOf result StepFault.NoMemory → StaysAt K.append_gives self.old self.new keeper.old keeper.new out.new.list }
-        ensures spared { IsErrOf result StepFault.NoMemory → takes_no_memory (chosen_in self.old slot value.now).why ≡ false }
-        ensures told { K.tells keeper.new ≡ K.tells keeper.old }
-        ensures failed { IsErrOf result StepFault.Failed → FailsAt K.append_gives (chosen_in self.old slot value.now) keeper.old keeper.new self.new out.new.list }
-        ensures keeps { IsErrOf result StepFault.Failed → KeepsDurable self.old self.new }
-        ensures fits { IsFit replica_rules self.old.cluster self.old.me self.old.durable (chosen_in self.old slot value.now).kept }
+        ensures step { IsStep K.append_gives K.tells replica_rules self.old (chosen_in self.old slot value.now)
+            result self.new keeper.old keeper.new out.new.list }
+        ensures fits { MayKeep replica_rules self.old (chosen_in self.old slot value.now) }
     {
         match self.log.take(self.alloc, slot, value)? {
             Taken::Past => Ok(Why::Past),
@@ -62,12 +56,8 @@ impl Replica {
         requires empty { out.old.list ≡ [] }
         requires slot { length self.old.durable.log < 2 ^ 40 }
         requires value { IsTrue (is_own self.old.cluster value.now) }
-        ensures ok { IfOk result (λ why. Steps K.append_gives replica_rules self.old (applied_in self.old value.now) why keeper.old keeper.new self.new out.new.list) }
-        ensures no_memory { IsErrOf result StepFault.NoMemory → StaysAt K.append_gives self.old self.new keeper.old keeper.new out.new.list }
-        ensures spared { IsErrOf result StepFault.NoMemory → takes_no_memory (applied_in self.old value.now).why ≡ false }
-        ensures told { K.tells keeper.new ≡ K.tells keeper.old }
-        ensures failed { IsErrOf result StepFault.Failed → FailsAt K.append_gives (applied_in self.old value.now) keeper.old keeper.new self.new out.new.list }
-        ensures keeps { IsErrOf result StepFault.Failed → KeepsDurable self.old self.new }
+        ensures { IsStep K.append_gives K.tells replica_rules self.old (applied_in self.old value.now)
+            result self.new keeper.old keeper.new out.new.list }
     {
         let values = self.log.ready(self.alloc, value)?;
         let count = values.as_slice().len();

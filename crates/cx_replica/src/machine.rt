@@ -1,15 +1,14 @@
 //! What executing values leaves: the map, and the client table.
 
-ghost use Rattle.std.specs.Prelude.{◌≡◌, ◌+◌, ◌^◌, ◌++◌, ◌∷◌, ◌<◌, ◌≤◌, [], length, IfOk, OnOk, IsTrue, vec_capacity, vec_len};
-ghost use Rattle.std.specs.List.{list_all};
-ghost use Rattle.cx_base.specs.declared.command.Answered.{Answered};
-ghost use Rattle.cx_base.specs.declared.command.Command.{Command};
-ghost use Rattle.cx_base.specs.declared.command.Value.{Value};
+ghost use Rattle.std.specs.Prelude.{◌≡◌, ◌+◌, ◌^◌, ◌++◌, ◌∷◌, ◌<◌, ◌≤◌, [], length, IfOk, OnOk, IsTrue};
+ghost use Rattle.std.specs.Prelude.{vec_capacity, vec_len};
 ghost use Rattle.cx_base.specs.declared.role.Kind.TheVariants as kind;
 ghost use Rattle.cx_base.specs.Fold.{command_list, commands_of, text_at};
 ghost use Rattle.cx_field.specs.Fields as field;
-ghost use Rattle.cx_model.specs.Replica.{new_machine, acting, execute, execute_all, execute_value, machine_from, results_from};
+ghost use Rattle.cx_model.specs.Replica.{new_machine, acting, execute, execute_all, execute_value};
+ghost use Rattle.cx_model.specs.Replica.{machine_from, results_from};
 ghost use Rattle.cx_replica.specs.Room.{HasRoom, LeavesRoom};
+ghost use Rattle.cx_replica.specs.Sound.{are_answers, are_commands, are_values};
 ghost use Rattle.cx_table.specs.Judged.{judge_of};
 ghost use Rattle.cx_table.specs.declared.judge.Judge.TheVariants as judge;
 
@@ -24,7 +23,8 @@ use cx_table::{Judge, Table};
 use std::alloc::Global;
 use std::marker::Model;
 
-/// The map and the client table that values leave, with room that was taken beforehand. Each noted answer is in its ranges.
+/// The map and the client table that values leave, with room that was taken beforehand. Each noted answer is in its
+/// ranges.
 #[derive(Drop)]
 pub struct Machine {
     store: Pairs,
@@ -33,16 +33,18 @@ pub struct Machine {
 
 impl Model for Machine {
     ghost use Rattle.std.specs.Prelude.{IsTrue};
-    ghost use Rattle.std.specs.List.{list_all};
-    ghost use Rattle.cx_base.specs.declared.command.Answered.{Answered};
-    ghost use Rattle.cx_field.specs.Fields.{answered};
     ghost use Rattle.cx_replica.specs.Room.{MachineState};
+    ghost use Rattle.cx_replica.specs.Sound.{are_answers};
 
     ghost Value = { MachineState };
 
-    ghost view = { λ m. record { left = record { map = m.store.pairs; table = m.table.table }; spare = m.store.spare; rooms = m.table.rooms } };
+    ghost view = { λ m. record {
+      left = record { map = m.store.pairs; table = m.table.table };
+      spare = m.store.spare;
+      rooms = m.table.rooms;
+    } };
 
-    ghost invariant = { λ m. IsTrue (list_all (λ (a : Answered). answered.fits a) m.table.table.notes) };
+    ghost invariant = { λ m. IsTrue (are_answers m.table.table.notes) };
 }
 
 impl Machine {
@@ -80,12 +82,12 @@ impl Machine {
         requires at { IsTrue (field.at.fits at) }
         requires command { IsTrue (field.command.fits command.now) }
         requires new { judge_of self.old.left.table command.now.client command.now.seq ≡ judge.New }
-        requires fit { IsTrue (list_all (λ (a : Answered). field.answered.fits a) answers.old.items) }
+        requires fit { IsTrue (are_answers answers.old.items) }
         requires room { HasRoom self.old (command.now ∷ []) }
         requires answers { vec_len answers.old < vec_capacity answers.old }
         ensures machine { self.new.left ≡ (acting at self.old.left command.now).machine }
         ensures answers { answers.new.items ≡ answers.old.items ++ (acting at self.old.left command.now).answers }
-        ensures fit { IsTrue (list_all (λ (a : Answered). field.answered.fits a) answers.new.items) }
+        ensures fit { IsTrue (are_answers answers.new.items) }
         ensures room { LeavesRoom self.old (command.now ∷ []) self.new }
         ensures len { vec_len answers.new ≤ vec_len answers.old + 1 }
         ensures capacity { vec_capacity answers.new ≡ vec_capacity answers.old }
@@ -108,17 +110,17 @@ impl Machine {
         }
     }
 
-    /// Executes a command as the table judges it, and adds its answer, if it has one; `at` is one more than its slot. Its client is
-    /// told to be done with its floor whether or not it acts.
+    /// Executes a command as the table judges it, and adds its answer, if it has one; `at` is one more than its slot.
+    /// Its client is told to be done with its floor whether or not it acts.
     fn execute(&mut self, at: u64, command: &Command, answers: &mut Vec<Answered>)
         requires at { IsTrue (field.at.fits at) }
         requires command { IsTrue (field.command.fits command.now) }
-        requires fit { IsTrue (list_all (λ (a : Answered). field.answered.fits a) answers.old.items) }
+        requires fit { IsTrue (are_answers answers.old.items) }
         requires room { HasRoom self.old (command.now ∷ []) }
         requires answers { vec_len answers.old < vec_capacity answers.old }
         ensures machine { self.new.left ≡ (execute at self.old.left command.now).machine }
         ensures answers { answers.new.items ≡ answers.old.items ++ (execute at self.old.left command.now).answers }
-        ensures fit { IsTrue (list_all (λ (a : Answered). field.answered.fits a) answers.new.items) }
+        ensures fit { IsTrue (are_answers answers.new.items) }
         ensures room { LeavesRoom self.old (command.now ∷ []) self.new }
         ensures len { vec_len answers.new ≤ vec_len answers.old + 1 }
         ensures capacity { vec_capacity answers.new ≡ vec_capacity answers.old }
@@ -143,13 +145,13 @@ impl Machine {
     /// Executes commands in order, and adds the answers of those that have one; `at` is one more than their slot.
     fn execute_all(&mut self, at: u64, commands: &[Command], answers: &mut Vec<Answered>)
         requires at { IsTrue (field.at.fits at) }
-        requires commands { IsTrue (list_all (λ (c : Command). field.command.fits c) commands.now) }
+        requires commands { IsTrue (are_commands commands.now) }
         requires empty { answers.old.items ≡ [] }
         requires room { HasRoom self.old commands.now }
         requires answers { length commands.now ≤ vec_capacity answers.old }
         ensures machine { self.new.left ≡ (execute_all at self.old.left commands.now).machine }
         ensures answers { answers.new.items ≡ (execute_all at self.old.left commands.now).answers }
-        ensures fit { IsTrue (list_all (λ (a : Answered). field.answered.fits a) answers.new.items) }
+        ensures fit { IsTrue (are_answers answers.new.items) }
         ensures room { LeavesRoom self.old commands.now self.new }
         ensures capacity { vec_capacity answers.new ≡ vec_capacity answers.old }
     {
@@ -167,7 +169,7 @@ impl Machine {
         requires answers { 8 ≤ vec_capacity answers.old }
         ensures machine { self.new.left ≡ (execute_value slot self.old.left value.now).machine }
         ensures answers { answers.new.items ≡ (execute_value slot self.old.left value.now).answers }
-        ensures fit { IsTrue (list_all (λ (a : Answered). field.answered.fits a) answers.new.items) }
+        ensures fit { IsTrue (are_answers answers.new.items) }
         ensures few { length answers.new.items ≤ 8 }
         ensures room { LeavesRoom self.old (commands_of value.now) self.new }
         ensures capacity { vec_capacity answers.new ≡ vec_capacity answers.old }
@@ -182,7 +184,7 @@ impl Machine {
     #[tactic(auto, using(crate::proofs::Values::slot_fits))]
     pub fn replay(&mut self, alloc: Global, first: u64, values: &[Value]) -> Result<(), NoMemory>
         requires slots { first + length values.now ≤ 2 ^ 40 }
-        requires values { IsTrue (list_all (λ (v : Value). field.value.fits v) values.now) }
+        requires values { IsTrue (are_values values.now) }
         ensures { OnOk result (self.new.left ≡ machine_from first self.old.left values.now) }
     {
         let mut answers = Vec::with_capacity(alloc, COMMANDS)?;
@@ -194,8 +196,8 @@ impl Machine {
         Ok(())
     }
 
-    /// Executes the values of the slots from the first on, and sends what they are answered. It takes no memory: room was
-    /// taken beforehand.
+    /// Executes the values of the slots from the first on, and sends what they are answered. It takes no memory: room
+    /// was taken beforehand.
     #[tactic(auto, using(crate::proofs::Values::slot_fits))]
     pub fn execute_values(
         &mut self,
@@ -208,7 +210,7 @@ impl Machine {
     )
         requires kind { me.kind ≡ kind.Replica }
         requires slots { first + length values.now ≤ 2 ^ 40 }
-        requires values { IsTrue (list_all (λ (v : Value). field.value.fits v) values.now) }
+        requires values { IsTrue (are_values values.now) }
         requires room { HasRoom self.old (command_list values.now) }
         requires rooms { length values.now ≤ rooms }
         requires spare { length values.now ≤ out.old.spare }

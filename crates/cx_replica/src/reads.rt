@@ -1,6 +1,6 @@
 //! The rows of reads, and of the value that another replica asks for.
 
-ghost use Rattle.std.specs.Prelude.{◌≡◌, [], IfOk, OnErr, IsTrue, false};
+ghost use Rattle.std.specs.Prelude.{◌≡◌, [], IsTrue};
 ghost use Rattle.std.specs.List.{list_any};
 ghost use Rattle.cx_base.specs.Role.{role};
 ghost use Rattle.cx_base.specs.declared.role.Kind.{Kind};
@@ -8,7 +8,7 @@ ghost use Rattle.cx_model.specs.declared.states.Deferred.{Deferred as DeferredOf
 ghost use Rattle.cx_model.specs.Replica.{fetch_row, read_row, replica_rules, still_deferred};
 ghost use Rattle.cx_model.specs.Request.{same_read};
 ghost use Rattle.cx_field.specs.Fields as field;
-ghost use Rattle.cx_role.specs.Role.{Replies, takes_no_memory};
+ghost use Rattle.cx_role.specs.Role.{IsReply};
 
 use crate::replica::Replica;
 use crate::sending::answer;
@@ -32,15 +32,14 @@ pub fn drop_answered(deferred: &mut Vec<Deferred>, held: u64)
 }
 
 impl Replica {
-    /// A reader asks for a key's text, once the slots that it names are held. It is answered at once where they are, and else waits.
+    /// A reader asks for a key's text, once the slots that it names are held. It is answered at once where they are,
+    /// and else waits.
     #[tactic(auto, using(crate::proofs::Values::mark_fits))]
     pub(crate) fn read(&mut self, one: Deferred, out: &mut Outbox) -> Result<Why, NoMemory>
         requires token { IsTrue (field.token.fits one.token) }
         requires empty { out.old.list ≡ [] }
-        ensures ok { IfOk result (λ why. Replies replica_rules self.old (read_row self.old.me self.old.durable self.old.volatile one) why self.new out.new.list) }
-        ensures no_memory { OnErr result (self.new ≡ self.old) }
-        ensures spared { OnErr result (takes_no_memory (read_row self.old.me self.old.durable self.old.volatile one).why ≡ false) }
-        ensures sends { OnErr result (out.new.list ≡ []) }
+        ensures { IsReply replica_rules self.old (read_row self.old.me self.old.durable self.old.volatile one)
+            result self.new out.new.list }
     {
         let held = self.log.held();
         if one.mark <= held {
@@ -63,9 +62,8 @@ impl Replica {
     pub(crate) fn fetch(&self, from: RoleId, slot: u64, out: &mut Outbox) -> Result<Why, NoMemory>
         requires from { from ≡ role Kind.Replica from.index }
         requires empty { out.old.list ≡ [] }
-        ensures ok { IfOk result (λ why. Replies replica_rules self.now (fetch_row self.now.me self.now.durable self.now.volatile from slot) why self.now out.new.list) }
-        ensures spared { OnErr result (takes_no_memory (fetch_row self.now.me self.now.durable self.now.volatile from slot).why ≡ false) }
-        ensures sends { OnErr result (out.new.list ≡ []) }
+        ensures { IsReply replica_rules self.now (fetch_row self.now.me self.now.durable self.now.volatile from slot)
+            result self.now out.new.list }
     {
         if slot >= self.log.held() {
             return Ok(Why::Idle);

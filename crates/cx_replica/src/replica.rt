@@ -20,8 +20,8 @@ use cx_role::{Outbox, Role, StepFault, WakeFault, is_for, names_value};
 use std::alloc::Global;
 use std::marker::Model;
 
-/// A replica: the chosen values in slot order, those that came before their turn, what executing leaves, and the reads that
-/// wait, at most 64.
+/// A replica: the chosen values in slot order, those that came before their turn, what executing leaves, and the reads
+/// that wait, at most 64.
 #[derive(Drop)]
 pub struct Replica {
     pub(crate) alloc: Global,
@@ -36,11 +36,12 @@ pub struct Replica {
 impl Model for Replica {
     ghost use Rattle.cx_model.specs.Replica.{ReplicaDurable, ReplicaVolatile};
     ghost use Rattle.cx_model.specs.Rules.{Running};
+    ghost use Rattle.cx_replica.specs.Rows.{replica_view};
     ghost use Rattle.cx_replica.specs.Sound.{IsSound};
 
     ghost Value = { Running ReplicaDurable ReplicaVolatile };
 
-    ghost view = { λ r. record { cluster = r.cluster; me = r.me; live = r.live; durable = record { log = r.log.list }; volatile = record { early = r.log.early; deferred = r.deferred.items } } };
+    ghost view = { λ r. replica_view r.cluster r.me r.live r.log r.deferred.items };
 
     ghost invariant = { λ r. IsSound r.cluster r.me r.log r.machine.left r.deferred.items };
 }

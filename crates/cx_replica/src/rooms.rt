@@ -17,13 +17,14 @@ pub struct Rooms {
 
 impl Model for Rooms {
     ghost use Rattle.std.specs.Prelude.{ℕ, vec_len};
-    ghost use Rattle.cx_replica.specs.Room.{AreRooms};
+    ghost use Rattle.std.specs.List.{All};
+    ghost use Rattle.cx_replica.specs.Room.{IsVacant};
 
     ghost Value = { ℕ };
 
     ghost view = { λ rooms. vec_len rooms.list };
 
-    ghost invariant = { λ rooms. AreRooms rooms.list.items };
+    ghost invariant = { λ rooms. All IsVacant rooms.list.items };
 }
 
 impl Rooms {

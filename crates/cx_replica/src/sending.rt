@@ -1,14 +1,12 @@
 //! What a replica sends.
 
 ghost use Rattle.std.specs.Prelude.{◌≡◌, ◌+◌, ◌<◌, ◌≤◌, ◌++◌, length, map, IsTrue};
-ghost use Rattle.std.specs.List.{list_all};
 ghost use Rattle.cx_base.specs.Lists.{below};
-ghost use Rattle.cx_base.specs.declared.command.Answered.{Answered};
 ghost use Rattle.cx_base.specs.declared.role.Kind.TheVariants as kind;
 ghost use Rattle.cx_field.specs.Fields as field;
 ghost use Rattle.cx_model.specs.Replica.{fetch_to, held_to, results_at};
 ghost use Rattle.cx_replica.specs.Answering.{answer_at, answers_at};
-ghost use Rattle.cx_replica.specs.Sound.{are_reads};
+ghost use Rattle.cx_replica.specs.Sound.{are_answers, are_reads};
 
 use crate::machine::Machine;
 use cx_base::{Answered, Cluster, Few, RoleId};
@@ -27,7 +25,7 @@ pub fn send_results(
 )
     requires kind { me.kind ≡ kind.Replica }
     requires slot { IsTrue (field.slot.fits slot) }
-    requires fit { IsTrue (list_all (λ (a : Answered). field.answered.fits a) answers.items) }
+    requires fit { IsTrue (are_answers answers.items) }
     requires few { length answers.items ≤ 8 }
     requires spare { 0 < out.old.spare }
     ensures list { out.new.list ≡ out.old.list ++ results_at cluster.now me slot answers.items }

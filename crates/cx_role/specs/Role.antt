@@ -1,11 +1,11 @@
 -- The law of a role's step.
-use Rattle.std.specs.Prelude.{◌≡◌, ◌⊎◌, Bool, true, false, List, [], Option, None, Some, Result, Ok, Err}
+use Rattle.std.specs.Prelude.{◌≡◌, ◌⊎◌, Bool, true, false, List, [], Option, None, Some, Result, Ok, Err, IfOk, IsErrOf, OnErr}
 use Rattle.cx_base.specs.declared.why.Why.{Why}
 use Rattle.cx_base.specs.declared.why.Why.TheVariants as why
 use Rattle.cx_keeper.specs.declared.keeper.KeepFault.{KeepFault}
 use Rattle.cx_keeper.specs.declared.keeper.KeepFault.TheVariants.{Failed, NoMemory}
 use Rattle.cx_model.specs.Outcome.{Outcome}
-use Rattle.cx_model.specs.Rules.{Rules, Running, running_after}
+use Rattle.cx_model.specs.Rules.{Rules, Running, IsFit, running_after}
 use Rattle.cx_msg.specs.Letter.{Letter}
 use Rattle.cx_msg.specs.declared.kept.Record.{Record}
 
@@ -65,3 +65,26 @@ takes_no_memory why.Idle = true
 takes_no_memory why.Waiting = true
 takes_no_memory why.End = true
 takes_no_memory w = false
+
+-- What a step does: it is the row, or leaves everything as it was when out of memory, which a row that takes none never is; or its append
+-- fails, and then it sends nothing and what the records left stays. Whether the store tells of its faults stays the same.
+pub record IsStep {K D V : Type 0} (append_gives : Appending K) (tells : K → Bool) (rules : Rules D V) (before : Running D V) (row : Outcome V)
+    (result : Result Why KeepFault) (after : Running D V) (old new : K) (sent : List Letter) : Type 0 where
+  pub ok : IfOk result (λ w. Steps append_gives rules before row w old new after sent)
+  pub no_memory : IsErrOf result NoMemory → StaysAt append_gives before after old new sent
+  pub spared : IsErrOf result NoMemory → takes_no_memory row.why ≡ false
+  pub told : tells new ≡ tells old
+  pub failed : IsErrOf result Failed → FailsAt append_gives row old new after sent
+  pub keeps : IsErrOf result Failed → KeepsDurable before after
+
+-- what a step does that keeps nothing
+pub record IsReply {E D V : Type 0} (rules : Rules D V) (before : Running D V) (row : Outcome V)
+    (result : Result Why E) (after : Running D V) (sent : List Letter) : Type 0 where
+  pub ok : IfOk result (λ w. Replies rules before row w after sent)
+  pub no_memory : OnErr result (after ≡ before)
+  pub spared : OnErr result (takes_no_memory row.why ≡ false)
+  pub sends : OnErr result (sent ≡ [])
+
+-- the role may append what the row keeps, in the state in which it is
+abbrev pub MayKeep : {D V : Type 0} → Rules D V → Running D V → Outcome V → Type 0
+MayKeep rules before row = IsFit rules before.cluster before.me before.durable row.kept

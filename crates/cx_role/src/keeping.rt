@@ -17,7 +17,8 @@ pub fn keep<K: Keeper>(keeper: &mut K, live: &mut bool, what: &Record) -> Result
     ensures refused { IsErrOf result StepFault.NoMemory → Refuses K.append_gives keeper.old keeper.new }
     ensures told { K.tells keeper.new ≡ K.tells keeper.old }
     ensures lives_on { IsErrOf result StepFault.NoMemory → live.new ≡ live.old }
-    ensures failed { IsErrOf result StepFault.Failed → K.append_gives keeper.old what.now (Err fault.Failed) keeper.new }
+    ensures failed { IsErrOf result StepFault.Failed
+        → K.append_gives keeper.old what.now (Err fault.Failed) keeper.new }
     ensures dead { IsErrOf result StepFault.Failed → live.new ≡ false }
 {
     match keeper.append(what) {

@@ -25,7 +25,8 @@ impl Model for Outbox {
 
     ghost view = { λ out. record { list = out.list.items; spare = out.spare } };
 
-    ghost invariant = { λ out. (vec_len out.list + out.spare ≤ vec_capacity out.list) × (vec_len out.list + out.spare ≤ 512) };
+    ghost invariant = { λ out. (vec_len out.list + out.spare ≤ vec_capacity out.list)
+        × (vec_len out.list + out.spare ≤ 512) };
 }
 
 impl Outbox {

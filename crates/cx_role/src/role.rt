@@ -1,12 +1,12 @@
 //! A role of the protocol.
 
-ghost use Rattle.std.specs.Prelude.{◌≡◌, [], true, false, None, IfOk, IfErr, IsErrOf, IsTrue, OnErr};
+ghost use Rattle.std.specs.Prelude.{◌≡◌, [], true, None, IfOk, IfErr, IsTrue};
 ghost use Rattle.cx_keeper.specs.Keeper.{all_fit};
 ghost use Rattle.cx_model.specs.Names.{names_role};
-ghost use Rattle.cx_model.specs.Rules.{Rules, Running, opened, refused, outcome_of, IsFit};
+ghost use Rattle.cx_model.specs.Rules.{Rules, Running, opened, refused, outcome_of};
 ghost use Rattle.cx_msg.specs.declared.input.Input.TheVariants as input;
 ghost use Rattle.cx_role.specs.declared.role.WakeFault.TheVariants as wake;
-ghost use Rattle.cx_role.specs.Role.{Steps, Replies, StaysAt, FailsAt, KeepsDurable, takes_no_memory};
+ghost use Rattle.cx_role.specs.Role.{IsReply, IsStep, MayKeep};
 ghost use Rattle.cx_role.specs.Wake.{IsWakeFault, refused_behind, reopened};
 
 use crate::{Outbox, StepFault};
@@ -91,13 +91,10 @@ pub trait Role: Sized {
     ) -> Result<Why, StepFault>
         requires live { (state self.old).live ≡ true }
         requires empty { out.old.list ≡ [] }
-        ensures ok { IfOk result (λ why. Steps K.append_gives rules (state self.old) (outcome_of rules (state self.old) (input.Take datagram.now)) why keeper.old keeper.new (state self.new) out.new.list) }
-        ensures no_memory { IsErrOf result StepFault.NoMemory → StaysAt K.append_gives (state self.old) (state self.new) keeper.old keeper.new out.new.list }
-        ensures spared { IsErrOf result StepFault.NoMemory → takes_no_memory (outcome_of rules (state self.old) (input.Take datagram.now)).why ≡ false }
-        ensures told { K.tells keeper.new ≡ K.tells keeper.old }
-        ensures failed { IsErrOf result StepFault.Failed → FailsAt K.append_gives (outcome_of rules (state self.old) (input.Take datagram.now)) keeper.old keeper.new (state self.new) out.new.list }
-        ensures keeps { IsErrOf result StepFault.Failed → KeepsDurable (state self.old) (state self.new) }
-        ensures fits { IsFit rules (state self.old).cluster (state self.old).me (state self.old).durable (outcome_of rules (state self.old) (input.Take datagram.now)).kept };
+        ensures step { IsStep K.append_gives K.tells rules (state self.old)
+            (outcome_of rules (state self.old) (input.Take datagram.now))
+            result (state self.new) keeper.old keeper.new out.new.list }
+        ensures fits { MayKeep rules (state self.old) (outcome_of rules (state self.old) (input.Take datagram.now)) };
 
     /// One order, by the same law; only leaders have rows for orders.
     fn order<K: Keeper>(
@@ -108,22 +105,17 @@ pub trait Role: Sized {
     ) -> Result<Why, StepFault>
         requires live { (state self.old).live ≡ true }
         requires empty { out.old.list ≡ [] }
-        ensures ok { IfOk result (λ why. Steps K.append_gives rules (state self.old) (outcome_of rules (state self.old) (input.Order order.now)) why keeper.old keeper.new (state self.new) out.new.list) }
-        ensures no_memory { IsErrOf result StepFault.NoMemory → StaysAt K.append_gives (state self.old) (state self.new) keeper.old keeper.new out.new.list }
-        ensures spared { IsErrOf result StepFault.NoMemory → takes_no_memory (outcome_of rules (state self.old) (input.Order order.now)).why ≡ false }
-        ensures told { K.tells keeper.new ≡ K.tells keeper.old }
-        ensures failed { IsErrOf result StepFault.Failed → FailsAt K.append_gives (outcome_of rules (state self.old) (input.Order order.now)) keeper.old keeper.new (state self.new) out.new.list }
-        ensures keeps { IsErrOf result StepFault.Failed → KeepsDurable (state self.old) (state self.new) }
-        ensures fits { IsFit rules (state self.old).cluster (state self.old).me (state self.old).durable (outcome_of rules (state self.old) (input.Order order.now)).kept };
+        ensures step { IsStep K.append_gives K.tells rules (state self.old)
+            (outcome_of rules (state self.old) (input.Order order.now))
+            result (state self.new) keeper.old keeper.new out.new.list }
+        ensures fits { MayKeep rules (state self.old) (outcome_of rules (state self.old) (input.Order order.now)) };
 
     /// One tick: what is waited for is sent again. A tick keeps nothing.
     fn tick(&mut self, out: &mut Outbox) -> Result<Why, NoMemory>
         requires live { (state self.old).live ≡ true }
         requires empty { out.old.list ≡ [] }
-        ensures ok { IfOk result (λ why. Replies rules (state self.old) (outcome_of rules (state self.old) input.Tick) why (state self.new) out.new.list) }
-        ensures no_memory { OnErr result (state self.new ≡ state self.old) }
-        ensures sends { OnErr result (out.new.list ≡ []) }
-        ensures spared { OnErr result (takes_no_memory (outcome_of rules (state self.old) input.Tick).why ≡ false) };
+        ensures { IsReply rules (state self.old) (outcome_of rules (state self.old) input.Tick) result
+            (state self.new) out.new.list };
 
     /// Whether the role may take a step: until an append fails. It takes no memory.
     fn live(&self) -> bool

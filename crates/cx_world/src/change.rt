@@ -1,15 +1,11 @@
 //! What an event does to the roles.
 
-ghost use Rattle.std.specs.Prelude.{◌≡◌, ◌≤◌, ◌∷◌, [], IfOk, OnOk, IsTrue, None, Some, option_to_list};
+ghost use Rattle.std.specs.Prelude.{◌≡◌, [], IfOk, OnOk, IsTrue, None, Some, option_to_list};
 ghost use Rattle.cx_base.specs.Asked.{is_valid_event};
 ghost use Rattle.cx_model.specs.Request.{request};
 ghost use Rattle.cx_model.specs.World.{act_at, ask, change, come, kept_by};
-ghost use Rattle.cx_base.specs.Role.{role};
-ghost use Rattle.cx_base.specs.declared.role.Kind.{Kind};
-ghost use Rattle.cx_msg.specs.Letter.{letter};
-ghost use Rattle.cx_msg.specs.declared.message.Msg.{Msg};
 ghost use Rattle.cx_msg.specs.declared.input.Act.TheVariants.{Give};
-ghost use Rattle.cx_world.specs.World.{AsksAfter, Changes, ChangesAfter, lists_of};
+ghost use Rattle.cx_world.specs.World.{AsksAfter, Changes, ChangesAfter};
 
 use crate::seat::{Seat, act_at};
 use crate::turned::{Changed, Turned};
@@ -154,7 +150,8 @@ fn deliver(
     out: &mut Outbox,
 ) -> Result<Changed, NoMemory>
     requires empty { out.old.list ≡ [] }
-    ensures { IfOk result (λ changed. Changes (λ w. come w cut (Some datagram)) seats.old changed seats.new out.new.list) }
+    ensures { IfOk result (λ changed. Changes (λ w. come w cut (Some datagram)) seats.old changed
+        seats.new out.new.list) }
 {
     let who = datagram.to();
     let take = Act::Give {
@@ -180,7 +177,8 @@ pub fn change(
 ) -> Result<Changed, NoMemory>
     requires empty { out.old.list ≡ [] }
     requires taken { IsTrue (is_valid_event event.now) }
-    ensures { IfOk result (λ changed. ChangesAfter (λ w. change w event.now) sent.now events.now seats.old changed seats.new out.new.list) }
+    ensures { IfOk result (λ changed. ChangesAfter (λ w. change w event.now) sent.now events.now
+        seats.old changed seats.new out.new.list) }
 {
     match event {
         Event::Write { command, .. } => {

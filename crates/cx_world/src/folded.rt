@@ -24,7 +24,9 @@ fn execute_all(before: &mut Executed, store: &mut Store, values: &[Value]) -> Re
 // One value more for each of a record.
 fn execute_record(before: &mut Executed, folded: &mut Folded, what: &Record) -> Result<(), NoMemory>
     ensures held { OnOk result (folded.new.held ≡ folded.old.held + length (values_in what.now)) }
-    ensures store { OnOk result (folded.new.store ≡ map_behind before.old folded.old.store (command_list (values_in what.now))) }
+    ensures store { OnOk result
+        (folded.new.store ≡ map_behind before.old folded.old.store
+        (command_list (values_in what.now))) }
     ensures before { OnOk result (before.new ≡ before.old ++ command_list (values_in what.now)) }
 {
     if let Record::Log { values } = what {
@@ -46,7 +48,9 @@ fn execute_kept(
     one: &KeptRecord,
 ) -> Result<(), NoMemory>
     ensures held { OnOk result (folded.new.held ≡ folded.old.held + length (values_by me one.now)) }
-    ensures store { OnOk result (folded.new.store ≡ map_behind before.old folded.old.store (command_list (values_by me one.now))) }
+    ensures store { OnOk result
+        (folded.new.store ≡ map_behind before.old folded.old.store
+        (command_list (values_by me one.now))) }
     ensures before { OnOk result (before.new ≡ before.old ++ command_list (values_by me one.now)) }
 {
     if me.is(one.role) {

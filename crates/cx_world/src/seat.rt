@@ -4,12 +4,13 @@ ghost use Rattle.std.specs.Prelude.{◌≡◌, [], IfErr, IfOk, IsErrOf, IsTrue,
 ghost use Rattle.cx_keeper.specs.Keeper.{all_fit};
 ghost use Rattle.cx_keeper.specs.MemKeeper.{mem_append_gives};
 ghost use Rattle.cx_base.specs.Cluster.{count_of};
-ghost use Rattle.cx_model.specs.Rules.{Rules, Running, outcome_of, IsFit};
+ghost use Rattle.cx_model.specs.Rules.{Rules, Running, outcome_of};
 ghost use Rattle.cx_model.specs.World.{fresh_roles};
 ghost use Rattle.cx_msg.specs.declared.input.Act.TheVariants.{Give, Stop, Wake};
 ghost use Rattle.cx_keeper.specs.declared.keeper.KeepFault.TheVariants as fault;
-ghost use Rattle.cx_role.specs.Role.{Steps, StaysAt, FailsAt, KeepsDurable};
+ghost use Rattle.cx_role.specs.Role.{IsStep, MayKeep};
 ghost use Rattle.cx_role.specs.Wake.{IsWakeFault, refused_behind, reopened};
+ghost use Rattle.cx_world.specs.LastKeeper.{tells_nothing};
 ghost use Rattle.cx_world.specs.Seat.{AreSeats, roles_in, Seat, IsPlace, IsTurned, TurnsAt, seat_turn, volatile_of, why_of_cut};
 
 use crate::last_keeper::LastKeeper;
@@ -40,9 +41,15 @@ impl<R: Role> Model for Seat<R> {
 
     ghost Value = { Seat R };
 
-    ghost view = { λ seat. record { cluster = seat.cluster; me = seat.me; role = if seat.runs then seat.role else None; records = seat.keeper.kept } };
+    ghost view = { λ seat. record {
+      cluster = seat.cluster;
+      me = seat.me;
+      role = if seat.runs then seat.role else None;
+      records = seat.keeper.kept;
+    } };
 
-    ghost invariant = { λ seat. Sits R.rules R.state seat.cluster seat.me seat.keeper.kept seat.role seat.runs seat.behind };
+    ghost invariant = { λ seat. Sits R.rules R.state seat.cluster seat.me seat.keeper.kept seat.role
+        seat.runs seat.behind };
 }
 
 fn why_of_cut(cut: Cut) -> Why
@@ -71,11 +78,11 @@ fn step<R: Role>(
 ) -> Result<Why, StepFault>
     requires live { (R.state role.old).live ≡ true }
     requires empty { out.old.list ≡ [] }
-    ensures ok { IfOk result (λ why. Steps mem_append_gives R.rules (R.state role.old) (outcome_of R.rules (R.state role.old) input.now) why keeper.old keeper.new (R.state role.new) out.new.list) }
-    ensures no_memory { IsErrOf result StepFault.NoMemory → StaysAt mem_append_gives (R.state role.old) (R.state role.new) keeper.old keeper.new out.new.list }
-    ensures failed { IsErrOf result StepFault.Failed → FailsAt mem_append_gives (outcome_of R.rules (R.state role.old) input.now) keeper.old keeper.new (R.state role.new) out.new.list }
-    ensures keeps { IsErrOf result StepFault.Failed → KeepsDurable (R.state role.old) (R.state role.new) }
-    ensures fits { IsErrOf result StepFault.Failed → IsFit R.rules (R.state role.old).cluster (R.state role.old).me (R.state role.old).durable (outcome_of R.rules (R.state role.old) input.now).kept }
+    ensures step { IsStep mem_append_gives tells_nothing R.rules (R.state role.old)
+        (outcome_of R.rules (R.state role.old) input.now)
+        result (R.state role.new) keeper.old keeper.new out.new.list }
+    ensures fits { IsErrOf result StepFault.Failed
+        → MayKeep R.rules (R.state role.old) (outcome_of R.rules (R.state role.old) input.now) }
 {
     match input {
         Input::Take { datagram } => role.take(keeper, datagram, out),
@@ -87,7 +94,8 @@ fn step<R: Role>(
 // The role as it is opened again, with the record after what it knows.
 fn reopened<R: Role>(role: R, behind: &Option<Record>) -> Result<R, WakeFault>
     requires { IsTrue (all_fit (option_to_list behind.now)) }
-    ensures role { IfOk result (λ opened. R.state opened ≡ reopened R.rules (R.state role) (option_to_list behind.now)) }
+    ensures role { IfOk result
+        (λ opened. R.state opened ≡ reopened R.rules (R.state role) (option_to_list behind.now)) }
     ensures fault { IfErr result (IsWakeFault (refused_behind R.rules (R.state role) (option_to_list behind.now))) }
 {
     match behind {
@@ -121,7 +129,9 @@ impl<R: Role + Drop> Seat<R> {
 
     fn give(&mut self, input: &Input, cut: Cut, out: &mut Outbox) -> Result<Turned, NoMemory>
         requires { out.old.list ≡ [] }
-        ensures { IfOk result (λ turned. IsTurned R.state (seat_turn R.rules R.state (Give input.now cut) self.old) self.old self.new turned.why turned.kept out.new.list) }
+        ensures { IfOk result (λ turned. IsTurned R.state
+            (seat_turn R.rules R.state (Give input.now cut) self.old) self.old self.new turned.why
+            turned.kept out.new.list) }
     {
         if !self.runs {
             return Ok(still(Why::Down));
@@ -162,7 +172,8 @@ impl<R: Role + Drop> Seat<R> {
     }
 
     fn wake(&mut self) -> Result<Why, NoMemory>
-        ensures { IfOk result (λ why. IsTurned R.state (seat_turn R.rules R.state Wake self.old) self.old self.new why None []) }
+        ensures { IfOk result (λ why. IsTurned R.state (seat_turn R.rules R.state Wake self.old)
+            self.old self.new why None []) }
     {
         if self.runs {
             return Ok(Why::Up);
@@ -185,7 +196,8 @@ impl<R: Role + Drop> Seat<R> {
     /// What is done to the role.
     pub fn act(&mut self, act: &Act, out: &mut Outbox) -> Result<Turned, NoMemory>
         requires empty { out.old.list ≡ [] }
-        ensures { IfOk result (λ turned. IsTurned R.state (seat_turn R.rules R.state act.now self.old) self.old self.new turned.why turned.kept out.new.list) }
+        ensures { IfOk result (λ turned. IsTurned R.state (seat_turn R.rules R.state act.now self.old)
+            self.old self.new turned.why turned.kept out.new.list) }
     {
         match act {
             Act::Give { input, cut } => self.give(input, *cut, out),
@@ -203,7 +215,8 @@ pub fn act_at<R: Role + Drop>(
     out: &mut Outbox,
 ) -> Result<Turned, NoMemory>
     requires empty { out.old.list ≡ [] }
-    ensures { IfOk result (λ turned. TurnsAt R.rules R.state act.now index seats.old.items seats.new.items turned.why turned.kept out.new.list) }
+    ensures { IfOk result (λ turned. TurnsAt R.rules R.state act.now index seats.old.items
+        seats.new.items turned.why turned.kept out.new.list) }
 {
     let index = index as usize;
     if index >= seats.len() {
@@ -222,7 +235,8 @@ pub fn open_all<R: Role + Drop>(
 ) -> Result<Vec<Seat<R>>, NoMemory>
     requires kind { kind ≡ R.rules.kind }
     requires count { count ≡ count_of cluster.now kind }
-    ensures roles { IfOk result (λ seats. roles_in R.state seats.items ≡ fresh_roles (R.rules.fresh cluster.now) count) }
+    ensures roles { IfOk result (λ seats. roles_in R.state seats.items
+        ≡ fresh_roles (R.rules.fresh cluster.now) count) }
     ensures seats { IfOk result (λ seats. AreSeats cluster.now kind [] seats.items) }
 {
     let mut seats = Vec::with_capacity(alloc, count as usize)?;

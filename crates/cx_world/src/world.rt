@@ -48,9 +48,25 @@ impl Model for World {
 
     ghost use Rattle.cx_world.specs.World.{Holds, roles_of, lists_of};
 
-    ghost view = { λ w. record { world = record { cluster = w.cluster; roles = roles_of (lists_of w.seats); events = w.events; kept = w.kept; sent = w.sent }; spent = w.spent } };
+    ghost view = { λ w. record {
+      world = record {
+        cluster = w.cluster;
+        roles = roles_of (lists_of w.seats);
+        events = w.events;
+        kept = w.kept;
+        sent = w.sent;
+      };
+      spent = w.spent;
+    } };
 
-    ghost invariant = { λ w. w.spent ≡ false → Holds (record { cluster = w.cluster; roles = roles_of (lists_of w.seats); events = w.events; kept = w.kept; sent = w.sent }) (lists_of w.seats) w.out.list };
+    ghost invariant = { λ w. w.spent ≡ false
+        → Holds (record {
+          cluster = w.cluster;
+          roles = roles_of (lists_of w.seats);
+          events = w.events;
+          kept = w.kept;
+          sent = w.sent;
+        }) (lists_of w.seats) w.out.list };
 }
 
 // Notes the record that was kept, where one was.
@@ -191,7 +207,8 @@ impl World {
     /// that isn't spent it is the one command list.
     pub fn chosen_prefix(&self) -> Result<Chosen<'_>, NoMemory>
         ensures prefix { IfOk result (λ values. values ≡ chosen_prefix self.now.world.kept) }
-        ensures agreed { self.now.spent ≡ false → IfOk result (λ values. IsCommandList self.now.world.cluster self.now.world.kept values) }
+        ensures agreed { self.now.spent ≡ false
+            → IfOk result (λ values. IsCommandList self.now.world.cluster self.now.world.kept values) }
     {
         chosen_prefix(self.alloc, &self.kept)
     }

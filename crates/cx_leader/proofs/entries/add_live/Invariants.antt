@@ -3,4 +3,5 @@ use Rattle.cx_model.specs.Matchmaker.{entries_from}
 use Rattle.cx_leader.proofs.entries.add_live.Given as goal
 
 abbrev pub invariant-loop-entry : goal.invariant-loop-entry
-invariant-loop-entry l = l.live.items ++ entries_from l.watermark (drop l.entry-index l.entries) ≡ l.fn.live.items ++ entries_from l.watermark l.entries
+invariant-loop-entry l = l.live.items ++ entries_from l.watermark (drop l.entry-index l.entries)
+    ≡ l.fn.live.items ++ entries_from l.watermark l.entries

@@ -4,7 +4,7 @@ use Rattle.cx_proxy.proofs.Holding.{found_has}
 use Rattle.cx_proxy.proofs.sends.again.Goals as goal
 
 pub announce-requires-clause-parts : goal.announce-requires-clause-parts
-announce-requires-clause-parts c = found_has IsPending c.args.slot c.args.pendings.now.items c.in-Some.pending.now (sym c.in-Some.ensures) c.requires.parts
+announce-requires-clause-parts c = found_has IsPending _ _ _ c.requires.parts (sym c.in-Some.ensures)
 
 pub ask_members-requires-clause-parts : goal.ask_members-requires-clause-parts
-ask_members-requires-clause-parts c = found_has IsPending c.args.slot c.args.pendings.now.items c.in-Some.pending.now (sym c.in-Some.ensures) c.requires.parts
+ask_members-requires-clause-parts c = found_has IsPending _ _ _ c.requires.parts (sym c.in-Some.ensures)

@@ -1,4 +1,4 @@
-use Rattle.std.proofs.Common.{◌≡◌, ◌++◌, ◌∷◌, [], List, arith, ap, ◌∙◌, sym, refl, length, length-append}
+use Rattle.std.proofs.Common.{◌≡◌, ℕ, ◌++◌, ◌∷◌, [], List, arith, ap, ◌∙◌, sym, length, length-append}
 use Rattle.cx_model.specs.Proxy.{phase2a_to}
 use Rattle.cx_msg.specs.Letter.{Letter}
 use Rattle.cx_role.specs.Outbox.{Outgoing}
@@ -8,22 +8,25 @@ use Rattle.cx_proxy.proofs.sends.ask_column.Goals.{then-in_column+in_ok-ask, els
 
 pub loop-acceptor-preserved : goal.loop-acceptor-preserved
 loop-acceptor-preserved c =
-    let i = c.loop-acceptor.acceptor in
-    let n = c.args.cluster.now.acceptors in
-    let before = c.loop-acceptor.out.list in
+    let loop = c.loop-acceptor in
+    let before = loop.out.list in
     let after = c.if-in_column.out.list in
+    let one : List Letter = phase2a_to c.args.me c.args.pending.now loop.acceptor ∷ [] in
     let sent : Outgoing → List Letter = λ o. o.list in
+    let size : List Letter → ℕ = λ l. length l in
     elim c.if-in_column.branch [
       | then-in_column+in_ok-ask w ↦
-          let more : after ≡ before ++ phase2a_to c.args.me c.args.pending.now i ∷ [] = ap sent w.out-is ∙ w.in_ok-ask.ensures in
+          let more : after ≡ before ++ one = ap sent w.out-is ∙ w.in_ok-ask.ensures in
+          let passes = sym c.in_column.ensures ∙ w.if-in_column.true in
           record {
-            list = one_asked _ _ i n before after _ _ c.loop-acceptor-test.true (sym c.in_column.ensures ∙ w.if-in_column.true) more refl c.loop-acceptor.invariant.list;
-            room = omega (arith, ap (λ (l : List Letter). length l) more, length-append before (phase2a_to c.args.me c.args.pending.now i ∷ []));
+            list = one_asked _ _ c.loop-acceptor-test.true before after _ _ _ passes more loop.invariant.list;
+            room = omega (arith, ap size more, length-append before one);
           }
       | else-in_column w ↦
           let same : after ≡ before = ap sent w.out-is in
+          let fails = sym c.in_column.ensures ∙ w.if-in_column.false in
           record {
-            list = one_left _ _ i n before after _ c.loop-acceptor-test.true (sym c.in_column.ensures ∙ w.if-in_column.false) same c.loop-acceptor.invariant.list;
-            room = omega (arith, ap (λ (l : List Letter). length l) same);
+            list = one_left _ _ c.loop-acceptor-test.true before after _ _ _ fails same loop.invariant.list;
+            room = omega (arith, ap size same);
           }
     ]

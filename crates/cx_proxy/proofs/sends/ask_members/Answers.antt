@@ -1,4 +1,4 @@
-use Rattle.std.proofs.Common.{◌≡◌, ◌≤◌, ◌++◌, ◌∷◌, [], List, arith, ap, ◌∙◌, sym, refl, length}
+use Rattle.std.proofs.Common.{◌≡◌, ◌≤◌, ◌++◌, ◌∷◌, [], List, arith, ap, ◌∙◌, sym, length}
 use Rattle.cx_model.specs.Proxy.{phase2a_to}
 use Rattle.cx_msg.specs.Letter.{Letter}
 use Rattle.cx_role.specs.Outbox.{Outgoing}
@@ -8,27 +8,35 @@ use Rattle.cx_proxy.proofs.sends.ask_members.Goals.{then-is_member+in_ok-ask, el
 
 pub ask-requires-clause-room : goal.ask-requires-clause-room
 ask-requires-clause-room c =
-    let most : length c.args.pending.now.grid.members ≤ 16 = omega (arith, c.members-members.ensures.grid.room, c.members-members.ensures.grid.count) in
-    let left = members_left (phase2a_to c.args.me c.args.pending.now) c.args.pending.now.grid.members c.loop-acceptor.acceptor c.args.cluster.now.acceptors
-    c.loop-acceptor.out.list c.args.out.now.list most c.loop-acceptor-test.true (sym c.is_member.ensures ∙ c.if-is_member.true) c.loop-acceptor.invariant.list in
+    let loop = c.loop-acceptor in
+    let grid = c.members-members.ensures.grid in
+    let most : length c.args.pending.now.grid.members ≤ 16 = omega (arith, grid.room, grid.count) in
+    let passes = sym c.is_member.ensures ∙ c.if-is_member.true in
+    let left = members_left _ _ _ _ _ most loop.acceptor c.loop-acceptor-test.true passes loop.invariant.list in
     omega (arith, left)
 
 pub loop-acceptor-preserved : goal.loop-acceptor-preserved
 loop-acceptor-preserved c =
-    let i = c.loop-acceptor.acceptor in
-    let n = c.args.cluster.now.acceptors in
-    let before = c.loop-acceptor.out.list in
+    let loop = c.loop-acceptor in
+    let before = loop.out.list in
     let after = c.if-is_member.out.list in
+    let one : List Letter = phase2a_to c.args.me c.args.pending.now loop.acceptor ∷ [] in
     let sent : Outgoing → List Letter = λ o. o.list in
     elim c.if-is_member.branch [
       | then-is_member+in_ok-ask w ↦
-          let more : after ≡ before ++ phase2a_to c.args.me c.args.pending.now i ∷ [] = ap sent w.out-is ∙ w.in_ok-ask.ensures in
-          record { list = one_asked _ _ i n before after _ _ c.loop-acceptor-test.true (sym c.is_member.ensures ∙ w.if-is_member.true) more refl c.loop-acceptor.invariant.list }
+          let more : after ≡ before ++ one = ap sent w.out-is ∙ w.in_ok-ask.ensures in
+          let passes = sym c.is_member.ensures ∙ w.if-is_member.true in
+          record { list = one_asked _ _ c.loop-acceptor-test.true before after _ _ _ passes more loop.invariant.list }
       | else-is_member w ↦
-          record { list = one_left _ _ i n before after _ c.loop-acceptor-test.true (sym c.is_member.ensures ∙ w.if-is_member.false) (ap sent w.out-is) c.loop-acceptor.invariant.list }
+          let fails = sym c.is_member.ensures ∙ w.if-is_member.false in
+          let same : after ≡ before = ap sent w.out-is in
+          record { list = one_left _ _ c.loop-acceptor-test.true before after _ _ _ fails same loop.invariant.list }
     ]
 
 pub returns-clause-room : goal.returns-clause-room
 returns-clause-room c =
-    let most : length c.args.pending.now.grid.members ≤ 16 = omega (arith, c.members-members.ensures.grid.room, c.members-members.ensures.grid.count) in
-    members_room _ c.args.pending.now.grid.members c.args.cluster.now.acceptors c.loop-acceptor.out.list _ c.args.out.now.list most c.loop-acceptor.invariant.list
+    let grid = c.members-members.ensures.grid in
+    let most : length c.args.pending.now.grid.members ≤ 16 = omega (arith, grid.room, grid.count) in
+    let loop = c.loop-acceptor in
+    let room = members_room (phase2a_to c.args.me c.args.pending.now) _ _ loop.out.list _ most _ loop.invariant.list in
+    omega (arith, room)

@@ -6,4 +6,5 @@ use Rattle.cx_reader.proofs.matched.is_live_member.Goals as goal
 pub returns : goal.returns
 returns c =
     let told = c.args.told.now in
-    c.live_with_told.ensures ∙ rw c.greatest_watermark.ensures (live_with_told (greatest_watermark told) c.args.acceptor told)
+    c.live_with_told.ensures
+    ∙ rw c.greatest_watermark.ensures (live_with_told (greatest_watermark told) told c.args.acceptor)

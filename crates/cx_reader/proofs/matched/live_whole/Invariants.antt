@@ -4,4 +4,6 @@ use Rattle.cx_model.specs.Matchmaker.{entries_from}
 use Rattle.cx_reader.proofs.matched.live_whole.Given as goal
 
 abbrev pub invariant-loop-entry : goal.invariant-loop-entry
-invariant-loop-entry l = rows_whole (entries_from l.watermark (drop l.entry-index l.entries)) l.marks ≡ rows_whole (entries_from l.watermark l.entries) l.marks
+invariant-loop-entry l =
+    rows_whole (entries_from l.watermark (drop l.entry-index l.entries)) l.marks
+    ≡ rows_whole (entries_from l.watermark l.entries) l.marks

@@ -5,4 +5,5 @@ use Rattle.cx_reader.proofs.matched.live_whole_told.Given as goal
 
 abbrev pub invariant-loop-answer : goal.invariant-loop-answer
 invariant-loop-answer l =
-    rows_whole (entries_from l.watermark (entries_told (drop l.answer-index l.told))) l.marks ≡ rows_whole (entries_from l.watermark (entries_told l.told)) l.marks
+    rows_whole (entries_from l.watermark (entries_told (drop l.answer-index l.told))) l.marks
+    ≡ rows_whole (entries_from l.watermark (entries_told l.told)) l.marks

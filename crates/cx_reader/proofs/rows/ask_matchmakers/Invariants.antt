@@ -1,12 +1,15 @@
 use Rattle.std.proofs.Common.{◌≡◌, ◌≤◌, ◌+◌, ◌-◌, ◌++◌, map}
 use Rattle.cx_base.specs.declared.role.Kind.TheVariants.{Reader}
-use Rattle.cx_base.specs.Lists.{numbers}
+use Rattle.cx_base.specs.Lists.{below, numbers}
 use Rattle.cx_base.specs.Role.{role}
 use Rattle.cx_model.specs.Reader.{match_read_to}
 use Rattle.cx_reader.proofs.rows.ask_matchmakers.Given as goal
 
 abbrev pub invariant-loop-matchmaker : goal.invariant-loop-matchmaker
-invariant-loop-matchmaker l = record {
-  list : l.out.list ++ map (match_read_to (role Reader l.reader) l.token) (numbers l.matchmaker (l.count - l.matchmaker)) ≡ l.fn.out.list ++ map (match_read_to (role Reader l.reader) l.token) (numbers 0 l.count);
-  spare : l.count ≤ l.out.spare + l.matchmaker;
-}
+invariant-loop-matchmaker l =
+    let ask = match_read_to (role Reader l.reader) l.token in
+    let left = numbers l.matchmaker (l.count - l.matchmaker) in
+    record {
+      list : l.out.list ++ map ask left ≡ l.fn.out.list ++ map ask (below l.count);
+      spare : l.count ≤ l.out.spare + l.matchmaker;
+    }

@@ -5,6 +5,7 @@ use Rattle.cx_replica.proofs.clients.count_in.Given as goal
 
 abbrev pub invariant-loop-value : goal.invariant-loop-value
 invariant-loop-value l = record {
-  count : l.count + count_of l.client (command_list (drop l.value-index l.values)) ≡ count_of l.client (command_list l.values);
+  count : l.count + count_of l.client (command_list (drop l.value-index l.values))
+      ≡ count_of l.client (command_list l.values);
   bound : l.count ≤ 8 * l.value-index;
 }

@@ -5,7 +5,8 @@ use Rattle.cx_replica.proofs.sending.answer_reads.Given as goal
 
 abbrev pub invariant-loop-one : goal.invariant-loop-one
 invariant-loop-one l = record {
-  list : l.out.list ++ answers_at l.me l.held l.machine.left.map (drop l.one-index l.deferred) ≡ l.fn.out.list ++ answers_at l.me l.held l.machine.left.map l.deferred;
+  list : l.out.list ++ answers_at l.me l.held l.machine.left.map (drop l.one-index l.deferred)
+      ≡ l.fn.out.list ++ answers_at l.me l.held l.machine.left.map l.deferred;
   spare : length l.deferred ≤ l.out.spare + l.one-index;
   reads : are_reads (drop l.one-index l.deferred) ≡ true;
 }

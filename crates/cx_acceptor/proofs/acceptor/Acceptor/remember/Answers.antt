@@ -1,6 +1,6 @@
 use Rattle.std.proofs.Common.{arith}
 use Rattle.cx_msg.specs.declared.kept.Record.TheVariants as kept
-use Rattle.cx_acceptor.proofs.SoundLaws.{after_sound, slot_small, vote_slot}
+use Rattle.cx_acceptor.proofs.SoundLaws.{after_sound, slot_small, vote_parts}
 use Rattle.cx_acceptor.proofs.acceptor.Acceptor.remember.Goals as goal
 
 pub invariant_of-self : goal.invariant_of-self
@@ -11,13 +11,24 @@ invariant_of-self c =
 
 pub overflow_add-slot : goal.overflow_add-slot
 overflow_add-slot c =
-    let ranges = rw c.in-Vote.is at c.requires.ranges in
-    let small = slot_small c.in-Vote.slot (vote_slot c.in-Vote.round c.in-Vote.slot c.in-Vote.cw c.in-Vote.value ranges) in
+    let vote = c.in-Vote in
+    let ranges = rw vote.is at c.requires.ranges in
+    let small = slot_small vote.slot (vote_parts vote.round vote.slot vote.cw vote.value ranges).1 in
     omega arith
 
 pub invariant_of-self-in-Vote : goal.invariant_of-self-in-Vote
 invariant_of-self-in-Vote c =
-    let own = rw (← c.self-in-Vote.view_is, c.in-Vote.is) at c.requires.own in
-    let ranges = rw c.in-Vote.is at c.requires.ranges in
-    let sound = after_sound c.self-in-Vote.inside.cluster c.self-in-Vote.inside.me _ (kept.Vote c.in-Vote.round c.in-Vote.slot c.in-Vote.cw c.in-Vote.value) c.self-in-Vote.invariant ranges own in
-    rw (c.place.ensures, c.keep_from.ensures.items, c.reserve.ensures.items, c.in_ok-copy-in-Vote.ensures, c.max-self-inside.ensures, c.max-self-inside-in-Vote.ensures) sound
+    let self = c.self-in-Vote in
+    let vote = c.in-Vote in
+    let own = rw (← self.view_is, vote.is) at c.requires.own in
+    let ranges = rw vote.is at c.requires.ranges in
+    rw (
+      c.place.ensures,
+      c.keep_from.ensures.items,
+      c.reserve.ensures.items,
+      c.in_ok-copy-in-Vote.ensures,
+      c.max-self-inside.ensures,
+      c.max-self-inside-in-Vote.ensures,
+    )
+    (after_sound self.inside.cluster self.inside.me _ (kept.Vote vote.round vote.slot vote.cw vote.value) self.invariant
+    ranges own)

@@ -5,4 +5,5 @@ use Rattle.cx_base.specs.Lists.{numbers}
 use Rattle.cx_leader.proofs.known.Known.contains_all.Given as goal
 
 abbrev pub invariant-loop-slot : goal.invariant-loop-slot
-invariant-loop-slot l = list_all (λ s. is_in s l.self.list) (numbers l.slot (l.first + l.count - l.slot)) ≡ list_all (λ s. is_in s l.self.list) (numbers l.first l.count)
+invariant-loop-slot l = list_all (λ s. is_in s l.self.list) (numbers l.slot (l.first + l.count - l.slot))
+    ≡ list_all (λ s. is_in s l.self.list) (numbers l.first l.count)

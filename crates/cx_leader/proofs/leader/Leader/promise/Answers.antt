@@ -1,14 +1,16 @@
 use Rattle.std.proofs.Common.{◌≡◌, Some, sym, subst, ap, ◌∙◌}
-use Rattle.std.specs.Prelude.{IfOk}
 use Rattle.cx_model.specs.Leader.{LeaderVolatile, leader_rules}
 use Rattle.cx_model.specs.Outcome.{Outcome}
-use Rattle.cx_role.specs.Role.{Replies}
-use Rattle.cx_leader.proofs.PromiseLaws.{promised_of}
+use Rattle.cx_role.specs.Role.{IsReply}
+use Rattle.cx_leader.proofs.PromiseLaws.{promised_is}
 use Rattle.cx_leader.proofs.leader.Leader.promise.Goals as goal
 
-pub returns-clause-ok : goal.returns-clause-ok
-returns-clause-ok c =
-    let s = c.args.self.now in
+pub returns : goal.returns
+returns c =
+    let a = c.args in
+    let s = a.self.now in
     let own : s.durable.own ≡ Some c.in-Some.own = ap (λ s. s.durable.own) (sym c.self.view_is) ∙ c.in-Some.is in
-    let same = promised_of s.cluster s.me c.in-Some.own s.volatile c.args.from c.args.round c.args.cw c.args.votes.now s.durable own (sym c.asks.ensures ∙ c.if-not-asks.false) in
-    subst (λ (o : Outcome LeaderVolatile). IfOk c.promised.result (λ why. Replies leader_rules s o why c.promised.new.self c.promised.new.out.list)) (sym same) c.promised.ensures.ok
+    let asks = sym c.asks.ensures ∙ c.if-not-asks.false in
+    let row = promised_is s.cluster s.me s.durable c.in-Some.own s.volatile a.from a.round a.cw a.votes.now own asks in
+    let Is = λ (o : Outcome LeaderVolatile). IsReply leader_rules s o c.promised.result c.promised.new.self c.promised.new.out.list in
+    subst Is (sym row) c.promised.ensures

@@ -1,6 +1,7 @@
 use Rattle.std.proofs.Common.{◌<◌, length, arith, rules}
 use Rattle.cx_match.proofs.EntryLaws.{all_before, greatest_fits, some_later}
 use Rattle.cx_match.proofs.SoundLaws.{has_space, match_fits, sound_match, watermark_real}
+use Rattle.cx_role.proofs.Step.{done}
 use Rattle.cx_match.proofs.matchmaker.Matchmaker.match_a.Goals as goal
 
 pub match_nack-requires-clause-other : goal.match_nack-requires-clause-other
@@ -27,20 +28,27 @@ invariant_of-self-2 g c =
     let sound = sound_match c.self.inside.me _ c.args.round c.args.grid c.self.invariant c.requires.round c.requires.grid (all_before c.args.round c.self.inside.entries.items last new) space in
     rw (c.push_reserved.ensures.items, c.reserve.ensures.items) sound
 
-pub returns-clause-ok : goal.returns-clause-ok
-returns-clause-ok g c =
+pub returns : goal.returns
+returns g c =
     let high = rw c.is_before.ensures at c.if-is_before.false in
     let last = rw (c.has_later.ensures, c.deref.ensures.value) at c.if-has_later.false in
     let new = rw (c.has_entry.ensures, c.deref-2.ensures.value) at c.if-has_entry.false in
     let few : length c.self.inside.entries.items < 16 = omega arith in
     let space = has_space (length c.self.inside.entries.items) few in
-    rw (← c.self.view_is, high, last, new, space) (record { why = search rules; kept = search rules; state = search rules; sends = search rules })
+    rw (← c.self.view_is, high, last, new, space) (done (record { why = search rules; kept = search rules; state = search rules; sends = search rules }) (search rules))
 
-pub returns-in_err-keep-clause-failed : goal.returns-in_err-keep-clause-failed
-returns-in_err-keep-clause-failed g c =
+pub returns-in_err-keep : goal.returns-in_err-keep
+returns-in_err-keep g c =
     let high = rw c.is_before.ensures at c.if-is_before.false in
     let last = rw (c.has_later.ensures, c.deref.ensures.value) at c.if-has_later.false in
     let new = rw (c.has_entry.ensures, c.deref-2.ensures.value) at c.if-has_entry.false in
     let few : length c.self.inside.entries.items < 16 = omega arith in
     let space = has_space (length c.self.inside.entries.items) few in
-    rw (← c.self.view_is, high, last, new, space) (search rules)
+    rw (← c.self.view_is, high, last, new, space) (record { ok = search rules; no_memory = search rules; spared = search rules; told = search rules; failed = search rules; keeps = search rules })
+
+pub returns-then-len-ge-ROUNDS : goal.returns-then-len-ge-ROUNDS
+returns-then-len-ge-ROUNDS g c =
+    let high = rw c.is_before.ensures at c.if-is_before.false in
+    let last = rw (c.has_later.ensures, c.deref.ensures.value) at c.if-has_later.false in
+    let new = rw (c.has_entry.ensures, c.deref-2.ensures.value) at c.if-has_entry.false in
+    rw (← c.self.view_is, high, last, new) (done (record { why = search rules; kept = search rules; state = search rules; sends = search rules }) (search rules))

@@ -2,6 +2,7 @@ use Rattle.std.proofs.Common.{sym, ◌∙◌}
 use Rattle.cx_reader.proofs.KeptNothing.{pre_read_fits}
 use Rattle.cx_reader.proofs.reader.ReaderRole.take.Goals as goal
 
-pub returns-in_err-pre_read_answer-in-PreReadAck-clause-fits : goal.returns-in_err-pre_read_answer-in-PreReadAck-clause-fits
+pub returns-in_err-pre_read_answer-in-PreReadAck-clause-fits
+    : goal.returns-in_err-pre_read_answer-in-PreReadAck-clause-fits
 returns-in_err-pre_read_answer-in-PreReadAck-clause-fits g c =
-    pre_read_fits c.args.self.now.cluster c.args.self.now.me c.args.self.now.durable c.args.self.now.volatile c.args.datagram.now _ _ _ (sym c.msg.ensures.msg ∙ c.in-PreReadAck.is)
+    pre_read_fits c.args.self.now c.args.datagram.now _ _ _ (sym c.msg.ensures.msg ∙ c.in-PreReadAck.is)

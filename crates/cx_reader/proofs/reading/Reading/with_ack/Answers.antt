@@ -4,9 +4,11 @@ use Rattle.cx_reader.proofs.reading.Reading.with_ack.Goals as goal
 
 pub invariant_of-more : goal.invariant_of-more
 invariant_of-more c =
+    let read = c.more.inside in
+    let is = c.more.invariant in
     rw (c.in_ok-push.ensures.items, c.add.ensures.marks) record {
-      token_fits = c.more.invariant.token_fits;
-      told_fit = c.more.invariant.told_fit;
-      acks_fit = one_more_ack c.more.inside.acks.items c.args.ack c.more.invariant.acks_fit c.requires.acceptor c.requires.mark;
-      marked = acked_more c.more.inside.counted c.more.inside.acks.items c.args.ack c.more.invariant.marked;
+      token_fits = is.token_fits;
+      told_fit = is.told_fit;
+      acks_fit = one_more_ack read.acks.items c.args.ack is.acks_fit c.requires.acceptor c.requires.mark;
+      marked = acked_more read.counted read.acks.items c.args.ack is.marked;
     }

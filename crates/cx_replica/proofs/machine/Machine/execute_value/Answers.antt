@@ -10,7 +10,10 @@ pub execute_all-requires-clause-at : goal.execute_all-requires-clause-at
 execute_all-requires-clause-at c = next_fits c.args.slot c.requires.slot
 
 pub execute_all-requires-clause-commands : goal.execute_all-requires-clause-commands
-execute_all-requires-clause-commands c = rw c.as_slice.ensures.items (commands_in c.in-Batch.commands (rw c.in-Batch.is at c.requires.value))
+execute_all-requires-clause-commands c =
+    rw c.as_slice.ensures.items (commands_in c.in-Batch.commands (rw c.in-Batch.is at c.requires.value))
 
 pub returns-in-Batch-clause-few : goal.returns-in-Batch-clause-few
-returns-in-Batch-clause-few c = eight_at_most c.execute_all.new.answers.items (c.args.slot + 1) c.args.self.now.left c.as_slice.result.now c.execute_all.ensures.answers (rw c.as_slice.ensures.items c.as_slice.ensures.room)
+returns-in-Batch-clause-few c =
+    eight_at_most c.execute_all.new.answers.items (c.args.slot + 1) c.args.self.now.left c.as_slice.result.now
+    c.execute_all.ensures.answers (rw c.as_slice.ensures.items c.as_slice.ensures.room)

@@ -1,9 +1,11 @@
 use Rattle.std.proofs.Common.{◌≡◌, ◌+◌, ◌≤◌, true, rules, sym, subst, length, List, ◌++◌, refl, ◌∙◌}
 use Rattle.cx_base.specs.declared.command.Value.{Value}
-use Rattle.cx_replica.specs.Sound.{are_own, are_own_early, are_reads}
 use Rattle.cx_base.specs.Log.{ready_values}
-use Rattle.cx_model.specs.Replica.{ReplicaDurable, ReplicaVolatile, apply, machine_from, replica_rules, still_deferred}
+use Rattle.cx_model.specs.Replica.{ReplicaDurable, ReplicaVolatile, machine_from, replica_rules, still_deferred}
 use Rattle.cx_model.specs.Rules.{Running, running_after}
+use Rattle.cx_role.proofs.Step.{done}
+use Rattle.cx_replica.specs.Rows.{applied_in, replica_view}
+use Rattle.cx_replica.specs.Sound.{are_own, are_own_early, are_reads}
 use Rattle.cx_replica.proofs.Reading.{sent_behind, state_behind}
 use Rattle.cx_replica.proofs.Rows.{own_fits, ready_own, sound_more, still_few, still_own, still_reads}
 use Rattle.cx_replica.proofs.Values.{mark_fits, values_fit}
@@ -13,16 +15,20 @@ use Rattle.cx_replica.proofs.replica.Replica.apply.Goals.{In_ok-values}
 
 own : (g : Over) (c : In_ok-values g) → are_own c.self.inside.cluster c.in_ok-values.values ≡ true
 own g c =
-    subst (λ (vs : List Value). are_own c.self.inside.cluster vs ≡ true) (sym c.in_ok-values.ensures.values)
-    (ready_own c.self.inside.cluster (length c.self.inside.log.list) c.self.inside.log.early c.args.value.now (rw (← c.self.view_is) at c.requires.value) c.self.invariant.waiting)
+    let i = c.self.inside in
+    subst (λ (vs : List Value). are_own i.cluster vs ≡ true) (sym c.in_ok-values.ensures.values)
+    (ready_own i.cluster (length i.log.list) i.log.early c.args.value.now (rw (← c.self.view_is) at c.requires.value)
+    c.self.invariant.waiting)
 
 pub keep-requires : goal.keep-requires
 keep-requires g c =
+    let values = c.in_ok-values.values in
     let all = own g (goal.at.keep-requires g c).In_ok-values in
-    values_fit c.in_ok-values.values c.as_slice-count.ensures.some c.as_slice-count.ensures.room (own_fits c.self.inside.cluster c.in_ok-values.values all)
+    values_fit values c.as_slice-count.ensures.some c.as_slice-count.ensures.room (own_fits c.self.inside.cluster values all)
 
 pub execute_values-requires-clause-slots : goal.execute_values-requires-clause-slots
-execute_values-requires-clause-slots g c = rw (c.held-held.ensures.held, c.as_slice-2.ensures.items, c.into_values-values.ensures) c.in_ok-values.ensures.short
+execute_values-requires-clause-slots g c =
+    rw (c.held-held.ensures.held, c.as_slice-2.ensures.items, c.into_values-values.ensures) c.in_ok-values.ensures.short
 
 pub execute_values-requires-clause-values : goal.execute_values-requires-clause-values
 execute_values-requires-clause-values g c =
@@ -30,7 +36,8 @@ execute_values-requires-clause-values g c =
     rw (c.as_slice-2.ensures.items, c.into_values-values.ensures) (own_fits c.self.inside.cluster c.in_ok-values.values all)
 
 pub answer_reads-requires-clause-held : goal.answer_reads-requires-clause-held
-answer_reads-requires-clause-held g c = mark_fits _ (rw (c.held-held.ensures.held, c.as_slice-count.ensures.items) c.in_ok-values.ensures.short)
+answer_reads-requires-clause-held g c =
+    mark_fits _ (rw (c.held-held.ensures.held, c.as_slice-count.ensures.items) c.in_ok-values.ensures.short)
 
 pub put-requires-clause-short : goal.put-requires-clause-short
 put-requires-clause-short g c = rw c.into_values-values.ensures c.in_ok-values.ensures.short
@@ -43,43 +50,67 @@ put-requires-clause-room g c = rw c.into_values-values.ensures c.in_ok-values.en
 
 pub invariant_of-self-2 : goal.invariant_of-self-2
 invariant_of-self-2 g c =
-    let log = c.self.inside.log in
+    let i = c.self.inside in
+    let log = i.log in
+    let new = c.put.new.self in
     let vs = c.in_ok-values.values in
-    let all = own g (goal.at.invariant_of-self-2 g c).In_ok-values in
-    let list : c.put.new.self.list ≡ log.list ++ vs = rw (c.put.ensures.list, c.ready.ensures.list, c.into_values-values.ensures) refl in
-    let early : are_own_early c.self.inside.cluster c.put.new.self.early ≡ true =
-    rw (c.put.ensures.early, c.ready.ensures.early) (still_own c.self.inside.cluster (length c.put.new.self.list) log.early c.self.invariant.waiting) in
-    let ran : c.execute_values.new.self.left ≡ machine_from (length log.list) c.self.inside.machine.left vs =
-    rw (c.execute_values.ensures.machine, c.make_room.ensures.left, c.held-held.ensures.held, c.ready.ensures.list, c.as_slice-2.ensures.items, c.into_values-values.ensures) refl in
+    let reads = i.deferred.items in
+    let left = c.drop_answered.new.deferred.items in
     let held = c.held.result in
-    let reads = c.self.inside.deferred.items in
-    let left : c.drop_answered.new.deferred.items ≡ still_deferred held reads = c.drop_answered.ensures in
-    let fit : are_reads c.drop_answered.new.deferred.items ≡ true = rw left (still_reads held reads c.self.invariant.reads) in
-    let few : length c.drop_answered.new.deferred.items ≤ 64 = rw left (still_few held reads 64 c.self.invariant.few) in
-    sound_more c.self.inside.cluster c.self.inside.me log c.put.new.self c.self.inside.machine.left c.execute_values.new.self.left reads c.drop_answered.new.deferred.items vs c.self.invariant list all early ran fit few
+    let after = c.execute_values.new.self.left in
+    let all = own g (goal.at.invariant_of-self-2 g c).In_ok-values in
+    let list : new.list ≡ log.list ++ vs = rw (c.put.ensures.list, c.ready.ensures.list, c.into_values-values.ensures) refl in
+    let early : are_own_early i.cluster new.early ≡ true =
+    rw (c.put.ensures.early, c.ready.ensures.early)
+    (still_own i.cluster (length new.list) log.early c.self.invariant.waiting) in
+    let ran : after ≡ machine_from (length log.list) i.machine.left vs =
+    rw (
+      c.execute_values.ensures.machine,
+      c.make_room.ensures.left,
+      c.held-held.ensures.held,
+      c.ready.ensures.list,
+      c.as_slice-2.ensures.items,
+      c.into_values-values.ensures,
+    ) refl in
+    let is_left : left ≡ still_deferred held reads = c.drop_answered.ensures in
+    let fit : are_reads left ≡ true = rw is_left (still_reads held reads c.self.invariant.reads) in
+    let few : length left ≤ 64 = rw is_left (still_few held reads 64 c.self.invariant.few) in
+    sound_more i.cluster i.me log new i.machine.left after reads left vs c.self.invariant list all early ran fit few
 
-pub returns-clause-ok : goal.returns-clause-ok
-returns-clause-ok g c =
+pub returns : goal.returns
+returns g c =
     let i = c.self.inside in
     let log = i.log.list in
+    let value = c.args.value.now in
     let vs = c.in_ok-values.values in
+    let reads = i.deferred.items in
+    let left = c.drop_answered.new.deferred.items in
+    let put = c.put in
+    let executed = c.execute_values in
     let at : c.held-held.result ≡ length log = rw (c.held-held.ensures.held, c.ready.ensures.list) refl in
-    let count : c.held-held.result + length c.as_slice-count.result.now ≡ length log + length vs = rw (at, c.as_slice-count.ensures.items) refl in
-    let ready : vs ≡ ready_values (length log) i.log.early c.args.value.now = c.in_ok-values.ensures.values in
-    let new : c.put.new.self.list ≡ log ++ c.into_values-values.result = rw (c.put.ensures.list, c.ready.ensures.list) refl in
-    record {
+    let count : c.held-held.result + length c.as_slice-count.result.now ≡ length log + length vs =
+    rw (at, c.as_slice-count.ensures.items) refl in
+    let ready : vs ≡ ready_values (length log) i.log.early value = c.in_ok-values.ensures.values in
+    let new : put.new.self.list ≡ log ++ c.into_values-values.result = rw (put.ensures.list, c.ready.ensures.list) refl in
+    let values = c.as_slice-2.ensures.items ∙ c.into_values-values.ensures in
+    let empty = c.room.ensures.list ∙ c.requires.empty in
+    done
+    (record {
       why = refl;
       kept = search rules;
       state = subst (λ (s : Running ReplicaDurable ReplicaVolatile).
-          record { cluster = i.cluster; me = i.me; live = c.keep.new.live; durable = record { log = c.put.new.self.list }; volatile = record { early = c.put.new.self.early; deferred = c.drop_answered.new.deferred.items } }
-          ≡ running_after replica_rules s (apply s.cluster s.me s.durable s.volatile (ready_values (length s.durable.log) s.volatile.early c.args.value.now))) c.self.view_is
+          replica_view i.cluster i.me c.keep.new.live put.new.self left ≡ running_after replica_rules s (applied_in s value))
+          c.self.view_is
           (rw c.in_ok-keep.ensures.lives
-          (state_behind i.cluster i.me i.live log c.put.new.self.list _ vs c.into_values-values.result i.log.early c.ready.new.self.early c.put.new.self.early i.deferred.items
-          c.drop_answered.new.deferred.items c.held.result new c.into_values-values.ensures ready c.put.ensures.early c.ready.ensures.early c.drop_answered.ensures c.held.ensures.held));
-      sends = subst (λ (s : Running ReplicaDurable ReplicaVolatile). c.answer_reads.new.out.list
-          ≡ (apply s.cluster s.me s.durable s.volatile (ready_values (length s.durable.log) s.volatile.early c.args.value.now)).sends) c.self.view_is
-          (sent_behind i.cluster i.me log _ vs c.as_slice-2.result.now i.machine.left c.make_room.new.self.left c.execute_values.new.self.left c.held-held.result
-          (c.held-held.result + length c.as_slice-count.result.now) i.deferred.items c.deref.result.now c.room.new.self.list c.execute_values.new.out.list c.answer_reads.new.out.list
-          c.self.invariant.machine c.make_room.ensures.left at (c.as_slice-2.ensures.items ∙ c.into_values-values.ensures) ready c.deref.ensures.value c.execute_values.ensures.machine count
-          (c.room.ensures.list ∙ c.requires.empty) c.execute_values.ensures.sends c.answer_reads.ensures);
-    }
+          (state_behind i.cluster i.me i.live i.log put.new.self value vs c.into_values-values.result
+          c.ready.new.self.early reads left c.held.result new c.into_values-values.ensures ready put.ensures.early
+          c.ready.ensures.early c.drop_answered.ensures c.held.ensures.held));
+      sends = subst (λ (s : Running ReplicaDurable ReplicaVolatile). c.answer_reads.new.out.list ≡ (applied_in s value).sends)
+          c.self.view_is
+          (sent_behind i.cluster i.me log _ vs c.as_slice-2.result.now i.machine.left c.make_room.new.self.left
+          executed.new.self.left c.held-held.result (c.held-held.result + length c.as_slice-count.result.now) reads
+          c.deref.result.now c.room.new.self.list executed.new.out.list c.answer_reads.new.out.list
+          c.self.invariant.machine c.make_room.ensures.left at values ready c.deref.ensures.value
+          executed.ensures.machine count empty executed.ensures.sends c.answer_reads.ensures);
+    })
+    (search rules)

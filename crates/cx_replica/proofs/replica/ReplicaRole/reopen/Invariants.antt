@@ -10,6 +10,8 @@ invariant-loop-index l = record {
   live : l.replica.live ≡ true;
   none_early : l.replica.volatile.early ≡ [];
   none_deferred : l.replica.volatile.deferred ≡ [];
-  folded : folded_from replica_rules l.replica.durable (drop l.index l.records) ≡ folded_from replica_rules l.fn.self.durable l.records;
-  refused : refused_from replica_rules l.fn.self.cluster l.fn.self.me l.replica.durable l.index (drop l.index l.records) ≡ refused_from replica_rules l.fn.self.cluster l.fn.self.me l.fn.self.durable 0 l.records;
+  folded : folded_from replica_rules l.replica.durable (drop l.index l.records)
+      ≡ folded_from replica_rules l.fn.self.durable l.records;
+  refused : refused_from replica_rules l.fn.self.cluster l.fn.self.me l.replica.durable l.index (drop l.index l.records)
+      ≡ refused_from replica_rules l.fn.self.cluster l.fn.self.me l.fn.self.durable 0 l.records;
 }

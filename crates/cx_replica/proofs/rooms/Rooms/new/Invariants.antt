@@ -1,6 +1,7 @@
 use Rattle.std.proofs.Common.{◌≡◌, vec_len}
-use Rattle.cx_replica.specs.Room.{AreRooms}
+use Rattle.std.specs.List.{All}
+use Rattle.cx_replica.specs.Room.{IsVacant}
 use Rattle.cx_replica.proofs.rooms.Rooms.new.Given as goal
 
 abbrev pub invariant-loop-number : goal.invariant-loop-number
-invariant-loop-number l = AreRooms l.list.items × (vec_len l.list ≡ l._number)
+invariant-loop-number l = All IsVacant l.list.items × (vec_len l.list ≡ l._number)
