@@ -29,8 +29,10 @@ pub trait Depot {
 
     /// Lends the store of a role. It fails, and the role's count rises, where the store can't be opened, or is out already.
     fn open(&mut self, role: RoleId) -> Result<Self::Store, Failed>
-        ensures seen { tells self.old ≡ true → IfOk result (λ store. Self.Store.Disk.seen store ≡ Some (held self.old role)) }
-        ensures durable { tells self.old ≡ true → IfOk result (λ store. Only (held self.old role) (Self.Store.Disk.may_leave store)) }
+        ensures seen { tells self.old ≡ true
+            → IfOk result (λ store. Self.Store.Disk.seen store ≡ Some (held self.old role)) }
+        ensures durable { tells self.old ≡ true
+            → IfOk result (λ store. Only (held self.old role) (Self.Store.Disk.may_leave store)) }
         ensures fresh { IfOk result (λ store. Self.Store.Disk.faults store ≡ 0) }
         ensures once { OnOk result (list_any (same_role role) (out self.old) ≡ false) }
         ensures out { OnOk result (out self.new ≡ out self.old ++ role ∷ []) }
@@ -46,7 +48,8 @@ pub trait Depot {
     fn close(&mut self, role: RoleId, store: Self::Store)
         requires { IsOut role (out self.old) }
         ensures out { out self.new ≡ without role (out self.old) }
-        ensures held { tells self.old ≡ true → (file : List ℕ) → Self.Store.Disk.seen store ≡ Some file → held self.new role ≡ file }
+        ensures held { tells self.old ≡ true → (file : List ℕ) → Self.Store.Disk.seen store ≡ Some file
+            → held self.new role ≡ file }
         ensures others_held { (who : RoleId) → (who ≡ role → ⊥) → held self.new who ≡ held self.old who }
         ensures told { tells self.new ≡ tells self.old }
         ensures cause { Rises 0 (Self.Store.Disk.faults store) → Rises (faults self.old role) (faults self.new role) }

@@ -24,7 +24,11 @@ impl Model for Desk {
 
     ghost Value = { DeskState };
 
-    ghost view = { λ d. record { counts = d.counts.items; out = d.out.items; room = vec_capacity d.out - vec_len d.out } };
+    ghost view = { λ d. record {
+      counts = d.counts.items;
+      out = d.out.items;
+      room = vec_capacity d.out - vec_len d.out;
+    } };
 }
 
 fn row_of(rows: &[CountRow], role: RoleId) -> Option<usize>

@@ -107,7 +107,8 @@ impl<R> FileDepot<R> {
     pub fn new(alloc: Global, files: R, roles: &[RoleId]) -> Result<Self, NoMemory>
     where
         R: Drop,
-        ensures faults { IfOk result (λ depot. (role : RoleId) → files_faults depot role ≡ first_faults role roles.now) }
+        ensures faults { IfOk result (λ depot. (role : RoleId)
+            → files_faults depot role ≡ first_faults role roles.now) }
         ensures out { IfOk result (λ depot. depot.out ≡ []) }
     {
         Ok(FileDepot {

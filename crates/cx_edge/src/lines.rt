@@ -1,6 +1,7 @@
 //! The lines of a source, one by one.
 
 ghost use Rattle.std.specs.Prelude.{◌≡◌, ◌≤◌, ◌<◌, ◌==◌, ◌+◌, [], length, take, drop, position, IfOk};
+ghost use Rattle.std.specs.List.{list_any};
 ghost use Rattle.std.specs.Str.Lines.{strip_carriage_return};
 ghost use Rattle.cx_base.specs.Faults.{Rises};
 ghost use Rattle.cx_edge.specs.declared.lines.Next.TheVariants as next;
@@ -45,6 +46,12 @@ fn feed_in(bytes: &[u8]) -> Option<usize>
     ensures { result ≡ position (λ b. b == 10) bytes.now }
 {
     bytes.iter().position(|byte| *byte == b'\n')
+}
+
+fn has_feed(bytes: &[u8]) -> bool
+    ensures { result ≡ list_any (λ b. b == 10) bytes.now }
+{
+    bytes.iter().any(|byte| *byte == b'\n')
 }
 
 // How long a part is without one carriage return at its end.
@@ -116,7 +123,8 @@ impl Model for Lines {
       text = take (s.text_end - s.text_start) (drop s.text_start s.bytes.items);
     } };
 
-    ghost invariant = { λ s. (s.start ≤ s.end) × (s.end ≤ vec_len s.bytes) × (s.text_start ≤ s.text_end) × (s.text_end ≤ vec_len s.bytes) × (vec_len s.bytes ≡ 20480) };
+    ghost invariant = { λ s. (s.start ≤ s.end) × (s.end ≤ vec_len s.bytes) × (s.text_start ≤ s.text_end)
+        × (s.text_end ≤ vec_len s.bytes) × (vec_len s.bytes ≡ 20480) };
 }
 
 impl Lines {
@@ -138,6 +146,13 @@ impl Lines {
         ensures { result.now ≡ self.now.text }
     {
         &self.bytes[self.text_start..self.text_end]
+    }
+
+    /// Whether the next line's line feed is held, so that `next` reads nothing for it.
+    pub fn has_line(&self) -> bool
+        ensures { result ≡ list_any (λ b. b == 10) self.now.held }
+    {
+        has_feed(&self.bytes[self.start..self.end])
     }
 
     // Cuts the first line off what is held, if it is whole.

@@ -50,7 +50,8 @@ impl MemDepot {
         failing: Vec<u64>,
     ) -> Result<Self, NoMemory>
         ensures stores { IfOk result (λ depot. depot.stores ≡ map store_of stores.items) }
-        ensures faults { IfOk result (λ depot. (role : RoleId) → depot_faults depot role ≡ first_faults role (map role_of stores.items)) }
+        ensures faults { IfOk result (λ depot. (role : RoleId)
+            → depot_faults depot role ≡ first_faults role (map role_of stores.items)) }
         ensures out { IfOk result (λ depot. depot.out ≡ []) }
     {
         let roles = roles_of(alloc, &stores)?;

@@ -49,7 +49,11 @@ impl Model for MemLink {
 
     ghost Value = { LinkState };
 
-    ghost view = { λ m. record { told = told_of m.is_silent m.binds.items m.notes; faults = m.faults; losses = m.losses } };
+    ghost view = { λ m. record {
+      told = told_of m.is_silent m.binds.items m.notes;
+      faults = m.faults;
+      losses = m.losses;
+    } };
 }
 
 /// Whether the role or the port is bound.

@@ -36,7 +36,12 @@ impl Model for MemSource {
 
     ghost Value = { SourceState };
 
-    ghost view = { λ s. record { left = drop s.start s.bytes.items; call = s.call; failing = s.failing.items; faults = s.faults } };
+    ghost view = { λ s. record {
+      left = drop s.start s.bytes.items;
+      call = s.call;
+      failing = s.failing.items;
+      faults = s.faults;
+    } };
 
     ghost invariant = { λ s. s.start ≤ vec_len s.bytes };
 }
@@ -100,7 +105,13 @@ impl Model for MemSink {
 
     ghost Value = { SinkState };
 
-    ghost view = { λ s. record { taken = s.taken.items; room = s.room; call = s.call; failing = s.failing.items; faults = s.faults } };
+    ghost view = { λ s. record {
+      taken = s.taken.items;
+      room = s.room;
+      call = s.call;
+      failing = s.failing.items;
+      faults = s.faults;
+    } };
 
     ghost invariant = { λ s. (vec_len s.taken ≤ s.room) × (s.room ≤ vec_capacity s.taken) };
 }
@@ -110,7 +121,8 @@ impl MemSink {
     /// are counted from 0, and where a piece is longer than the room that is left. All memory is taken here, none by
     /// a write.
     pub fn new(alloc: Global, room: usize, failing: Vec<u64>) -> Result<Self, NoMemory>
-        ensures { IfOk result (λ sink. sink ≡ record { taken = []; room = room; call = 0; failing = failing.items; faults = 0 }) }
+        ensures { IfOk result (λ sink. sink
+            ≡ record { taken = []; room = room; call = 0; failing = failing.items; faults = 0 }) }
     {
         Ok(MemSink {
             taken: Vec::with_capacity(alloc, room)?,

@@ -98,7 +98,9 @@ impl Notes {
 
     /// Notes what a role sends, and lets it wait unless it is lost. Without room nothing changes. It takes no memory.
     pub(crate) fn send(&mut self, from: RoleId, port: u16, bytes: &[u8], is_lost: bool) -> bool
-        ensures sent { result ≡ true → self.new ≡ with_sending is_lost (record { from = from; port = port; bytes = bytes.now }) self.old }
+        ensures sent { result ≡ true
+            → self.new ≡ with_sending is_lost
+            (record { from = from; port = port; bytes = bytes.now }) self.old }
         ensures full { result ≡ false → self.new ≡ self.old }
     {
         if bytes.len() > self.bytes.capacity() - self.bytes.len()

@@ -8,25 +8,26 @@ use Rattle.cx_base.specs.declared.status.Status.TheVariants as status
 use Rattle.cx_cluster.specs.Reading.{header_cluster}
 use Rattle.cx_model.specs.World.{start}
 use Rattle.cx_replay.specs.Heard.{BadHeader}
-use Rattle.cx_replay.specs.Input.{bad_line, behind, of_header, input_of}
+use Rattle.cx_replay.specs.Input.{bad_line, behind, header_says, input_of}
 use Rattle.cx_replay.specs.Replay.{trace_of, Replayed}
-use Rattle.cx_replay.specs.Streamed.{HasHeader, IsHeader, StandsBehind, Says}
-use Rattle.cx_replay.proofs.Along.{AtEnd, ends_alone}
+use Rattle.cx_replay.specs.Streamed.{AtEnd, HasHeader, IsHeader, StandsBehind, Says}
+use Rattle.cx_replay.proofs.Along.{ends_alone}
 use Rattle.cx_replay.proofs.Ends.{bad_replayed}
 use Rattle.cx_replay.proofs.WholeText.{of_all, some_map}
 use Rattle.cx_script.specs.Header.{header_of}
+use Rattle.cx_script.specs.Input.{of_header, whole_input}
 
 -- no header says a cluster
 abbrev IsBadHeader : Option (List ℕ) → Type 0
 IsBadHeader left = IfSome left (λ all. input_of all ≡ BadHeader)
 
 pub no_header : (left : Option (List ℕ)) → IfSome left (λ all. header_of all ≡ None) → IsBadHeader left
-unfolding input_of
-no_header left none = some_map left (λ all. header_of all ≡ None) (λ all. input_of all ≡ BadHeader) (λ all is. ap (λ found. of_header found BadHeader) is) none
+unfolding whole_input
+no_header left none = some_map left (λ all. header_of all ≡ None) (λ all. input_of all ≡ BadHeader) (λ all is. ap (λ found. of_header header_says found BadHeader) is) none
 
 input_is : (bytes text rest : List ℕ) → header_of bytes ≡ Some (text, rest) → input_of bytes ≡ behind (header_cluster text) rest
-unfolding input_of
-input_is bytes text rest is = ap (λ found. of_header found BadHeader) is
+unfolding whole_input
+input_is bytes text rest is = ap (λ found. of_header header_says found BadHeader) is
 
 pub header_refused : (left now : Option (List ℕ)) (held text : List ℕ) → HasHeader left now held text → Says None (header_cluster text) → IsBadHeader left
 header_refused left now held text h says =

@@ -8,10 +8,11 @@ use Rattle.std.proofs.lemmas.Bool.{cond_both}
 use Rattle.std.proofs.lemmas.Bool.Decides.{nat_tests}
 use Rattle.cx_edge.specs.Lines.{Hands, BeginsLong, IsOpen}
 use Rattle.cx_replay.specs.Heard.{Nothing, BadHeader}
-use Rattle.cx_replay.specs.Input.{of_header, lines}
+use Rattle.cx_replay.specs.Input.{header_says, lines}
 use Rattle.cx_replay.specs.Streamed.{HasHeader, IsHeader}
 use Rattle.cx_replay.proofs.WholeText.{whole_text, counted_text, counted_open, text_push, free_push, hands_on, hands_held, of_all}
 use Rattle.cx_script.specs.Header.{is_rule, header_in, header_of, of_length}
+use Rattle.cx_script.specs.Input.{begun_input, of_header}
 use Rattle.cx_script.specs.Lines.{lines_of}
 use Rattle.cx_script.specs.Unended.{lines_text, counted, is_long_header}
 use Rattle.cx_script.proofs.Cuts.{split_free}
@@ -175,7 +176,7 @@ module _ (left now : Option (List ℕ)) (held text : List ℕ) (h : InHeader lef
 
   -- nor where a read fails
   pub fails_header : (held_next : List ℕ) → Hands now next held held_next [] → IsOpen 16384 held_next → (bytes : List ℕ) × Consumes left next bytes × (lines bytes ≡ Nothing)
-  unfolding lines is_long_header
+  unfolding begun_input is_long_header
   fails_header held_next hands open_yet =
       let bytes = lines_text h.ls ++ held_next in
       let short : is_long_header (counted 16384 bytes) ≡ false = ap is_long_header (counted_open 16384 h.ls held_next h.free open_yet.0 open_yet.1) ∙ not_long in
@@ -184,7 +185,7 @@ module _ (left now : Option (List ℕ)) (held text : List ℕ) (h : InHeader lef
       ∙ ap (λ found. option_and_then of_length (behind_text text found)) (none_open 1024 held_next (omega arith) open_yet.0) in (
         bytes,
         hands_held left now next (lines_text h.ls) held held_next h.consumed hands,
-        ap (λ found. of_header found (if is_long_header (counted 16384 bytes) then BadHeader else Nothing)) none ∙ ap (λ (b : Bool). if b then BadHeader else Nothing) short,
+        ap (λ found. of_header header_says found (if is_long_header (counted 16384 bytes) then BadHeader else Nothing)) none ∙ ap (λ (b : Bool). if b then BadHeader else Nothing) short,
       )
     where
       not_long : is_long_header (lines_text h.ls) ≡ false

@@ -28,7 +28,20 @@ pub record Writing (text rest : List ℕ) (old now : Option (List ℕ)) (writes 
 pub writing_begins : (text : List ℕ) (old : Option (List ℕ)) (writes : ℕ) → Writing text text old old writes writes
 writing_begins text old writes = record { done = []; whole = refl; written = Appends-nil old; still = refl }
 
+-- more is printed
+pub writing_grows : (text rest more : List ℕ) (old now : Option (List ℕ)) (writes writes_now : ℕ) → Writing text rest old now writes writes_now
+    → Writing (text ++ more) (rest ++ more) old now writes writes_now
+writing_grows text rest more old now writes writes_now w =
+    record { done = w.done; whole = sym (append_assoc w.done rest more) ∙ ap (λ l. l ++ more) w.whole; written = w.written; still = w.still }
+
 module _ (text : List ℕ) (old now next : Option (List ℕ)) (writes writes_now writes_next : ℕ) where
+  -- what is to come is written, or a part of it
+  pub writing_whole : (rest : List ℕ) → Writing text rest old now writes writes_now → Appends now next rest → Appends old next text
+  writing_whole rest w p = subst (Appends old next) w.whole (Appends-trans old now next w.done rest w.written p)
+
+  pub writing_part : (rest : List ℕ) → Writing text rest old now writes writes_now → AppendsPart now next rest → AppendsPart old next text
+  writing_part rest w p = subst (AppendsPart old next) w.whole (then_part old now next w.done rest w.written p)
+
   -- the next piece is written
   pub writing_goes : (piece rest : List ℕ) (done : Unit {0}) → Writing text (piece ++ rest) old now writes writes_now → WritesText piece now next writes_now writes_next (Ok done)
       → Writing text rest old next writes writes_next

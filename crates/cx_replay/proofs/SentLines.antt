@@ -1,6 +1,7 @@
 -- The lines of datagrams one by one.
-use Rattle.std.proofs.Common.{◌≡◌, ◌≤◌, ◌<◌, ◌+◌, ◌∙◌, ℕ, zero, suc, List, [], ◌∷◌, ◌++◌, Some, length, drop, refl, ap, arith}
+use Rattle.std.proofs.Common.{◌≡◌, ◌≤◌, ◌<◌, ◌+◌, ◌∙◌, ℕ, zero, suc, List, [], ◌∷◌, ◌++◌, length, length-take, take, drop, refl, ap, arith}
 use Rattle.std.specs.List.{slice_get}
+use Rattle.std.proofs.lemmas.List.{take-append-le}
 use Rattle.cx_msg.specs.Letter.{Letter}
 use Rattle.cx_trace.specs.Trace.{datagrams_text}
 use Rattle.cx_replay.specs.Sending.{line_text}
@@ -21,3 +22,9 @@ no_lines number zero [] l = refl
 no_lines number (suc n) [] l = refl
 no_lines number zero (d ∷ sent) l = absurd (omega (arith, l))
 no_lines number (suc n) (d ∷ sent) l = no_lines number n sent (omega (arith, l))
+
+-- what begins with a text does so when it is longer
+pub begins_longer : (old now more longer : List ℕ) → longer ≡ now ++ more → take (length old) now ≡ old → take (length old) longer ≡ old
+begins_longer old now more longer is begins =
+    let inside : length old ≤ length now = omega (arith, length-take (length old) now, ap length begins) in
+    ap (take (length old)) is ∙ take-append-le (length old) now more inside ∙ begins

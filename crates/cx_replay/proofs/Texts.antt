@@ -1,5 +1,5 @@
 -- The text of a run is written in parts.
-use Rattle.std.proofs.Common.{◌≡◌, ◌+◌, ◌++◌, ℕ, List, [], ◌∷◌, length, take, take_all, Option, refl, sym, ap, ◌∙◌, subst, inl, inr, arith, append_assoc, append-nil}
+use Rattle.std.proofs.Common.{◌≡◌, ◌+◌, ◌++◌, ℕ, List, [], ◌∷◌, length, take, take_all, Option, refl, sym, ap, ◌∙◌, subst, inl, inr, arith, append_assoc}
 use Rattle.std.specs.Io.KnownBytes.{Appends}
 use Rattle.std.proofs.KnownBytes.{Appends-nil, Appends-trans}
 use Rattle.std.proofs.lemmas.Bool.{cases_lt}
@@ -31,10 +31,11 @@ part_of_more old new text more part =
       | inr past ↦ (length text, subst (Appends old new) (take_all part.0 text past ∙ sym (take-append_seam text more)) part.1)
     ]
 
--- a text was written, and then a part of the next one, or nothing
+-- and so is the whole
+pub part_whole : (old new : Option (List ℕ)) (text : List ℕ) → Appends old new text → AppendsPart old new text
+part_whole old new text whole = (length text, subst (Appends old new) (sym (take_all (length text) text (omega arith))) whole)
+
+-- a text was written, and then a part of the next one
 pub then_part : (old now next : Option (List ℕ)) (text more : List ℕ) → Appends old now text → AppendsPart now next more → AppendsPart old next (text ++ more)
 then_part old now next text more whole part =
     (length text + part.0, subst (Appends old next) (sym (take-append-add text more part.0)) (Appends-trans old now next text (take part.0 more) whole part.1))
-
-pub then_none : (old now next : Option (List ℕ)) (text : List ℕ) → Appends old now text → Appends now next [] → Appends old next text
-then_none old now next text whole none = subst (Appends old next) (append-nil text) (Appends-trans old now next text [] whole none)

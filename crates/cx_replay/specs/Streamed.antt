@@ -1,5 +1,5 @@
 -- What was read of an input so far, line by line, and what of it was written.
-use Rattle.std.specs.Prelude.{◌≡◌, ◌≤◌, ◌<◌, ◌+◌, ℕ, false, true, List, [], ◌∷◌, ◌++◌, length, Option, None, Some, option_to_list, IfSome, Result, Ok, Err}
+use Rattle.std.specs.Prelude.{◌≡◌, ◌≤◌, ◌<◌, ◌+◌, ℕ, Bool, false, true, List, [], ◌∷◌, ◌++◌, length, Option, None, Some, option_to_list, IfSome, Result, Ok, Err}
 use Rattle.std.specs.Io.KnownBytes.{Appends, Consumes, IsAtEnd}
 use Rattle.cx_base.specs.declared.cluster.Cluster.{Cluster}
 use Rattle.cx_base.specs.declared.event.Event.{Event}
@@ -8,14 +8,16 @@ use Rattle.cx_base.specs.declared.status.Status.TheVariants as status
 use Rattle.cx_base.specs.Faults.{Rises}
 use Rattle.cx_cluster.specs.declared.fault.ClusterFault.{ClusterFault}
 use Rattle.cx_edge.specs.Sink.{AppendsPart}
-use Rattle.cx_model.specs.World.{World, run_from}
+use Rattle.cx_model.specs.World.{World, run, run_from, start}
 use Rattle.cx_replay.specs.Heard.{Nothing, Lines}
 use Rattle.cx_replay.specs.Input.{input_of, lines}
-use Rattle.cx_replay.specs.Replay.{summary, trace}
+use Rattle.cx_replay.specs.Replay.{summary, text_of, trace, ComesOfReplay, Replayed}
 use Rattle.cx_replay.specs.declared.header.HeaderEnd.{HeaderEnd}
 use Rattle.cx_replay.specs.declared.header.HeaderEnd.TheVariants as header
 use Rattle.cx_replay.specs.declared.header.Joined.{Joined}
 use Rattle.cx_replay.specs.declared.header.Joined.TheVariants as joined
+use Rattle.cx_replay.specs.declared.running.LinesEnd.{LinesEnd}
+use Rattle.cx_replay.specs.declared.running.LinesEnd.TheVariants as end
 use Rattle.cx_script.specs.Header.{is_rule, header_of}
 use Rattle.cx_script.specs.Lines.{with_line, spelled_from, schedule_of}
 use Rattle.cx_script.specs.Unended.{whole_lines}
@@ -70,38 +72,69 @@ Spells c n line event = (later : List (List ℕ)) → spelled_from c n (line ∷
 abbrev pub IsBadAt : Cluster → ℕ → List ℕ → Type 0
 IsBadAt c n line = (later : List (List ℕ)) → spelled_from c n (line ∷ later) ≡ record { events = []; bad = Some n }
 
--- the line was run: the world made its event's step, whose text was written
-pub record RanLine (c : Cluster) (n : ℕ) (line : List ℕ) (old new : WorldState) (out out_after : Option (List ℕ)) (writes writes_after : ℕ) : Type 0 where
+-- the line was run: the world made its event's step, whose text was put after what was printed before
+pub record RanLine (c : Cluster) (n : ℕ) (line : List ℕ) (old new : WorldState) (text text_after : List ℕ) : Type 0 where
   pub event : Option Event
   pub spells : Spells c n line event
   pub counted : n ≤ 65535
   pub world : new ≡ record { world = run_from old.world (option_to_list event); spent = false }
-  pub written : Appends out out_after (trace old.world (option_to_list event))
-  pub still : writes_after ≡ writes
+  pub printed : text_after ≡ text ++ trace old.world (option_to_list event)
 
--- a part of its text was written
-pub record RanPart (c : Cluster) (n : ℕ) (line : List ℕ) (w : World) (out out_after : Option (List ℕ)) : Type 0 where
-  pub event : Option Event
-  pub spells : Spells c n line event
-  pub written : AppendsPart out out_after (trace w (option_to_list event))
+-- why a replay stops in the n-th line
+abbrev pub StopsIn : Cluster → ℕ → List ℕ → Status → Type 0
+StopsIn c n line (status.BadInput at) = (at ≡ n) × IsBadAt c n line
+StopsIn c n line status.NoMemory = Unit {0}
+StopsIn c n line status.Done = ⊥
+StopsIn c n line status.BadWords = ⊥
+StopsIn c n line status.ReadFault = ⊥
+StopsIn c n line status.WriteFault = ⊥
+StopsIn c n line status.LinkFault = ⊥
+StopsIn c n line (status.StoreFault role) = ⊥
+StopsIn c n line status.Turns = ⊥
+StopsIn c n line (status.BadStore role at) = ⊥
 
--- why a replay stops in the n-th line, and what was written of it
-abbrev pub StopsIn : Cluster → ℕ → List ℕ → World → Option (List ℕ) → Option (List ℕ) → ℕ → ℕ → Status → Type 0
-StopsIn c n line w out out_after writes writes_after (status.BadInput at) = (at ≡ n) × IsBadAt c n line × Appends out out_after [] × (writes_after ≡ writes)
-StopsIn c n line w out out_after writes writes_after status.WriteFault = RanPart c n line w out out_after × Rises writes writes_after
-StopsIn c n line w out out_after writes writes_after status.NoMemory = RanPart c n line w out out_after × (writes_after ≡ writes)
-StopsIn c n line w out out_after writes writes_after status.Done = ⊥
-StopsIn c n line w out out_after writes writes_after status.BadWords = ⊥
-StopsIn c n line w out out_after writes writes_after status.ReadFault = ⊥
-StopsIn c n line w out out_after writes writes_after status.LinkFault = ⊥
-StopsIn c n line w out out_after writes writes_after (status.StoreFault role) = ⊥
-StopsIn c n line w out out_after writes writes_after status.Turns = ⊥
-StopsIn c n line w out out_after writes writes_after (status.BadStore role at) = ⊥
+-- the result of running the n-th line, which prints nothing where it stops the replay
+abbrev pub RunsLine : Cluster → ℕ → List ℕ → WorldState → WorldState → List ℕ → List ℕ
+    → Result (Unit {0}) Status → Type 0
+RunsLine c n line old new text text_after (Ok done) = RanLine c n line old new text text_after
+RunsLine c n line old new text text_after (Err s) = (text_after ≡ text) × StopsIn c n line s
 
--- the result of running the n-th line
-abbrev pub RunsLine : Cluster → ℕ → List ℕ → WorldState → WorldState → Option (List ℕ) → Option (List ℕ) → ℕ → ℕ → Result (Unit {0}) Status → Type 0
-RunsLine c n line old new out out_after writes writes_after (Ok done) = RanLine c n line old new out out_after writes writes_after
-RunsLine c n line old new out out_after writes writes_after (Err s) = StopsIn c n line old.world out out_after writes writes_after s
+-- the front of a text was written, and this is left of it; or a write failed in it
+abbrev pub WritesFront : List ℕ → List ℕ → Option (List ℕ) → Option (List ℕ) → Bool → Type 0
+WritesFront text rest out out_after true =
+    (front : List ℕ) × (front ++ rest ≡ text) × Appends out out_after front
+WritesFront text rest out out_after false = AppendsPart out out_after text
+
+-- the input was read to its end, no line is bad, all events were run, and their trace was written
+pub record AtEnd (c : Cluster) (left now : Option (List ℕ)) (w : World) (old out : Option (List ℕ)) : Type 0 where
+  pub es : List Event
+  pub input : IfSome left (λ all. input_of all ≡ Lines c (record { events = es; bad = None }))
+  pub at_end : IsAtEnd now
+  pub world : w ≡ run c es
+  pub written : Appends old out (trace (start c) es)
+
+-- what holds once the text that is left was written too; and where a part of it was, a part of the whole text was
+pub record Leaves (left old out : Option (List ℕ)) (text : List ℕ) (Holds : Option (List ℕ) → Type 0) : Type 0 where
+  pub whole : (last : Option (List ℕ)) → Appends out last text → Holds last
+  pub part : (last : Option (List ℕ)) → AppendsPart out last text
+      → IfSome left (λ all. AppendsPart old last (text_of (input_of all)))
+
+-- the result of running lines: this text is printed and not yet written
+abbrev pub RunsLines : Cluster → Option (List ℕ) → Option (List ℕ) → ℕ → ℕ → Option (List ℕ) → Option (List ℕ) → List ℕ
+    → ℕ → ℕ → World → LinesEnd → Type 0
+RunsLines c left now reads reads_after old out text writes writes_after w end.Whole =
+    (reads_after ≡ reads) × (writes_after ≡ writes) × Leaves left old out text (λ last. AtEnd c left now w old last)
+RunsLines c left now reads reads_after old out text writes writes_after w (end.Stopped s) =
+    (writes_after ≡ writes)
+    × Leaves left old out text (λ last. Replayed left now reads reads_after old last writes writes_after s)
+RunsLines c left now reads reads_after old out text writes writes_after w end.WriteFault =
+    Rises writes writes_after × IfSome left (λ all. AppendsPart old out (text_of (input_of all)))
+
+-- it stops with no other status than a replay ends with
+abbrev pub ComesOfLines : LinesEnd → Type 0
+ComesOfLines end.Whole = Unit {0}
+ComesOfLines (end.Stopped s) = ComesOfReplay s
+ComesOfLines end.WriteFault = Unit {0}
 
 -- why a text isn't written whole
 abbrev pub StopsWriting : ℕ → ℕ → Status → Type 0

@@ -42,7 +42,8 @@ fn gen_into(alloc: Global, seed: u64, count: u64, text: &mut Vec<u8>) -> Result<
 /// answer is `Done`, or that memory ran out. The run is lawful.
 pub fn run_gen<W: Sink>(alloc: Global, seed: u64, count: u64, out: &mut W) -> Status
     ensures comes { ComesOfGen result }
-    ensures generated { Generated seed count (W.taken out.old) (W.taken out.new) (W.faults out.old) (W.faults out.new) result }
+    ensures generated { Generated seed count (W.taken out.old) (W.taken out.new) (W.faults out.old)
+        (W.faults out.new) result }
     ensures complete { GenCompletes (W.faults out.old) (W.faults out.new) result }
     ensures lawful { IsLawfulGenerated seed count }
 {

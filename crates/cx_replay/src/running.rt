@@ -1,70 +1,45 @@
 //! The lines after a header are run, one by one.
 
-ghost use Rattle.std.specs.Prelude.{◌≡◌, ℕ, Option, List, IsTrue, false};
-ghost use Rattle.std.specs.Io.KnownBytes.{Appends};
-ghost use Rattle.cx_base.specs.Asked.{is_valid_event};
+ghost use Rattle.std.specs.Prelude.{◌≡◌, ◌==◌, ℕ, Option, List, [], true, false};
+ghost use Rattle.std.specs.List.{list_any};
 ghost use Rattle.cx_base.specs.Faults.{Rises};
-ghost use Rattle.cx_edge.specs.Sink.{AppendsPart};
-ghost use Rattle.cx_model.specs.World.{start, step};
-ghost use Rattle.cx_replay.specs.declared.running.RunEnd.TheVariants as end;
-ghost use Rattle.cx_replay.specs.Replay.{ComesOfReplay, Replayed, step_text};
-ghost use Rattle.cx_replay.specs.Streamed.{RunsLine, StandsBehind, Sums};
+ghost use Rattle.cx_model.specs.World.{start};
+ghost use Rattle.cx_replay.specs.Replay.{ComesOfReplay, Replayed};
+ghost use Rattle.cx_replay.specs.Streamed.{ComesOfLines, RunsLine, RunsLines, StandsBehind, Sums, WritesFront};
 
 use crate::step::step_into;
 use crate::summing::write_summary;
-use cx_base::{Cluster, Event, MAX_LINE_LENGTH, MAX_LINES, NoMemory, Status};
+use cx_base::{Cluster, MAX_LINE_LENGTH, MAX_LINES, NoMemory, Status};
 use cx_edge::{Lines, Next, Sink, Source, write_all};
 use cx_script::{line, spelled_events_are_taken};
 use cx_world::World;
 use std::alloc::Global;
 
-/// The result of running an event.
+// What events print is written when it has reached this many bytes.
+const GATHERED: usize = 4096;
+
+/// How far lines were run.
 #[derive(Clone, Copy)]
-pub enum RunEnd {
-    Done,
+pub enum LinesEnd {
+    /// To the end of the input.
+    Whole,
+    /// Up to what this status says; nothing is written after what was printed before.
+    Stopped(Status),
+    /// Up to a failed write.
     WriteFault,
-    NoMemory,
 }
 
-// Makes the step of an event, and writes its lines. The text holds them on their way: its memory serves all events.
-fn run_event<W: Sink>(
-    alloc: Global,
-    event: &Event,
-    world: &mut World,
-    text: &mut Vec<u8>,
-    out: &mut W,
-) -> RunEnd
-    requires fresh { world.old.spent ≡ false }
-    requires taken { IsTrue (is_valid_event event.now) }
-    ensures world { result ≡ end.Done → world.new ≡ record { world = step world.old.world event.now; spent = false } }
-    ensures done { result ≡ end.Done → Appends (W.taken out.old) (W.taken out.new) (step_text world.old.world event.now) }
-    ensures part { AppendsPart (W.taken out.old) (W.taken out.new) (step_text world.old.world event.now) }
-    ensures cause { result ≡ end.WriteFault → Rises (W.faults out.old) (W.faults out.new) }
-    ensures still { (result ≡ end.WriteFault → ⊥) → W.faults out.new ≡ W.faults out.old }
-{
-    text.clear();
-    match step_into(alloc, world, event, text) {
-        Ok(()) => {}
-        Err(NoMemory) => return RunEnd::NoMemory,
-    }
-    if !write_all(out, text) {
-        return RunEnd::WriteFault;
-    }
-    RunEnd::Done
-}
-
-// Runs the line with this number.
-fn run_line<W: Sink>(
+// Runs the line with this number, and puts what it prints at the end of a text.
+fn run_line(
     alloc: Global,
     cluster: &Cluster,
     number: u64,
     spelled: &[u8],
     world: &mut World,
     text: &mut Vec<u8>,
-    out: &mut W,
 ) -> Result<(), Status>
     requires fresh { world.old.spent ≡ false }
-    ensures { RunsLine cluster.now number spelled.now world.old world.new (W.taken out.old) (W.taken out.new) (W.faults out.old) (W.faults out.new) result }
+    ensures { RunsLine cluster.now number spelled.now world.old world.new text.old.items text.new.items result }
 {
     spelled_events_are_taken();
     if number > MAX_LINES {
@@ -76,11 +51,28 @@ fn run_line<W: Sink>(
     let Some(event) = event else {
         return Ok(());
     };
-    match run_event(alloc, &event, world, text, out) {
-        RunEnd::Done => Ok(()),
-        RunEnd::WriteFault => Err(Status::WriteFault),
-        RunEnd::NoMemory => Err(Status::NoMemory),
+    match step_into(alloc, world, &event, text) {
+        Ok(()) => Ok(()),
+        Err(NoMemory) => Err(Status::NoMemory),
     }
+}
+
+// Writes what was printed where it is enough, and all of it where the next line has to be read, so that who types lines
+// sees what each of them prints before the next.
+fn write_printed<W: Sink>(lines: &Lines, text: &mut Vec<u8>, out: &mut W) -> bool
+    ensures front { WritesFront text.old.items text.new.items (W.taken out.old) (W.taken out.new) result }
+    ensures none_left { result ≡ true → list_any (λ b. b == 10) lines.now.held ≡ false → text.new.items ≡ [] }
+    ensures cause { result ≡ false → Rises (W.faults out.old) (W.faults out.new) }
+    ensures still { result ≡ true → W.faults out.new ≡ W.faults out.old }
+{
+    if text.len() < GATHERED && lines.has_line() {
+        return true;
+    }
+    if !write_all(out, text) {
+        return false;
+    }
+    text.clear();
+    true
 }
 
 // Writes the summary of the whole run.
@@ -103,7 +95,85 @@ pub fn run_none<W: Sink>(alloc: Global, cluster: Cluster, out: &mut W) -> Status
     }
 }
 
-/// Reads the lines after a header, runs each of them as it comes, and writes its text, and the summary at the end.
+// Reads the lines after a header, runs each of them as it comes, and writes what it prints but for the end, which the text
+// holds.
+fn run_each<S: Source, W: Sink>(
+    alloc: Global,
+    cluster: &Cluster,
+    lines: &mut Lines,
+    input: &mut S,
+    world: &mut World,
+    text: &mut Vec<u8>,
+    out: &mut W,
+) -> LinesEnd
+    requires fresh { world.old ≡ record { world = start cluster.now; spent = false } }
+    requires none { text.old.items ≡ [] }
+    ensures comes { ComesOfLines result }
+    ensures runs { (left : Option (List ℕ)) → StandsBehind left (S.left input.old) lines.old.held cluster.now
+        → RunsLines cluster.now left (S.left input.new) (S.faults input.old) (S.faults input.new) (W.taken out.old)
+        (W.taken out.new) text.new.items (W.faults out.old) (W.faults out.new) world.new.world result }
+{
+    let mut number = 0;
+    loop {
+        number += 1;
+        match lines.next(input, MAX_LINE_LENGTH) {
+            Next::Line => {
+                let next = lines.text();
+                if let Err(status) = run_line(alloc, cluster, number, next, world, text) {
+                    return LinesEnd::Stopped(status);
+                }
+                if !write_printed(lines, text, out) {
+                    return LinesEnd::WriteFault;
+                }
+            }
+            Next::Last => {
+                let last = lines.text();
+                if let Err(status) = run_line(alloc, cluster, number, last, world, text) {
+                    return LinesEnd::Stopped(status);
+                }
+                return LinesEnd::Whole;
+            }
+            Next::End => return LinesEnd::Whole,
+            Next::Long => return LinesEnd::Stopped(Status::BadInput { line: number }),
+            Next::Failed => return LinesEnd::Stopped(Status::ReadFault),
+        }
+    }
+}
+
+// Runs the lines after a header in a world without events, and writes what they print, and the summary at the end.
+fn run_world<S: Source, W: Sink>(
+    alloc: Global,
+    cluster: &Cluster,
+    lines: &mut Lines,
+    input: &mut S,
+    world: &mut World,
+    out: &mut W,
+) -> Status
+    requires fresh { world.old ≡ record { world = start cluster.now; spent = false } }
+    ensures comes { ComesOfReplay result }
+    ensures replayed { (left : Option (List ℕ)) → StandsBehind left (S.left input.old) lines.old.held cluster.now
+        → Replayed left (S.left input.new) (S.faults input.old) (S.faults input.new)
+        (W.taken out.old) (W.taken out.new) (W.faults out.old) (W.faults out.new) result }
+{
+    let mut text = Vec::new(alloc);
+    match run_each(alloc, cluster, lines, input, world, &mut text, out) {
+        LinesEnd::Whole => {
+            if !write_all(out, &text) {
+                return Status::WriteFault;
+            }
+            sum(alloc, world, out)
+        }
+        LinesEnd::Stopped(status) => {
+            if !write_all(out, &text) {
+                return Status::WriteFault;
+            }
+            status
+        }
+        LinesEnd::WriteFault => Status::WriteFault,
+    }
+}
+
+/// Reads the lines after a header, runs each of them as it comes, and writes what they print, and the summary at the end.
 pub fn run_lines<S: Source, W: Sink>(
     alloc: Global,
     cluster: Cluster,
@@ -113,37 +183,11 @@ pub fn run_lines<S: Source, W: Sink>(
 ) -> Status
     ensures comes { ComesOfReplay result }
     ensures replayed { (left : Option (List ℕ)) → StandsBehind left (S.left input.old) lines.old.held cluster
-        → Replayed left (S.left input.new) (S.faults input.old) (S.faults input.new) (W.taken out.old) (W.taken out.new) (W.faults out.old) (W.faults out.new) result }
+        → Replayed left (S.left input.new) (S.faults input.old) (S.faults input.new)
+        (W.taken out.old) (W.taken out.new) (W.faults out.old) (W.faults out.new) result }
 {
-    let mut world = match World::new(alloc, cluster) {
-        Ok(world) => world,
-        Err(NoMemory) => return Status::NoMemory,
-    };
-    let mut text = Vec::new(alloc);
-    let mut number = 0;
-    loop {
-        number += 1;
-        match lines.next(input, MAX_LINE_LENGTH) {
-            Next::Line => {
-                let next = lines.text();
-                if let Err(status) = run_line(
-                    alloc, &cluster, number, next, &mut world, &mut text, out,
-                ) {
-                    return status;
-                }
-            }
-            Next::Last => {
-                let last = lines.text();
-                if let Err(status) = run_line(
-                    alloc, &cluster, number, last, &mut world, &mut text, out,
-                ) {
-                    return status;
-                }
-                return sum(alloc, &world, out);
-            }
-            Next::End => return sum(alloc, &world, out),
-            Next::Long => return Status::BadInput { line: number },
-            Next::Failed => return Status::ReadFault,
-        }
+    match World::new(alloc, cluster) {
+        Ok(mut world) => run_world(alloc, &cluster, lines, input, &mut world, out),
+        Err(NoMemory) => Status::NoMemory,
     }
 }

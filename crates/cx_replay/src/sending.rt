@@ -1,6 +1,6 @@
 //! The lines of the datagrams that were sent.
 
-ghost use Rattle.std.specs.Prelude.{◌≡◌, ◌++◌, OnOk, drop, slice_get};
+ghost use Rattle.std.specs.Prelude.{◌≡◌, ◌++◌, OnErr, OnOk, drop, length, slice_get, take};
 ghost use Rattle.cx_replay.specs.Sending.{line_text};
 ghost use Rattle.cx_trace.specs.Trace.{datagrams_text};
 
@@ -12,7 +12,8 @@ use std::alloc::Global;
 
 // Appends the line of the datagram of a number, and nothing where it wasn't sent.
 fn line_into(alloc: Global, sent: &Sent, number: u64, text: &mut Vec<u8>) -> Result<(), NoMemory>
-    ensures { OnOk result (text.new.items ≡ text.old.items ++ line_text number (slice_get sent.now number)) }
+    ensures ok { OnOk result (text.new.items ≡ text.old.items ++ line_text number (slice_get sent.now number)) }
+    ensures err { OnErr result (text.new.items ≡ text.old.items) }
 {
     match sent.spelled(number)? {
         None => Ok(()),
@@ -27,7 +28,8 @@ pub fn lines_into(
     first: u64,
     text: &mut Vec<u8>,
 ) -> Result<(), NoMemory>
-    ensures { OnOk result (text.new.items ≡ text.old.items ++ datagrams_text first (drop first sent.now)) }
+    ensures ok { OnOk result (text.new.items ≡ text.old.items ++ datagrams_text first (drop first sent.now)) }
+    ensures err { OnErr result (take (length text.old.items) text.new.items ≡ text.old.items) }
 {
     for number in first..sent.len() {
         line_into(alloc, sent, number, text)?;

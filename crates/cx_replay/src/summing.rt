@@ -19,7 +19,9 @@ use std::alloc::Global;
 
 // Writes the lines that were put into a text, where there was memory for them.
 fn write_put<W: Sink>(put: Result<(), NoMemory>, text: &[u8], out: &mut W) -> Result<(), Status>
-    ensures written { (lines : List ℕ) → OnOk put (text.now ≡ lines) → WritesText lines (W.taken out.old) (W.taken out.new) (W.faults out.old) (W.faults out.new) result }
+    ensures written { (lines : List ℕ) → OnOk put (text.now ≡ lines)
+        → WritesText lines (W.taken out.old) (W.taken out.new) (W.faults out.old)
+        (W.faults out.new) result }
     ensures put { OnOk result (IsOk put) }
 {
     match put {
@@ -39,8 +41,10 @@ fn slot_lines(
     before: &mut Executed,
     text: &mut Vec<u8>,
 ) -> Result<(), NoMemory>
-    ensures text { (value : Value) → slice_get chosen.now slot ≡ Some value → OnOk result (text.new.items ≡ slot_text slot before.old value) }
-    ensures before { (value : Value) → slice_get chosen.now slot ≡ Some value → OnOk result (before.new ≡ before.old ++ commands_of value) }
+    ensures text { (value : Value) → slice_get chosen.now slot ≡ Some value
+        → OnOk result (text.new.items ≡ slot_text slot before.old value) }
+    ensures before { (value : Value) → slice_get chosen.now slot ≡ Some value
+        → OnOk result (before.new ≡ before.old ++ commands_of value) }
 {
     text.clear();
     if let Some(value) = chosen.get(slot)? {
@@ -56,7 +60,8 @@ fn write_slots<W: Sink>(
     text: &mut Vec<u8>,
     out: &mut W,
 ) -> Result<(), Status>
-    ensures { WritesText (slots_text 0 [] chosen.now) (W.taken out.old) (W.taken out.new) (W.faults out.old) (W.faults out.new) result }
+    ensures { WritesText (slots_text 0 [] chosen.now) (W.taken out.old) (W.taken out.new)
+        (W.faults out.old) (W.faults out.new) result }
 {
     let mut before = Executed::new(alloc);
     for slot in 0..chosen.len() {
@@ -80,7 +85,9 @@ fn replica_line(world: &World, replica: u16, text: &mut Vec<u8>) -> Result<(), N
 
 // Writes the lines of the replicas, in order.
 fn write_replicas<W: Sink>(world: &World, text: &mut Vec<u8>, out: &mut W) -> Result<(), Status>
-    ensures { WritesText (replicas_text 0 (map (λ p. folded_of p world.now.world.kept) (below world.now.world.cluster.replicas))) (W.taken out.old) (W.taken out.new) (W.faults out.old) (W.faults out.new) result }
+    ensures { WritesText (replicas_text 0
+        (map (λ p. folded_of p world.now.world.kept) (below world.now.world.cluster.replicas)))
+        (W.taken out.old) (W.taken out.new) (W.faults out.old) (W.faults out.new) result }
 {
     for replica in 0..world.cluster().replicas {
         let put = replica_line(world, replica, text);
@@ -93,7 +100,8 @@ fn write_replicas<W: Sink>(world: &World, text: &mut Vec<u8>, out: &mut W) -> Re
 
 /// Writes the summary of a run.
 pub fn write_summary<W: Sink>(alloc: Global, world: &World, out: &mut W) -> Result<(), Status>
-    ensures { WritesText (summary world.now.world) (W.taken out.old) (W.taken out.new) (W.faults out.old) (W.faults out.new) result }
+    ensures { WritesText (summary world.now.world) (W.taken out.old) (W.taken out.new)
+        (W.faults out.old) (W.faults out.new) result }
 {
     let chosen = match world.chosen_prefix() {
         Ok(chosen) => chosen,
