@@ -18,7 +18,8 @@ fn write<E: Sink>(err: &mut E, text: &[u8])
 
 // Writes a text in parts, up to a write that fails.
 fn write_parts<E: Sink>(err: &mut E, parts: &[&[u8]])
-    ensures { Says (E.taken err.old) (E.taken err.new) (E.faults err.old) (E.faults err.new) (concat (map (λ part. part.now) parts.now)) }
+    ensures { Says (E.taken err.old) (E.taken err.new) (E.faults err.old) (E.faults err.new)
+        (concat (map (λ part. part.now) parts.now)) }
 {
     for part in parts {
         if !write_all(err, part) {

@@ -85,7 +85,8 @@ fn role_of(word: &str) -> Option<RoleId>
 
 // The roles of words that each name one, none where a word names none.
 fn all_roles(alloc: Global, words: &[&str]) -> Result<Option<Vec<RoleId>>, AllocError>
-    ensures { IfOk result (λ roles. option_map (λ list. list.items) roles ≡ all_roles (map (λ word. word.now) words.now)) }
+    ensures { IfOk result (λ roles. option_map (λ list. list.items) roles
+        ≡ all_roles (map (λ word. word.now) words.now)) }
 {
     let mut roles = Vec::new(alloc);
     for word in words {
@@ -129,7 +130,8 @@ impl Roles {
     #[tactic(auto, using(crate::proofs::Once::at_one_place))]
     pub fn as_slice(&self) -> &[RoleId]
         ensures items { result.now ≡ self.now }
-        ensures distinct { (i j : ℕ) (me : RoleId) → slice_get self.now i ≡ Some me → slice_get self.now j ≡ Some me → i ≡ j }
+        ensures distinct { (i j : ℕ) (me : RoleId) → slice_get self.now i ≡ Some me
+            → slice_get self.now j ≡ Some me → i ≡ j }
     {
         self.list.as_slice()
     }

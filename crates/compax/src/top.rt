@@ -26,8 +26,8 @@ fn answer<S: Source, W: Sink, L: Link, D: Depot>(
 ) -> Status
     requires lent { D.out depot.old ≡ [] }
     ensures answered { Answered (said (map string_bytes words.now))
-        (outside (S.left input.old) (S.faults input.old) (L.told link.old) (L.faults link.old) (W.taken out.old) (W.faults out.old) (D.tells depot.old) (D.held depot.old) (D.faults depot.old))
-        (outside (S.left input.new) (S.faults input.new) (L.told link.new) (L.faults link.new) (W.taken out.new) (W.faults out.new) (D.tells depot.new) (D.held depot.new) (D.faults depot.new)) result }
+        (outside S.Source L.Link D.Depot W.Sink input.old link.old depot.old out.old)
+        (outside S.Source L.Link D.Depot W.Sink input.new link.new depot.new out.new) result }
     ensures given_back { D.out depot.new ≡ [] }
 {
     let invocation = match said(alloc, words) {
@@ -78,8 +78,8 @@ pub fn top<S: Source, W: Sink, E: Sink, L: Link, D: Depot>(
 ) -> Status
     requires lent { D.out depot.old ≡ [] }
     ensures answered { Answered (said (map string_bytes words.now))
-        (outside (S.left input.old) (S.faults input.old) (L.told link.old) (L.faults link.old) (W.taken out.old) (W.faults out.old) (D.tells depot.old) (D.held depot.old) (D.faults depot.old))
-        (outside (S.left input.new) (S.faults input.new) (L.told link.new) (L.faults link.new) (W.taken out.new) (W.faults out.new) (D.tells depot.new) (D.held depot.new) (D.faults depot.new)) result }
+        (outside S.Source L.Link D.Depot W.Sink input.old link.old depot.old out.old)
+        (outside S.Source L.Link D.Depot W.Sink input.new link.new depot.new out.new) result }
     ensures given_back { D.out depot.new ≡ [] }
     ensures lawful { IsLawfulAnswer (said (map string_bytes words.now)) (S.left input.old) (S.left input.new) }
     ensures line { Says (E.taken err.old) (E.taken err.new) (E.faults err.old) (E.faults err.new) (line_of result) }

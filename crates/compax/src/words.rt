@@ -244,23 +244,44 @@ pub fn said(alloc: Global, words: &[String]) -> Result<Option<Invocation>, Alloc
 pub fn said_of_words_written_out()
     ensures replay { (program : List ℕ) → said (program ∷ codes "replay" ∷ []) ≡ Some Replay }
     ensures least { (program : List ℕ) → said (program ∷ codes "gen" ∷ codes "0" ∷ codes "0" ∷ []) ≡ Some (Gen 0 0) }
-    ensures most { (program : List ℕ) → said (program ∷ codes "gen" ∷ codes "18446744073709551615" ∷ codes "65535" ∷ []) ≡ Some (Gen 18446744073709551615 65535) }
-    ensures seed_above { (program : List ℕ) → said (program ∷ codes "gen" ∷ codes "18446744073709551616" ∷ codes "0" ∷ []) ≡ None }
+    ensures most { (program : List ℕ)
+        → said (program ∷ codes "gen" ∷ codes "18446744073709551615" ∷ codes "65535" ∷ [])
+        ≡ Some (Gen 18446744073709551615 65535) }
+    ensures seed_above { (program : List ℕ)
+        → said (program ∷ codes "gen" ∷ codes "18446744073709551616" ∷ codes "0" ∷ []) ≡ None }
     ensures count_above { (program : List ℕ) → said (program ∷ codes "gen" ∷ codes "0" ∷ codes "65536" ∷ []) ≡ None }
     ensures nothing { (program : List ℕ) → said (program ∷ []) ≡ None }
     ensures help { (program : List ℕ) → said (program ∷ codes "--help" ∷ []) ≡ None }
-    ensures node { (program : List ℕ) → said (program ∷ codes "node" ∷ codes "client:0" ∷ []) ≡ Some (Host 1000000 None 1 (role Client 0 ∷ [])) }
-    ensures turns { (program : List ℕ) → said (program ∷ codes "node" ∷ codes "--turns" ∷ codes "75" ∷ codes "client:0" ∷ codes "batcher:0" ∷ []) ≡ Some (Host 75 None 1 (role Client 0 ∷ role Batcher 0 ∷ [])) }
-    ensures no_turn { (program : List ℕ) → said (program ∷ codes "node" ∷ codes "--turns" ∷ codes "0" ∷ codes "client:0" ∷ []) ≡ None }
-    ensures tend { (program : List ℕ) → said (program ∷ codes "node" ∷ codes "--tend" ∷ codes "64" ∷ codes "client:0" ∷ []) ≡ Some (Host 1000000 (Some 64) 1 (role Client 0 ∷ [])) }
-    ensures most_tend { (program : List ℕ) → said (program ∷ codes "node" ∷ codes "--tend" ∷ codes "65536" ∷ codes "--turns" ∷ codes "75" ∷ codes "client:0" ∷ []) ≡ Some (Host 75 (Some 65536) 1 (role Client 0 ∷ [])) }
-    ensures tend_below { (program : List ℕ) → said (program ∷ codes "node" ∷ codes "--tend" ∷ codes "63" ∷ codes "client:0" ∷ []) ≡ None }
-    ensures tend_above { (program : List ℕ) → said (program ∷ codes "node" ∷ codes "--tend" ∷ codes "65537" ∷ codes "client:0" ∷ []) ≡ None }
-    ensures tend_twice { (program : List ℕ) → said (program ∷ codes "node" ∷ codes "--tend" ∷ codes "64" ∷ codes "--tend" ∷ codes "64" ∷ codes "client:0" ∷ []) ≡ None }
-    ensures window { (program : List ℕ) → said (program ∷ codes "node" ∷ codes "--window" ∷ codes "64" ∷ codes "client:0" ∷ []) ≡ Some (Host 1000000 None 64 (role Client 0 ∷ [])) }
-    ensures no_window { (program : List ℕ) → said (program ∷ codes "node" ∷ codes "--window" ∷ codes "0" ∷ codes "client:0" ∷ []) ≡ None }
-    ensures window_above { (program : List ℕ) → said (program ∷ codes "node" ∷ codes "--window" ∷ codes "65" ∷ codes "leader:0" ∷ []) ≡ None }
+    ensures node { (program : List ℕ) → said (program ∷ codes "node" ∷ codes "client:0" ∷ [])
+        ≡ Some (Host 1000000 None 1 (role Client 0 ∷ [])) }
+    ensures turns { (program : List ℕ)
+        → said (program ∷ codes "node" ∷ codes "--turns" ∷ codes "75" ∷ codes "client:0"
+        ∷ codes "batcher:0" ∷ []) ≡ Some (Host 75 None 1 (role Client 0 ∷ role Batcher 0 ∷ [])) }
+    ensures no_turn { (program : List ℕ)
+        → said (program ∷ codes "node" ∷ codes "--turns" ∷ codes "0" ∷ codes "client:0" ∷ []) ≡ None }
+    ensures tend { (program : List ℕ)
+        → said (program ∷ codes "node" ∷ codes "--tend" ∷ codes "64" ∷ codes "client:0" ∷ [])
+        ≡ Some (Host 1000000 (Some 64) 1 (role Client 0 ∷ [])) }
+    ensures most_tend { (program : List ℕ)
+        → said (program ∷ codes "node" ∷ codes "--tend" ∷ codes "65536" ∷ codes "--turns" ∷ codes "75"
+        ∷ codes "client:0" ∷ []) ≡ Some (Host 75 (Some 65536) 1 (role Client 0 ∷ [])) }
+    ensures tend_below { (program : List ℕ)
+        → said (program ∷ codes "node" ∷ codes "--tend" ∷ codes "63" ∷ codes "client:0" ∷ []) ≡ None }
+    ensures tend_above { (program : List ℕ)
+        → said (program ∷ codes "node" ∷ codes "--tend" ∷ codes "65537" ∷ codes "client:0"
+        ∷ []) ≡ None }
+    ensures tend_twice { (program : List ℕ)
+        → said (program ∷ codes "node" ∷ codes "--tend" ∷ codes "64" ∷ codes "--tend" ∷ codes "64"
+        ∷ codes "client:0" ∷ []) ≡ None }
+    ensures window { (program : List ℕ)
+        → said (program ∷ codes "node" ∷ codes "--window" ∷ codes "64" ∷ codes "client:0" ∷ [])
+        ≡ Some (Host 1000000 None 64 (role Client 0 ∷ [])) }
+    ensures no_window { (program : List ℕ)
+        → said (program ∷ codes "node" ∷ codes "--window" ∷ codes "0" ∷ codes "client:0" ∷ []) ≡ None }
+    ensures window_above { (program : List ℕ)
+        → said (program ∷ codes "node" ∷ codes "--window" ∷ codes "65" ∷ codes "leader:0" ∷ []) ≡ None }
     ensures no_role { (program : List ℕ) → said (program ∷ codes "node" ∷ []) ≡ None }
-    ensures twice { (program : List ℕ) → said (program ∷ codes "node" ∷ codes "client:0" ∷ codes "client:0" ∷ []) ≡ None }
+    ensures twice { (program : List ℕ)
+        → said (program ∷ codes "node" ∷ codes "client:0" ∷ codes "client:0" ∷ []) ≡ None }
     ensures misspelt { (program : List ℕ) → said (program ∷ codes "node" ∷ codes "claent:0" ∷ []) ≡ None }
 {}

@@ -9,9 +9,11 @@ use Rattle.cx_node.specs.Guest.{hosted_of}
 use Rattle.cx_node.specs.Hosted.{Step, does, given}
 
 -- what a role that the seat shows was given is what was to be done
-pub given_is : {K : Type 0} (h self : Guest K) (what : Doing) (i : Input) → h ≡ self → what ≡ Give i → given (hosted_of h) i ≡ does (hosted_of self) what
+pub given_is : {K : Type 0} (h self : Guest K) (what : Doing) (i : Input) → h ≡ self → what ≡ Give i
+    → given (hosted_of h) i ≡ does (hosted_of self) what
 unfolding does
-given_is h self what i same is = ap (λ (s : Guest _). given (hosted_of s) i) same ∙ ap (λ (w : Doing). does (hosted_of self) w) (sym is)
+given_is h self what i same is =
+    ap (λ (s : Guest _). given (hosted_of s) i) same ∙ ap (λ (w : Doing). does (hosted_of self) w) (sym is)
 
 pub sends_are : (old : Step) (new : Step) (sent : List Letter) → old ≡ new → sent ≡ old.sends → sent ≡ new.sends
 sends_are old new sent same is = is ∙ ap (λ (m : Step). m.sends) same

@@ -1,5 +1,6 @@
 -- A part of a run that was done or stopped, with what came before it, and after it.
-use Rattle.std.proofs.Common.{◌≡◌, ℕ, List, [], ◌∷◌, ◌++◌, Option, None, option_map, Result, Ok, Err, refl, sym, ap₂, ◌∙◌, subst}
+use Rattle.std.proofs.Common.{◌≡◌, ℕ, List, [], ◌∷◌, ◌++◌, Option, None, option_map, Result, Ok, Err, refl, sym, ap₂}
+use Rattle.std.proofs.Common.{◌∙◌, subst}
 use Rattle.std.proofs.KnownBytes.{Appends-nil}
 use Rattle.std.proofs.lemmas.Grind.{flat_map-append}
 use Rattle.cx_base.specs.Faults.{Rises}
@@ -30,7 +31,14 @@ pub not_failed : (e : Stop) → ◌≡◌ {A = Done} (Ok tt) (Err e) → ⊥
 not_failed e p = subst OfOk p tt
 
 pub no_blame : (a : Failures) → Blames (Ok tt) a a
-no_blame a = record { written = λ e. absurd (not_failed WriteFault e); unwritten = λ other. refl; linked = λ e. absurd (not_failed LinkFault e); unlinked = λ other. refl }
+no_blame a =
+    record {
+      written = λ e. absurd (not_failed WriteFault e);
+      unwritten = λ other. refl;
+      linked = λ e. absurd
+          (not_failed LinkFault e);
+      unlinked = λ other. refl;
+    }
 
 -- nothing was blamed before
 pub blames_then : (r : Done) (a b d : Failures) → Blames (Ok tt) a b → Blames r b d → Blames r a d
@@ -46,10 +54,15 @@ blames_then r a b d p q =
 
 -- the takes of actions, some after others
 taken_then : (ts us : Takes) (xs ys : List Action) → HasTaken ts xs → HasTaken us ys → HasTaken (ts ++ us) (xs ++ ys)
-taken_then ts us xs ys p q = (flat_map-append bound_by xs ys ∙ ap₂ (λ k l. k ++ l) p.0 q.0, flat_map-append taken_by xs ys ∙ ap₂ (λ k l. k ++ l) p.1 q.1)
+taken_then ts us xs ys p q = (
+  flat_map-append bound_by xs ys ∙ ap₂ (λ k l. k ++ l) p.0 q.0,
+  flat_map-append taken_by xs ys
+      ∙ ap₂ (λ k l. k ++ l) p.1 q.1,
+)
 
 module _ {K : Type 0} (gives : Appending K) (c : Cluster) where
-  then_more : (ts us : Takes) (m : Moved (List Hosted)) (f : List Hosted → Moved (List Hosted)) (r : Done) (a b d : Scene K)
+  then_more : (ts us : Takes) (m : Moved (List Hosted)) (f : List Hosted → Moved (List Hosted)) (r : Done)
+      (a b d : Scene K)
       → Acts gives c ts m (Ok tt) a b → Acts gives c us (f m.next) r b d → Acts gives c (ts ++ us) (then_do m f) r a d
   then_more ts us m f (Ok u) a b d p q =
       record {
@@ -58,16 +71,34 @@ module _ {K : Type 0} (gives : Appending K) (c : Cluster) where
         ready = q.ready;
         part = tt;
       }
-  then_more ts us m f (Err e) a b d p q = record { done = tt; taken = tt; ready = tt; part = then_part gives c m.actions ((f m.next).actions) e a b d p.done.did q.part }
+  then_more ts us m f (Err e) a b d p q =
+      record {
+        done = tt;
+        taken = tt;
+        ready = tt;
+        part = then_part gives c m.actions
+            ((f m.next).actions) e a b d p.done.did q.part;
+      }
 
-  pub acts_then : (ts us : Takes) (m : Moved (List Hosted)) (f : List Hosted → Moved (List Hosted)) (r : Done) (a b d : Scene K)
-      → Acts gives c ts m (Ok tt) a b → Acts gives c us (f (hosted_in b.guests)) r b d → Acts gives c (ts ++ us) (then_do m f) r a d
-  acts_then ts us m f r a b d p q = then_more ts us m f r a b d p (subst (λ hs. Acts gives c us (f hs) r b d) p.done.hosted q)
+  pub acts_then : (ts us : Takes) (m : Moved (List Hosted)) (f : List Hosted → Moved (List Hosted)) (r : Done)
+      (a b d : Scene K)
+      → Acts gives c ts m (Ok tt) a b → Acts gives c us (f (hosted_in b.guests)) r b d
+      → Acts gives c (ts ++ us) (then_do m f) r a d
+  acts_then ts us m f r a b d p q =
+      then_more ts us m f r a b d p (subst (λ hs. Acts gives c us (f hs) r b d) p.done.hosted q)
 
   -- it stopped, and what was to come didn't
-  pub acts_before : (ts us : Takes) (m : Moved (List Hosted)) (f : List Hosted → Moved (List Hosted)) (e : Stop) (a b : Scene K)
+  pub acts_before : (ts us : Takes) (m : Moved (List Hosted)) (f : List Hosted → Moved (List Hosted)) (e : Stop)
+      (a b : Scene K)
       → Acts gives c ts m (Err e) a b → Acts gives c (ts ++ us) (then_do m f) (Err e) a b
-  acts_before ts us m f e a b p = record { done = tt; taken = tt; ready = tt; part = part_then gives c m.actions ((f m.next).actions) e a b p.part }
+  acts_before ts us m f e a b p =
+      record {
+        done = tt;
+        taken = tt;
+        ready = tt;
+        part = part_then gives c m.actions
+            ((f m.next).actions) e a b p.part;
+      }
 
   -- nothing was to be done
   pub acts_nothing : (a : Scene K) → AreReady c a.guests → Acts gives c [] (stays (hosted_in a.guests)) (Ok tt) a a
@@ -75,22 +106,48 @@ module _ {K : Type 0} (gives : Appending K) (c : Cluster) where
 
   -- memory ran out before anything was done
   pub acts_none : (ts : Takes) (m : Moved (List Hosted)) (a : Scene K) → Acts gives c ts m (Err NoMemory) a a
-  acts_none ts m a = record { done = tt; taken = tt; ready = tt; part = record { count = 0; mid = a.guests; did = did_nothing gives c a; stops = guests_rest gives a.guests } }
+  acts_none ts m a =
+      record {
+        done = tt;
+        taken = tt;
+        ready = tt;
+        part = record { count = 0; mid = a.guests; did = did_nothing gives c a; stops = guests_rest gives a.guests };
+      }
 
   -- a take failed
-  pub acts_cut : (ts : Takes) (m : Moved (List Hosted)) (a : Scene K) → Acts gives c ts (took None m) (Err LinkFault) a a
+  pub acts_cut : (ts : Takes) (m : Moved (List Hosted)) (a : Scene K)
+      → Acts gives c ts (took None m) (Err LinkFault) a a
   acts_cut ts m a =
-      record { done = tt; taken = tt; ready = tt; part = record { count = 0; mid = a.guests; did = did_nothing gives c a; stops = ((None, refl), guests_rest gives a.guests) } }
+      record {
+        done = tt;
+        taken = tt;
+        ready = tt;
+        part = record {
+          count = 0;
+          mid = a.guests;
+          did = did_nothing gives c a;
+          stops = ((None, refl), guests_rest gives a.guests);
+        };
+      }
 
   -- the link gave something at one take, or nothing
-  pub acts_took : (what : Option (List ℕ)) (gs : List (Guest K)) (link after : Option LinkHistory) (out : Option (List ℕ))
-      → after ≡ option_map (with_taken what) link → AreReady c gs → Acts gives c (what ∷ []) (took what (stays (hosted_in gs))) (Ok tt) (scene gs link out) (scene gs after out)
+  pub acts_took : (what : Option (List ℕ)) (gs : List (Guest K)) (link after : Option LinkHistory)
+      (out : Option (List ℕ))
+      → after ≡ option_map (with_taken what) link → AreReady c gs
+      → Acts gives c (what ∷ []) (took what (stays (hosted_in gs))) (Ok tt) (scene gs link out) (scene gs after out)
   acts_took what gs link after out told ready =
       let none = did_nothing gives c (scene gs link out) in
       record {
         done = record {
           hosted = refl;
-          did = record { names = refl; kept = none.kept; link = subst (Linked c (Took what ∷ []) link) (sym told) (linked_took c what link); printed = Appends-nil out };
+          did =
+              record {
+                names = refl;
+                kept = none.kept;
+                link = subst (Linked c (Took what ∷ []) link) (sym told)
+                    (linked_took c what link);
+                printed = Appends-nil out;
+              };
         };
         taken = (refl, refl);
         ready = ready;

@@ -1,5 +1,6 @@
 -- The image of a store for a role of a kind is its image for any kind.
-use Rattle.std.proofs.Common.{◌≡◌, ℕ, zero, suc, ◌+◌, ◌==◌, ◌||◌, nat_lt, Bool, true, false, List, [], ◌∷◌, length, take, drop, None, Some, Result, Ok, Err, refl, sym, ap, ◌∙◌, inl, inr, if◌then◌else◌}
+use Rattle.std.proofs.Common.{◌≡◌, ℕ, zero, suc, ◌+◌, ◌==◌, ◌||◌, nat_lt, Bool, true, false, List, [], ◌∷◌, length}
+use Rattle.std.proofs.Common.{take, drop, None, Some, Result, Ok, Err, refl, sym, ap, ◌∙◌, inl, inr, if◌then◌else◌}
 use Rattle.std.specs.Prelude.{slice_index}
 use Rattle.std.proofs.lemmas.Bool.{cases_Bool}
 use Rattle.cx_base.specs.declared.role.Kind.{Kind}
@@ -17,7 +18,8 @@ record_also : (r : Record) (i j : Image) → IsAlso i j → IsAlso (with_record 
 record_also r (Ok one) j also rs e = ap (with_record r) (also one refl) ∙ e
 record_also r (Err break) j also rs e = cc
 
-first_also : (at : ℕ) (p q : Result Record ℕ) (i j : Image) → ((r : Record) → p ≡ Ok r → q ≡ Ok r) → IsAlso i j → IsAlso (with_first at p i) (with_first at q j)
+first_also : (at : ℕ) (p q : Result Record ℕ) (i j : Image) → ((r : Record) → p ≡ Ok r → q ≡ Ok r) → IsAlso i j
+    → IsAlso (with_first at p i) (with_first at q j)
 first_also at (Ok r) q i j same also rs e = ap (λ x. with_first at x j) (same r refl) ∙ record_also r i j also rs e
 first_also at (Err place) q i j same also rs e = cc
 
@@ -25,7 +27,8 @@ if_also : (b : Bool) (i j k l : Image) → IsAlso i j → IsAlso k l → IsAlso 
 if_also true i j k l p q = p
 if_also false i j k l p q = q
 
-payload_also : (k : Kind) (payload : List ℕ) (r : Record) → payload_read (Some k) payload ≡ Ok r → payload_read None payload ≡ Ok r
+payload_also : (k : Kind) (payload : List ℕ) (r : Record) → payload_read (Some k) payload ≡ Ok r
+    → payload_read None payload ≡ Ok r
 payload_also k payload r read = elim (cases_Bool (may_keep (Some k) (slice_index payload 0))) [
   | inl may ↦ read_so None payload refl ∙ sym (read_so (Some k) payload may) ∙ read
   | inr never ↦ none (sym (refused (Some k) payload never) ∙ read)
@@ -37,29 +40,38 @@ payload_also k payload r read = elim (cases_Bool (may_keep (Some k) (slice_index
 broken_also : (p q : ℕ) → IsAlso (Err p) (Err q)
 broken_also p q rs e = cc
 
-sized_also : (k : Kind) (at : ℕ) (bytes : List ℕ) (n : ℕ) (f g : ℕ → List ℕ → Image) → ((a : ℕ) (b : List ℕ) → IsAlso (f a b) (g a b)) → IsAlso (sized (Some k) at bytes n f) (sized None at bytes n g)
+sized_also : (k : Kind) (at : ℕ) (bytes : List ℕ) (n : ℕ) (f g : ℕ → List ℕ → Image)
+    → ((a : ℕ) (b : List ℕ) → IsAlso (f a b) (g a b)) → IsAlso (sized (Some k) at bytes n f) (sized None at bytes n g)
 sized_also k at bytes n f g also =
     if_also (n == 0 || nat_lt 32768 n) _ _ _ _ (λ rs e. e)
-    (if_also (nat_lt (length bytes) (4 + n)) _ _ _ _ (broken_also (at + 4 + part_break (Some k) n (drop 4 bytes)) (at + 4 + part_break None n (drop 4 bytes)))
-    (first_also (at + 4) (payload_read (Some k) (take n (drop 4 bytes))) (payload_read None (take n (drop 4 bytes))) (f (at + (4 + n)) (drop (4 + n) bytes)) (g (at + (4 + n)) (drop (4 + n) bytes))
+    (if_also (nat_lt (length bytes) (4 + n)) _ _ _ _
+    (broken_also (at + 4 + part_break (Some k) n (drop 4 bytes)) (at + 4 + part_break None n (drop 4 bytes)))
+    (first_also (at + 4) (payload_read (Some k) (take n (drop 4 bytes))) (payload_read None (take n (drop 4 bytes)))
+    (f (at + (4 + n)) (drop (4 + n) bytes)) (g (at + (4 + n)) (drop (4 + n) bytes))
     (payload_also k (take n (drop 4 bytes))) (also (at + (4 + n)) (drop (4 + n) bytes))))
 
-framed_also : (k : Kind) (at : ℕ) (bytes : List ℕ) (f g : ℕ → List ℕ → Image) → ((a : ℕ) (b : List ℕ) → IsAlso (f a b) (g a b)) → IsAlso (framed (Some k) at bytes f) (framed None at bytes g)
+framed_also : (k : Kind) (at : ℕ) (bytes : List ℕ) (f g : ℕ → List ℕ → Image)
+    → ((a : ℕ) (b : List ℕ) → IsAlso (f a b) (g a b)) → IsAlso (framed (Some k) at bytes f) (framed None at bytes g)
 framed_also k at bytes f g also rs = elim (cases_Bool (nat_lt (length bytes) 4)) [
   | inl short ↦ rw short (λ e. e)
   | inr long ↦ rw long (λ e. search (e, sized_also k at bytes, also))
 ]
 
-image_at_also : (k : Kind) (n at : ℕ) (bytes : List ℕ) → IsAlso (image_at (Some k) n at bytes) (image_at None n at bytes)
+image_at_also : (k : Kind) (n at : ℕ) (bytes : List ℕ)
+    → IsAlso (image_at (Some k) n at bytes) (image_at None n at bytes)
 unfolding image_at
 image_at_also k zero at bytes rs e = e
 image_at_also k (suc n) at [] rs e = e
 image_at_also k (suc n) at (gate ∷ rest) rs e =
-    if_also (gate == 1) (framed (Some k) (at + 1) rest (image_at (Some k) n)) (framed None (at + 1) rest (image_at None n)) (Ok []) (Ok [])
-    (framed_also k (at + 1) rest (image_at (Some k) n) (image_at None n) (λ a b. image_at_also k n a b)) (λ rs e. e) rs e
+    if_also (gate == 1) (framed (Some k) (at + 1) rest (image_at (Some k) n))
+    (framed None (at + 1) rest (image_at None n)) (Ok []) (Ok [])
+    (framed_also k (at + 1) rest (image_at (Some k) n) (image_at None n) (λ a b. image_at_also k n a b))
+    (λ rs e. e) rs e
 
 -- what is read of a role's store is what it holds
-pub told_any : (k : Kind) (file : List ℕ) (rs : List Record) → image (Some k) file ≡ Ok rs → told_records (Some file) ≡ rs
+pub told_any : (k : Kind) (file : List ℕ) (rs : List Record) → image (Some k) file ≡ Ok rs
+    → told_records (Some file) ≡ rs
 told_any k file rs read =
-    ap records_or_none (if_also (nat_lt 1 (length file)) (image_at (Some k) (length file) 0 file) (image_at None (length file) 0 file) (Ok []) (Ok [])
+    ap records_or_none (if_also (nat_lt 1 (length file)) (image_at (Some k) (length file) 0 file)
+    (image_at None (length file) 0 file) (Ok []) (Ok [])
     (image_at_also k (length file) 0 file) (λ rs e. e) rs read)

@@ -1,5 +1,6 @@
 -- The history of a link after actions, one list of them after another.
-use Rattle.std.proofs.Common.{◌≡◌, ℕ, List, [], ◌∷◌, ◌++◌, map, filter, Option, None, Some, option_map, refl, sym, ap, ◌∙◌, append_assoc, append-nil}
+use Rattle.std.proofs.Common.{◌≡◌, ℕ, List, [], ◌∷◌, ◌++◌, map, filter, Option, None, Some, option_map, refl, sym, ap}
+use Rattle.std.proofs.Common.{◌∙◌, append_assoc, append-nil}
 use Rattle.std.proofs.lemmas.Grind.{flat_map-append}
 use Rattle.std.proofs.lemmas.List.{map-append}
 use Rattle.std.proofs.lemmas.List.Elements.{filter-append}
@@ -10,7 +11,8 @@ use Rattle.cx_edge.specs.Link.{LinkHistory, with_taken}
 use Rattle.cx_model.specs.Names.{names_role}
 use Rattle.cx_msg.specs.Letter.{Letter}
 use Rattle.cx_msg.specs.declared.input.KeptRecord.{KeptRecord}
-use Rattle.cx_node.specs.Action.{Action, Bound, Took, bound_by, bound_in, kept_in, printed_in, sent_by, sent_in, step_actions, taken_by, taken_in, with_actions}
+use Rattle.cx_node.specs.Action.{Action, Bound, Took, bound_by, bound_in, kept_in, printed_in, sent_by, sent_in}
+use Rattle.cx_node.specs.Action.{step_actions, taken_by, taken_in, with_actions}
 use Rattle.cx_node.specs.Doing.{Asks, Linked}
 use Rattle.cx_node.specs.Hosting.{with_binds}
 use Rattle.cx_node.specs.Ports.{bind_of, sending_of, sendings}
@@ -70,57 +72,83 @@ binds_printed (r ∷ rs) more = binds_printed rs more
 sendings_append : (c : Cluster) (ks ls : List Letter) → sendings c (ks ++ ls) ≡ sendings c ks ++ sendings c ls
 sendings_append c ks ls =
     ap (map (sending_of c)) (filter-append (λ (d : Letter). names_role c d.to) ks ls)
-    ∙ map-append (sending_of c) (filter (λ (d : Letter). names_role c d.to) ks) (filter (λ (d : Letter). names_role c d.to) ls)
+    ∙ map-append (sending_of c) (filter (λ (d : Letter). names_role c d.to) ks)
+    (filter (λ (d : Letter). names_role c d.to) ls)
 
 module _ (c : Cluster) where
   none_more : (h : LinkHistory) → with_actions c [] h ≡ h
   none_more h = λ i. record { binds = append-nil h.binds i; taken = append-nil h.taken i; sent = append-nil h.sent i }
 
-  actions_more : (xs ys : List Action) (h : LinkHistory) → with_actions c ys (with_actions c xs h) ≡ with_actions c (xs ++ ys) h
+  actions_more : (xs ys : List Action) (h : LinkHistory)
+      → with_actions c ys (with_actions c xs h) ≡ with_actions c (xs ++ ys) h
   actions_more xs ys h =
-      let binds : (h.binds ++ map (bind_of c) (bound_in xs)) ++ map (bind_of c) (bound_in ys) ≡ h.binds ++ map (bind_of c) (bound_in (xs ++ ys)) =
+      let binds : (h.binds ++ map (bind_of c) (bound_in xs)) ++ map (bind_of c) (bound_in ys) ≡ h.binds
+      ++ map (bind_of c) (bound_in (xs ++ ys)) =
       append_assoc h.binds (map (bind_of c) (bound_in xs)) (map (bind_of c) (bound_in ys))
-      ∙ ap (λ l. h.binds ++ l) (sym (map-append (bind_of c) (bound_in xs) (bound_in ys)) ∙ ap (map (bind_of c)) (sym (flat_map-append bound_by xs ys))) in
+      ∙ ap (λ l. h.binds ++ l) (sym (map-append (bind_of c) (bound_in xs) (bound_in ys))
+      ∙ ap (map (bind_of c)) (sym (flat_map-append bound_by xs ys))) in
       let taken : (h.taken ++ taken_in xs) ++ taken_in ys ≡ h.taken ++ taken_in (xs ++ ys) =
-      append_assoc h.taken (taken_in xs) (taken_in ys) ∙ ap (λ l. h.taken ++ l) (sym (flat_map-append taken_by xs ys)) in
-      let sent : (h.sent ++ sendings c (sent_in xs)) ++ sendings c (sent_in ys) ≡ h.sent ++ sendings c (sent_in (xs ++ ys)) =
+      append_assoc h.taken (taken_in xs) (taken_in ys)
+      ∙ ap (λ l. h.taken ++ l) (sym (flat_map-append taken_by xs ys)) in
+      let sent : (h.sent ++ sendings c (sent_in xs)) ++ sendings c (sent_in ys) ≡ h.sent
+      ++ sendings c (sent_in (xs ++ ys)) =
       append_assoc h.sent (sendings c (sent_in xs)) (sendings c (sent_in ys))
-      ∙ ap (λ l. h.sent ++ l) (sym (sendings_append c (sent_in xs) (sent_in ys)) ∙ ap (sendings c) (sym (flat_map-append sent_by xs ys))) in
+      ∙ ap (λ l. h.sent ++ l) (sym (sendings_append c (sent_in xs) (sent_in ys))
+      ∙ ap (sendings c) (sym (flat_map-append sent_by xs ys))) in
       λ i. record { binds = binds i; taken = taken i; sent = sent i }
 
   pub linked_nothing : (a : Option LinkHistory) → Linked c [] a a
   linked_nothing a = λ h e. (h, e, sym (none_more h))
 
-  pub linked_then : (xs ys : List Action) (a b d : Option LinkHistory) → Linked c xs a b → Linked c ys b d → Linked c (xs ++ ys) a d
+  pub linked_then : (xs ys : List Action) (a b d : Option LinkHistory) → Linked c xs a b → Linked c ys b d
+      → Linked c (xs ++ ys) a d
   linked_then xs ys a b d p q = λ after e.
       let two = q after e in
       let one = p two.0 two.1 in
       (one.0, one.1, two.2 ∙ ap (with_actions c ys) one.2 ∙ actions_more xs ys one.0)
 
   took_more : (what : Option (List ℕ)) (h : LinkHistory) → with_taken what h ≡ with_actions c (Took what ∷ []) h
-  took_more what h = λ i. record { binds = sym (append-nil h.binds) i; taken = h.taken ++ what ∷ []; sent = sym (append-nil h.sent) i }
+  took_more what h =
+      λ i. record {
+        binds = sym (append-nil h.binds) i;
+        taken = h.taken
+            ++ what ∷ [];
+        sent = sym (append-nil h.sent) i;
+      }
 
-  pub linked_took : (what : Option (List ℕ)) (a : Option LinkHistory) → Linked c (Took what ∷ []) a (option_map (with_taken what) a)
+  pub linked_took : (what : Option (List ℕ)) (a : Option LinkHistory)
+      → Linked c (Took what ∷ []) a (option_map (with_taken what) a)
   linked_took what None = λ after e. absurd (none-some after e)
   linked_took what (Some h) = λ after e. (h, refl, sym (same_Some (with_taken what h) after e) ∙ took_more what h)
 
   -- what a step sends
-  pub linked_step : (ks : List KeptRecord) (ls : List Letter) (bs : List ℕ) (a b : Option LinkHistory) → Asks c ls a b → Linked c (step_actions ks ls bs) a b
+  pub linked_step : (ks : List KeptRecord) (ls : List Letter) (bs : List ℕ) (a b : Option LinkHistory) → Asks c ls a b
+      → Linked c (step_actions ks ls bs) a b
   linked_step ks ls bs a b asks = λ after e.
       let one = asks after e in
       let h = one.0 in
-      let binds : h.binds ≡ h.binds ++ map (bind_of c) (bound_in (step_actions ks ls bs)) = sym (append-nil h.binds) ∙ ap (λ l. h.binds ++ map (bind_of c) l) (sym (step_bound ks ls bs)) in
-      let taken : h.taken ≡ h.taken ++ taken_in (step_actions ks ls bs) = sym (append-nil h.taken) ∙ ap (λ l. h.taken ++ l) (sym (step_taken ks ls bs)) in
-      let sent : h.sent ++ sendings c ls ≡ h.sent ++ sendings c (sent_in (step_actions ks ls bs)) = ap (λ l. h.sent ++ sendings c l) (sym (step_sent ks ls bs)) in
+      let binds : h.binds ≡ h.binds ++ map (bind_of c) (bound_in (step_actions ks ls bs)) = sym (append-nil h.binds)
+      ∙ ap (λ l. h.binds ++ map (bind_of c) l) (sym (step_bound ks ls bs)) in
+      let taken : h.taken ≡ h.taken ++ taken_in (step_actions ks ls bs) = sym (append-nil h.taken)
+      ∙ ap (λ l. h.taken ++ l) (sym (step_taken ks ls bs)) in
+      let sent : h.sent ++ sendings c ls ≡ h.sent ++ sendings c (sent_in (step_actions ks ls bs)) = ap
+      (λ l. h.sent ++ sendings c l) (sym (step_sent ks ls bs)) in
       (h, one.1, one.2 ∙ (λ i. record { binds = binds i; taken = taken i; sent = sent i }))
 
-  binds_more : (rs : List RoleId) (h : LinkHistory) → with_binds (map (bind_of c) rs) h ≡ with_actions c (map Bound rs) h
+  binds_more : (rs : List RoleId) (h : LinkHistory) → with_binds (map (bind_of c) rs) h ≡ with_actions c
+      (map Bound rs) h
   binds_more rs h =
-      let binds : h.binds ++ map (bind_of c) rs ≡ h.binds ++ map (bind_of c) (bound_in (map Bound rs)) = ap (λ l. h.binds ++ map (bind_of c) l) (sym (binds_bound rs)) in
-      let taken : h.taken ≡ h.taken ++ taken_in (map Bound rs) = sym (append-nil h.taken) ∙ ap (λ l. h.taken ++ l) (sym (binds_taken rs)) in
-      let sent : h.sent ≡ h.sent ++ sendings c (sent_in (map Bound rs)) = sym (append-nil h.sent) ∙ ap (λ l. h.sent ++ sendings c l) (sym (binds_sent rs)) in
+      let binds : h.binds ++ map (bind_of c) rs ≡ h.binds
+      ++ map (bind_of c) (bound_in (map Bound rs)) = ap (λ l. h.binds ++ map (bind_of c) l)
+      (sym (binds_bound rs)) in
+      let taken : h.taken ≡ h.taken ++ taken_in (map Bound rs) = sym (append-nil h.taken)
+      ∙ ap (λ l. h.taken ++ l) (sym (binds_taken rs)) in
+      let sent : h.sent ≡ h.sent ++ sendings c (sent_in (map Bound rs)) = sym (append-nil h.sent)
+      ∙ ap (λ l. h.sent ++ sendings c l) (sym (binds_sent rs)) in
       λ i. record { binds = binds i; taken = taken i; sent = sent i }
 
-  pub linked_binds : (rs : List RoleId) (a b : Option LinkHistory) → b ≡ option_map (with_binds (map (bind_of c) rs)) a → Linked c (map Bound rs) a b
+  pub linked_binds : (rs : List RoleId) (a b : Option LinkHistory)
+      → b ≡ option_map (with_binds (map (bind_of c) rs)) a → Linked c (map Bound rs) a b
   linked_binds rs None b is = λ after e. absurd (none-some after (sym is ∙ e))
-  linked_binds rs (Some h) b is = λ after e. (h, refl, sym (same_Some (with_binds (map (bind_of c) rs) h) after (sym is ∙ e)) ∙ binds_more rs h)
+  linked_binds rs (Some h) b is =
+      λ after e. (h, refl, sym (same_Some (with_binds (map (bind_of c) rs) h) after (sym is ∙ e)) ∙ binds_more rs h)

@@ -1,5 +1,6 @@
 -- What a link was asked to send, one datagram after another.
-use Rattle.std.proofs.Common.{◌≡◌, ◌∷◌, [], List, ℕ, true, Option, None, Some, option_map, Result, Ok, Err, take, sym, ◌∙◌, refl, inl, inr}
+use Rattle.std.proofs.Common.{◌≡◌, ◌∷◌, [], List, ℕ, true, Option, None, Some, option_map, Result, Ok, Err, take, sym}
+use Rattle.std.proofs.Common.{◌∙◌, refl, inl, inr}
 use Rattle.std.proofs.lemmas.Option.{same_Some}
 use Rattle.cx_base.specs.declared.cluster.Cluster.{Cluster}
 use Rattle.cx_disk.specs.declared.disk.Failed.{Failed}
@@ -9,17 +10,20 @@ use Rattle.cx_msg.specs.Letter.{Letter, spelling}
 use Rattle.cx_node.specs.Doing.{Asks, AsksPart}
 use Rattle.cx_node.specs.Ports.{port_of}
 
-asks_told : (c : Cluster) (d : Letter) (old new : Option LinkHistory) → names_role c d.to ≡ true → new ≡ option_map (with_sent d.from (port_of c d.to) (spelling d)) old → Asks c (d ∷ []) old new
+asks_told : (c : Cluster) (d : Letter) (old new : Option LinkHistory) → names_role c d.to ≡ true
+    → new ≡ option_map (with_sent d.from (port_of c d.to) (spelling d)) old → Asks c (d ∷ []) old new
 asks_told c d None new named told after is = cc
 asks_told c d (Some h) new named told after is =
     (h, refl, rw named (same_Some after (with_sent d.from (port_of c d.to) (spelling d) h) (sym is ∙ told)))
 
 -- the datagram of a role that the cluster has
-pub asks_one : (c : Cluster) (d : Letter) (old new : Option LinkHistory) (answer : Result (Unit {0}) Failed) → names_role c d.to ≡ true → Sends old new d.from (port_of c d.to) (spelling d) answer → Asks c (d ∷ []) old new
+pub asks_one : (c : Cluster) (d : Letter) (old new : Option LinkHistory) (answer : Result (Unit {0}) Failed)
+    → names_role c d.to ≡ true → Sends old new d.from (port_of c d.to) (spelling d) answer → Asks c (d ∷ []) old new
 asks_one c d old new (Ok u) named sends = asks_told c d old new named sends
 asks_one c d old new (Err e) named (inl told) = asks_told c d old new named told
 asks_one c d old new (Err e) named (inr silent) = λ after is. cc
 
 -- no more than these was asked
-pub asks_part : (c : Cluster) (letters : List Letter) (i : ℕ) (old mid new : Option LinkHistory) → Asks c (take i letters) old mid → new ≡ mid → AsksPart c letters old new
+pub asks_part : (c : Cluster) (letters : List Letter) (i : ℕ) (old mid new : Option LinkHistory)
+    → Asks c (take i letters) old mid → new ≡ mid → AsksPart c letters old new
 asks_part c letters i old mid new asks still = (i, λ after is. asks after (sym still ∙ is))

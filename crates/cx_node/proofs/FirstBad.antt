@@ -1,11 +1,13 @@
 -- The first role whose store is none of its own: opening stops at it, and it is one role, bad at one place.
-use Rattle.std.proofs.Common.{◌≡◌, ◌⊎◌, ◌<◌, ◌≤◌, ℕ, arith, true, List, length, take, get_or, Option, None, Some, Bool, Ok, Err, sym, ap, ◌∙◌, subst, inl, inr}
+use Rattle.std.proofs.Common.{◌≡◌, ◌⊎◌, ◌<◌, ◌≤◌, ℕ, arith, true, List, length, take, get_or, Option, None, Some}
+use Rattle.std.proofs.Common.{Bool, Ok, Err, sym, ap, ◌∙◌, subst, inl, inr}
 use Rattle.std.specs.Prelude.{slice_get}
 use Rattle.std.proofs.lemmas.Option.{same_Some, slice_get_cases}
 use Rattle.cx_base.specs.declared.cluster.Cluster.{Cluster}
 use Rattle.cx_base.specs.declared.event.Event.{Event}
 use Rattle.cx_base.specs.declared.role.Kind.{Kind}
-use Rattle.cx_base.specs.declared.role.Kind.TheVariants.{Client, Batcher, Leader, Proxy, Acceptor, Matchmaker, Replica, Unbatcher, Reader}
+use Rattle.cx_base.specs.declared.role.Kind.TheVariants.{Client, Batcher, Leader, Proxy, Acceptor, Matchmaker}
+use Rattle.cx_base.specs.declared.role.Kind.TheVariants.{Replica, Unbatcher, Reader}
 use Rattle.cx_base.specs.declared.role.RoleId.{RoleId}
 use Rattle.cx_journal.specs.Image.{Image}
 use Rattle.cx_journal.specs.Journal.{frames}
@@ -33,16 +35,19 @@ same_place a b e = cc
 same_records : (rs ts : List Record) → ◌≡◌ {A = Image} (Ok rs) (Ok ts) → rs ≡ ts
 same_records rs ts e = cc
 
-bad_once : {D V : Type 0} (rules : Rules D V) (c : Cluster) (me : RoleId) (file : List ℕ) (a b : ℕ) → IsBadStore rules c me file a → IsBadStore rules c me file b → a ≡ b
+bad_once : {D V : Type 0} (rules : Rules D V) (c : Cluster) (me : RoleId) (file : List ℕ) (a b : ℕ)
+    → IsBadStore rules c me file a → IsBadStore rules c me file b → a ≡ b
 bad_once rules c me file a b (inl p) (inl q) = same_place a b (sym p ∙ q)
 bad_once rules c me file a b (inl p) (inr q) = ok_is_err q.0 a (sym q.1 ∙ p)
 bad_once rules c me file a b (inr p) (inl q) = ok_is_err p.0 b (sym p.1 ∙ q)
 bad_once rules c me file a b (inr p) (inr q) =
     let records : p.0 ≡ q.0 = same_records p.0 q.0 (sym p.1 ∙ q.1) in
     let index : p.2 ≡ q.2 = same_Some p.2 q.2 (sym p.3 ∙ ap (refused rules c me) records ∙ q.3) in
-    p.4 ∙ ap (λ (rs : List Record). length (frames (payloads (take p.2 rs)))) records ∙ ap (λ (i : ℕ). length (frames (payloads (take i q.0)))) index ∙ sym q.4
+    p.4 ∙ ap (λ (rs : List Record). length (frames (payloads (take p.2 rs)))) records
+    ∙ ap (λ (i : ℕ). length (frames (payloads (take i q.0)))) index ∙ sym q.4
 
-bad_as_once : (c : Cluster) (me : RoleId) (file : List ℕ) (a b : ℕ) (k : Kind) → IsBadAs c me file a k → IsBadAs c me file b k → a ≡ b
+bad_as_once : (c : Cluster) (me : RoleId) (file : List ℕ) (a b : ℕ) (k : Kind) → IsBadAs c me file a k
+    → IsBadAs c me file b k → a ≡ b
 bad_as_once c me file a b Client p q = absurd p
 bad_as_once c me file a b Batcher p q = absurd p
 bad_as_once c me file a b Leader p q = bad_once leader_rules c me file a b p q
@@ -58,21 +63,28 @@ bad_as_once c me file a b Reader p q = absurd p
 by_order : (m n : ℕ) → (m < n) ⊎ ((m ≡ n) ⊎ (n < m))
 by_order m n = grind arith
 
-pub one_first : (roles : List RoleId) (c : Cluster) (held : RoleId → List ℕ) (role other : RoleId) (a b : ℕ) → IsFirstBad roles c held role a → IsFirstBad roles c held other b → (role ≡ other) × (a ≡ b)
+pub one_first : (roles : List RoleId) (c : Cluster) (held : RoleId → List ℕ) (role other : RoleId) (a b : ℕ)
+    → IsFirstBad roles c held role a → IsFirstBad roles c held other b → (role ≡ other) × (a ≡ b)
 one_first roles c held role other a b one two = go (by_order one.place two.place)
   where
     go : (one.place < two.place) ⊎ ((one.place ≡ two.place) ⊎ (two.place < one.place)) → (role ≡ other) × (a ≡ b)
     go (inl before) = absurd (two.first one.place role a before one.here one.bad)
     go (inr (inr behind)) = absurd (one.first two.place other b behind two.here two.bad)
     go (inr (inl place)) =
-        let same : role ≡ other = same_Some role other (sym one.here ∙ ap (slice_get roles) place ∙ two.here) in
-        (same, bad_as_once c other (held other) a b other.kind (subst (λ (r : RoleId). IsBadAs c r (held r) a r.kind) same one.bad) two.bad)
+        let same : role ≡ other = same_Some role other (sym one.here ∙ ap (slice_get roles) place ∙ two.here) in (
+          same,
+          bad_as_once c other (held other) a b other.kind
+              (subst (λ (r : RoleId). IsBadAs c r (held r) a r.kind) same one.bad) two.bad,
+        )
 
 -- ---- where opening stops
 
 -- Behind roles that were opened, one whose store is none of its own is the first.
-pub first_bad : {S : Type 0} (seen : S → Option (List ℕ)) (disk_faults : S → ℕ) (c : Cluster) (window : ℕ) (events : List Event) (tells : Bool) (held : RoleId → List ℕ) (roles : List RoleId) (guests : List (Guest (JournalState S)))
-    → AreOpened seen disk_faults c window events tells held roles guests → tells ≡ true → (role : RoleId) (at : ℕ) → slice_get roles (length guests) ≡ Some role → IsBadAs c role (held role) at role.kind
+pub first_bad : {S : Type 0} (seen : S → Option (List ℕ)) (disk_faults : S → ℕ) (c : Cluster) (window : ℕ)
+    (events : List Event) (tells : Bool) (held : RoleId → List ℕ) (roles : List RoleId)
+    (guests : List (Guest (JournalState S)))
+    → AreOpened seen disk_faults c window events tells held roles guests → tells ≡ true → (role : RoleId) (at : ℕ)
+    → slice_get roles (length guests) ≡ Some role → IsBadAs c role (held role) at role.kind
     → IsFirstBad roles c held role at
 first_bad {S} seen disk_faults c window events tells held roles guests all t role at next bad = record {
   place = length guests;
@@ -81,9 +93,12 @@ first_bad {S} seen disk_faults c window events tells held roles guests all t rol
   first = λ i other fault before there is. own i other fault before there is (slice_get_cases guests i).1;
 }
   where
-    own : (i : ℕ) (other : RoleId) (fault : ℕ) → i < length guests → slice_get roles i ≡ Some other → IsBadAs c other (held other) fault other.kind
-        → ((g : Guest (JournalState S)) × (i < length guests) × (slice_get guests i ≡ Some g) × (get_or guests i g ≡ g)) ⊎ ((length guests ≤ i) × (slice_get guests i ≡ None)) → ⊥
+    own : (i : ℕ) (other : RoleId) (fault : ℕ) → i < length guests → slice_get roles i ≡ Some other
+        → IsBadAs c other (held other) fault other.kind
+        → ((g : Guest (JournalState S)) × (i < length guests) × (slice_get guests i ≡ Some g)
+        × (get_or guests i g ≡ g)) ⊎ ((length guests ≤ i) × (slice_get guests i ≡ None)) → ⊥
     own i other fault before there is (inl g) =
         let o = all i g.0 g.2 in
-        good_opened seen disk_faults c window events tells held o.0 g.0 fault o.2 t (subst (λ (r : RoleId). IsBadAs c r (held r) fault r.kind) (same_Some other o.0 (sym there ∙ o.1)) is)
+        good_opened seen disk_faults c window events tells held o.0 g.0 fault o.2 t
+        (subst (λ (r : RoleId). IsBadAs c r (held r) fault r.kind) (same_Some other o.0 (sym there ∙ o.1)) is)
     own i other fault before there is (inr past) = absurd (omega (arith, before, past.0))

@@ -1,5 +1,6 @@
 -- The grid of the first acceptors.
-use Rattle.std.proofs.Common.{◌≡◌, ◌≤◌, ◌/◌, ◌%◌, ◌==◌, ℕ, zero, suc, Bool, true, false, List, [], ◌∷◌, take, arith, lit≤, if◌then◌else◌, refl, sym, ap, ◌∙◌, subst}
+use Rattle.std.proofs.Common.{◌≡◌, ◌≤◌, ◌/◌, ◌%◌, ◌==◌, ℕ, zero, suc, Bool, true, false, List, [], ◌∷◌, take, arith}
+use Rattle.std.proofs.Common.{lit≤, if◌then◌else◌, refl, sym, ap, ◌∙◌, subst}
 use Rattle.std.proofs.lemmas.Bool.Decides.{nat_tests}
 use Rattle.cx_base.specs.Grid.{IsGrid, Shape, make_grid}
 use Rattle.cx_base.specs.Lists.{numbers}
@@ -10,23 +11,42 @@ firsts = 0 ∷ 1 ∷ 2 ∷ 3 ∷ 4 ∷ 5 ∷ 6 ∷ 7 ∷ 8 ∷ 9 ∷ 10 ∷ 11 �
 
 first_grid_fits : (n : ℕ) → 1 ≤ n → n ≤ 16 → IsGrid (first_grid n) × (take n firsts ≡ numbers 0 n)
 first_grid_fits zero some most = let none : ⊥ = omega (arith, some) in absurd none
-first_grid_fits (suc zero) some most = (record { some_row = lit≤ tt; some_col = lit≤ tt; room = lit≤ tt; count = refl; once = refl }, refl)
-first_grid_fits (suc (suc zero)) some most = (record { some_row = lit≤ tt; some_col = lit≤ tt; room = lit≤ tt; count = refl; once = refl }, refl)
-first_grid_fits (suc (suc (suc zero))) some most = (record { some_row = lit≤ tt; some_col = lit≤ tt; room = lit≤ tt; count = refl; once = refl }, refl)
-first_grid_fits (suc (suc (suc (suc zero)))) some most = (record { some_row = lit≤ tt; some_col = lit≤ tt; room = lit≤ tt; count = refl; once = refl }, refl)
-first_grid_fits (suc (suc (suc (suc (suc zero))))) some most = (record { some_row = lit≤ tt; some_col = lit≤ tt; room = lit≤ tt; count = refl; once = refl }, refl)
-first_grid_fits (suc (suc (suc (suc (suc (suc zero)))))) some most = (record { some_row = lit≤ tt; some_col = lit≤ tt; room = lit≤ tt; count = refl; once = refl }, refl)
-first_grid_fits (suc (suc (suc (suc (suc (suc (suc zero))))))) some most = (record { some_row = lit≤ tt; some_col = lit≤ tt; room = lit≤ tt; count = refl; once = refl }, refl)
-first_grid_fits (suc (suc (suc (suc (suc (suc (suc (suc zero)))))))) some most = (record { some_row = lit≤ tt; some_col = lit≤ tt; room = lit≤ tt; count = refl; once = refl }, refl)
-first_grid_fits (suc (suc (suc (suc (suc (suc (suc (suc (suc zero))))))))) some most = (record { some_row = lit≤ tt; some_col = lit≤ tt; room = lit≤ tt; count = refl; once = refl }, refl)
-first_grid_fits (suc (suc (suc (suc (suc (suc (suc (suc (suc (suc zero)))))))))) some most = (record { some_row = lit≤ tt; some_col = lit≤ tt; room = lit≤ tt; count = refl; once = refl }, refl)
-first_grid_fits (suc (suc (suc (suc (suc (suc (suc (suc (suc (suc (suc zero))))))))))) some most = (record { some_row = lit≤ tt; some_col = lit≤ tt; room = lit≤ tt; count = refl; once = refl }, refl)
-first_grid_fits (suc (suc (suc (suc (suc (suc (suc (suc (suc (suc (suc (suc zero)))))))))))) some most = (record { some_row = lit≤ tt; some_col = lit≤ tt; room = lit≤ tt; count = refl; once = refl }, refl)
-first_grid_fits (suc (suc (suc (suc (suc (suc (suc (suc (suc (suc (suc (suc (suc zero))))))))))))) some most = (record { some_row = lit≤ tt; some_col = lit≤ tt; room = lit≤ tt; count = refl; once = refl }, refl)
-first_grid_fits (suc (suc (suc (suc (suc (suc (suc (suc (suc (suc (suc (suc (suc (suc zero)))))))))))))) some most = (record { some_row = lit≤ tt; some_col = lit≤ tt; room = lit≤ tt; count = refl; once = refl }, refl)
-first_grid_fits (suc (suc (suc (suc (suc (suc (suc (suc (suc (suc (suc (suc (suc (suc (suc zero))))))))))))))) some most = (record { some_row = lit≤ tt; some_col = lit≤ tt; room = lit≤ tt; count = refl; once = refl }, refl)
-first_grid_fits (suc (suc (suc (suc (suc (suc (suc (suc (suc (suc (suc (suc (suc (suc (suc (suc zero)))))))))))))))) some most = (record { some_row = lit≤ tt; some_col = lit≤ tt; room = lit≤ tt; count = refl; once = refl }, refl)
-first_grid_fits (suc (suc (suc (suc (suc (suc (suc (suc (suc (suc (suc (suc (suc (suc (suc (suc (suc n))))))))))))))))) some most = let none : ⊥ = omega (arith, most) in absurd none
+first_grid_fits (suc zero) some most =
+    (record { some_row = lit≤ tt; some_col = lit≤ tt; room = lit≤ tt; count = refl; once = refl }, refl)
+first_grid_fits (suc (suc zero)) some most =
+    (record { some_row = lit≤ tt; some_col = lit≤ tt; room = lit≤ tt; count = refl; once = refl }, refl)
+first_grid_fits (suc (suc (suc zero))) some most =
+    (record { some_row = lit≤ tt; some_col = lit≤ tt; room = lit≤ tt; count = refl; once = refl }, refl)
+first_grid_fits (suc (suc (suc (suc zero)))) some most =
+    (record { some_row = lit≤ tt; some_col = lit≤ tt; room = lit≤ tt; count = refl; once = refl }, refl)
+first_grid_fits (suc (suc (suc (suc (suc zero))))) some most =
+    (record { some_row = lit≤ tt; some_col = lit≤ tt; room = lit≤ tt; count = refl; once = refl }, refl)
+first_grid_fits (suc (suc (suc (suc (suc (suc zero)))))) some most =
+    (record { some_row = lit≤ tt; some_col = lit≤ tt; room = lit≤ tt; count = refl; once = refl }, refl)
+first_grid_fits (suc (suc (suc (suc (suc (suc (suc zero))))))) some most =
+    (record { some_row = lit≤ tt; some_col = lit≤ tt; room = lit≤ tt; count = refl; once = refl }, refl)
+first_grid_fits (suc (suc (suc (suc (suc (suc (suc (suc zero)))))))) some most =
+    (record { some_row = lit≤ tt; some_col = lit≤ tt; room = lit≤ tt; count = refl; once = refl }, refl)
+first_grid_fits (suc (suc (suc (suc (suc (suc (suc (suc (suc zero))))))))) some most =
+    (record { some_row = lit≤ tt; some_col = lit≤ tt; room = lit≤ tt; count = refl; once = refl }, refl)
+first_grid_fits (suc (suc (suc (suc (suc (suc (suc (suc (suc (suc zero)))))))))) some most =
+    (record { some_row = lit≤ tt; some_col = lit≤ tt; room = lit≤ tt; count = refl; once = refl }, refl)
+first_grid_fits (suc (suc (suc (suc (suc (suc (suc (suc (suc (suc (suc zero))))))))))) some most =
+    (record { some_row = lit≤ tt; some_col = lit≤ tt; room = lit≤ tt; count = refl; once = refl }, refl)
+first_grid_fits (suc (suc (suc (suc (suc (suc (suc (suc (suc (suc (suc (suc zero)))))))))))) some most =
+    (record { some_row = lit≤ tt; some_col = lit≤ tt; room = lit≤ tt; count = refl; once = refl }, refl)
+first_grid_fits (suc (suc (suc (suc (suc (suc (suc (suc (suc (suc (suc (suc (suc zero))))))))))))) some most =
+    (record { some_row = lit≤ tt; some_col = lit≤ tt; room = lit≤ tt; count = refl; once = refl }, refl)
+first_grid_fits (suc (suc (suc (suc (suc (suc (suc (suc (suc (suc (suc (suc (suc (suc zero)))))))))))))) some most =
+    (record { some_row = lit≤ tt; some_col = lit≤ tt; room = lit≤ tt; count = refl; once = refl }, refl)
+first_grid_fits (suc (suc (suc (suc (suc (suc (suc (suc (suc (suc (suc (suc (suc (suc
+    (suc zero))))))))))))))) some most =
+    (record { some_row = lit≤ tt; some_col = lit≤ tt; room = lit≤ tt; count = refl; once = refl }, refl)
+first_grid_fits (suc (suc (suc (suc (suc (suc (suc (suc (suc (suc (suc (suc (suc (suc (suc
+    (suc zero)))))))))))))))) some most =
+    (record { some_row = lit≤ tt; some_col = lit≤ tt; room = lit≤ tt; count = refl; once = refl }, refl)
+first_grid_fits (suc (suc (suc (suc (suc (suc (suc (suc (suc (suc (suc (suc (suc (suc (suc (suc
+    (suc n))))))))))))))))) some most = let none : ⊥ = omega (arith, most) in absurd none
 
 even : (n : ℕ) → n % 2 ≡ 0 → (n % 2 == 0) ≡ true
 even n h = rw h refl

@@ -41,9 +41,11 @@ live_named me (guest.Unbatcher role) = refl
 live_named me (guest.Reader role) = refl
 
 -- a seat's role that may take a step has the seat's name, and is what the seat shows
-pub own_name : {K : Type 0} (me : RoleId) (h self : Guest K) → IsNamed me h → named me h ≡ self → IsTrue (is_live (hosted_of self)) → me ≡ who h
+pub own_name : {K : Type 0} (me : RoleId) (h self : Guest K) → IsNamed me h → named me h ≡ self
+    → IsTrue (is_live (hosted_of self)) → me ≡ who h
 own_name me h self is view live =
-    is (subst (λ b. IsTrue b) (live_named me h) (subst (λ (s : Guest _). IsTrue (is_live (hosted_of s))) (sym view) live))
+    is (subst (λ b. IsTrue b) (live_named me h) (subst (λ (s : Guest _). IsTrue (is_live (hosted_of s)))
+    (sym view) live))
 
 pub is_shown : {K : Type 0} (me : RoleId) (h self : Guest K) → me ≡ who h → named me h ≡ self → h ≡ self
 is_shown me h self own view = sym (named_itself me h own) ∙ view

@@ -1,12 +1,14 @@
 -- Roles that were opened: they are who they were named to be, they may run, and what each was opened from.
-use Rattle.std.proofs.Common.{◌≡◌, ℕ, zero, suc, arith, Bool, true, false, List, [], ◌∷◌, length, map, Option, None, Some, option_map, Ok, Err, refl, sym, ap, ◌∙◌, subst, inl, inr, if◌then◌else◌}
+use Rattle.std.proofs.Common.{◌≡◌, ℕ, zero, suc, arith, Bool, true, false, List, [], ◌∷◌, length, map, Option, None}
+use Rattle.std.proofs.Common.{Some, option_map, Ok, Err, refl, sym, ap, ◌∙◌, subst, inl, inr, if◌then◌else◌}
 use Rattle.std.specs.Prelude.{slice_get, IsTrue}
 use Rattle.std.specs.List.{list_all}
 use Rattle.std.proofs.lemmas.Option.{none-some, same_Some}
 use Rattle.cx_base.specs.declared.cluster.Cluster.{Cluster}
 use Rattle.cx_base.specs.declared.event.Event.{Event}
 use Rattle.cx_base.specs.declared.role.Kind.{Kind}
-use Rattle.cx_base.specs.declared.role.Kind.TheVariants.{Client, Batcher, Leader, Proxy, Acceptor, Matchmaker, Replica, Unbatcher, Reader}
+use Rattle.cx_base.specs.declared.role.Kind.TheVariants.{Client, Batcher, Leader, Proxy, Acceptor, Matchmaker}
+use Rattle.cx_base.specs.declared.role.Kind.TheVariants.{Replica, Unbatcher, Reader}
 use Rattle.cx_base.specs.declared.role.RoleId.{RoleId}
 use Rattle.cx_base.specs.Role.{same_role}
 use Rattle.cx_inv_open.specs.Reopened.{refused_as}
@@ -24,39 +26,42 @@ use Rattle.cx_msg.specs.declared.kept.Record.{Record}
 use Rattle.cx_node.specs.declared.guest.Guest.{Guest}
 use Rattle.cx_node.specs.Guest.{AreDistinct, AreReady, hosted_in, hosted_of, keeper_of, who}
 use Rattle.cx_node.specs.Hosted.{Hosted, is_live, name_of}
-use Rattle.cx_node.specs.Opening.{AreOpened, HasJournal, HasRecords, IsBadAs, IsOpened, is_durable, opened_as}
+use Rattle.cx_node.specs.Opening.{AreApart, AreOpened, HasJournal, HasRecords, IsBadAs, IsOpened, is_durable, opened_as}
 use Rattle.cx_node.specs.Serving.{hosts, told_to}
 use Rattle.cx_node.specs.Wake.{IsBadStore}
 
 -- ---- places in two lists
 
-pub get_map : {X Y : Type 0} (f : X → Y) (xs : List X) (i : ℕ) (y : Y) → slice_get (map f xs) i ≡ Some y → (x : X) × (slice_get xs i ≡ Some x) × (y ≡ f x)
+pub get_map : {X Y : Type 0} (f : X → Y) (xs : List X) (i : ℕ) (y : Y) → slice_get (map f xs) i ≡ Some y → (x : X)
+    × (slice_get xs i ≡ Some x) × (y ≡ f x)
 get_map f [] i y e = absurd (none-some y e)
 get_map f (x ∷ xs) zero y e = (x, refl, sym (same_Some (f x) y e))
 get_map f (x ∷ xs) (suc i) y e = get_map f xs i y e
 
-pub map_get : {X Y : Type 0} (f : X → Y) (xs : List X) (i : ℕ) (x : X) → slice_get xs i ≡ Some x → slice_get (map f xs) i ≡ Some (f x)
+pub map_get : {X Y : Type 0} (f : X → Y) (xs : List X) (i : ℕ) (x : X) → slice_get xs i ≡ Some x
+    → slice_get (map f xs) i ≡ Some (f x)
 map_get f [] i x e = absurd (none-some x e)
 map_get f (y ∷ ys) zero x e = ap (option_map f) e
 map_get f (y ∷ ys) (suc i) x e = map_get f ys i x e
 
-pub get_beside : {X Y : Type 0} (xs : List X) (ys : List Y) (i : ℕ) (x : X) → length ys ≡ length xs → slice_get xs i ≡ Some x → (y : Y) × (slice_get ys i ≡ Some y)
+pub get_beside : {X Y : Type 0} (xs : List X) (ys : List Y) (i : ℕ) (x : X) → length ys ≡ length xs
+    → slice_get xs i ≡ Some x → (y : Y) × (slice_get ys i ≡ Some y)
 get_beside [] ys i x same e = absurd (none-some x e)
 get_beside (x ∷ xs) [] i z same e = absurd (omega (arith, same))
 get_beside (x ∷ xs) (y ∷ ys) zero z same e = (y, refl)
-get_beside (x ∷ xs) (y ∷ ys) (suc i) z same e = let fewer : length ys ≡ length xs = omega (arith, same) in get_beside xs ys i z fewer e
+get_beside (x ∷ xs) (y ∷ ys) (suc i) z same e =
+    let fewer : length ys ≡ length xs = omega (arith, same) in get_beside xs ys i z fewer e
 
-pub all_named : {X : Type 0} (p : X → Bool) (xs : List X) → list_all p xs ≡ true → (i : ℕ) (x : X) → slice_get xs i ≡ Some x → p x ≡ true
+pub all_named : {X : Type 0} (p : X → Bool) (xs : List X) → list_all p xs ≡ true → (i : ℕ) (x : X)
+    → slice_get xs i ≡ Some x → p x ≡ true
 all_named p [] all i x e = absurd (none-some x e)
 all_named p (y ∷ ys) all zero x e = subst (λ z. p z ≡ true) (same_Some y x e) (both_so (p y) (list_all p ys) all).0
 all_named p (y ∷ ys) all (suc i) x e = all_named p ys (both_so (p y) (list_all p ys) all).1 i x e
 
-abbrev pub AreApart : List RoleId → Type 0
-AreApart roles = (i j : ℕ) (me : RoleId) → slice_get roles i ≡ Some me → slice_get roles j ≡ Some me → i ≡ j
-
 -- ---- one role
 
-name_opened : (c : Cluster) (window : ℕ) (events : List Event) (me : RoleId) (records : List Record) (k : Kind) → name_of (opened_as c window events me records k) ≡ me
+name_opened : (c : Cluster) (window : ℕ) (events : List Event) (me : RoleId) (records : List Record) (k : Kind)
+    → name_of (opened_as c window events me records k) ≡ me
 name_opened c window events me records Client = refl
 name_opened c window events me records Batcher = refl
 name_opened c window events me records Leader = refl
@@ -67,7 +72,8 @@ name_opened c window events me records Replica = refl
 name_opened c window events me records Unbatcher = refl
 name_opened c window events me records Reader = refl
 
-live_opened : (c : Cluster) (window : ℕ) (events : List Event) (me : RoleId) (records : List Record) (k : Kind) → is_live (opened_as c window events me records k) ≡ true
+live_opened : (c : Cluster) (window : ℕ) (events : List Event) (me : RoleId) (records : List Record) (k : Kind)
+    → is_live (opened_as c window events me records k) ≡ true
 live_opened c window events me records Client = refl
 live_opened c window events me records Batcher = refl
 live_opened c window events me records Leader = refl
@@ -81,7 +87,8 @@ live_opened c window events me records Reader = refl
 -- ---- stores of their own
 
 -- one that is read, and refused for no record, is none at no place
-good_store : {D V : Type 0} (rules : Rules D V) (c : Cluster) (me : RoleId) (file : List ℕ) (records : List Record) (at : ℕ) → image (Some me.kind) file ≡ Ok records → refused rules c me records ≡ None
+good_store : {D V : Type 0} (rules : Rules D V) (c : Cluster) (me : RoleId) (file : List ℕ) (records : List Record)
+    (at : ℕ) → image (Some me.kind) file ≡ Ok records → refused rules c me records ≡ None
     → IsBadStore rules c me file at → ⊥
 good_store rules c me file records at read accepted (inl broken) = ok_is_err (sym read ∙ broken)
   where
@@ -95,53 +102,70 @@ good_store rules c me file records at read accepted (inr bad) =
     same_records rs ts e = cc
 
 -- the same of a role of any kind
-pub good_as : (c : Cluster) (me : RoleId) (file : List ℕ) (records : List Record) (at : ℕ) (k : Kind) → (is_durable k ≡ true → image (Some me.kind) file ≡ Ok records) → refused_as c me records k ≡ None
+pub good_as : (c : Cluster) (me : RoleId) (file : List ℕ) (records : List Record) (at : ℕ) (k : Kind)
+    → (is_durable k ≡ true → image (Some me.kind) file ≡ Ok records) → refused_as c me records k ≡ None
     → IsBadAs c me file at k → ⊥
 good_as c me file records at Client read accepted bad = bad
 good_as c me file records at Batcher read accepted bad = bad
-good_as c me file records at Leader read accepted bad = good_store leader_rules c me file records at (read refl) accepted bad
+good_as c me file records at Leader read accepted bad =
+    good_store leader_rules c me file records at (read refl) accepted bad
 good_as c me file records at Proxy read accepted bad = bad
-good_as c me file records at Acceptor read accepted bad = good_store acceptor_rules c me file records at (read refl) accepted bad
-good_as c me file records at Matchmaker read accepted bad = good_store matchmaker_rules c me file records at (read refl) accepted bad
-good_as c me file records at Replica read accepted bad = good_store replica_rules c me file records at (read refl) accepted bad
+good_as c me file records at Acceptor read accepted bad =
+    good_store acceptor_rules c me file records at (read refl) accepted bad
+good_as c me file records at Matchmaker read accepted bad =
+    good_store matchmaker_rules c me file records at (read refl) accepted bad
+good_as c me file records at Replica read accepted bad =
+    good_store replica_rules c me file records at (read refl) accepted bad
 good_as c me file records at Unbatcher read accepted bad = bad
 good_as c me file records at Reader read accepted bad = bad
 
 module _ {D : Type 0} (seen : D → Option (List ℕ)) (disk_faults : D → ℕ) (tells : Bool) where
-  has_journal : (records : List Record) (b : Bool) (o : Option (JournalState D)) → b ≡ true → HasJournal seen disk_faults tells records b o → (j : JournalState D) × (o ≡ Some j) × HasRecords seen disk_faults tells records j
+  has_journal : (records : List Record) (b : Bool) (o : Option (JournalState D)) → b ≡ true
+      → HasJournal seen disk_faults tells records b o → (j : JournalState D) × (o ≡ Some j)
+      × HasRecords seen disk_faults tells records j
   has_journal records true None durable has = absurd has
   has_journal records true (Some j) durable has = (j, refl, has)
   has_journal records false o durable has = cc
 
-  pub has_records : (records : List Record) (b : Bool) (o : Option (JournalState D)) (j : JournalState D) → o ≡ Some j → HasJournal seen disk_faults tells records b o → HasRecords seen disk_faults tells records j
+  pub has_records : (records : List Record) (b : Bool) (o : Option (JournalState D)) (j : JournalState D) → o ≡ Some j
+      → HasJournal seen disk_faults tells records b o → HasRecords seen disk_faults tells records j
   has_records records b None j e has = absurd (none-some j e)
   has_records records true (Some k) j e has = subst (HasRecords seen disk_faults tells records) (same_Some k j e) has
   has_records records false (Some k) j e has = absurd has
 
-module _ {D : Type 0} (seen : D → Option (List ℕ)) (disk_faults : D → ℕ) (c : Cluster) (window : ℕ) (events : List Event) (tells : Bool) (held : RoleId → List ℕ) where
-  pub name_is : (me : RoleId) (guest : Guest (JournalState D)) → IsOpened seen disk_faults c window events tells (held me) me guest → who guest ≡ me
+module _ {D : Type 0} (seen : D → Option (List ℕ)) (disk_faults : D → ℕ) (c : Cluster) (window : ℕ)
+    (events : List Event) (tells : Bool) (held : RoleId → List ℕ) where
+  pub name_is : (me : RoleId) (guest : Guest (JournalState D))
+      → IsOpened seen disk_faults c window events tells (held me) me guest → who guest ≡ me
   name_is me guest o = ap name_of o.hosted ∙ name_opened c window events me o.records me.kind
 
-  pub keeps_journal : (me : RoleId) (guest : Guest (JournalState D)) (o : IsOpened seen disk_faults c window events tells (held me) me guest) → is_durable me.kind ≡ true
+  pub keeps_journal : (me : RoleId) (guest : Guest (JournalState D))
+      (o : IsOpened seen disk_faults c window events tells (held me) me guest) → is_durable me.kind ≡ true
       → (j : JournalState D) × (keeper_of guest ≡ Some j) × HasRecords seen disk_faults tells o.records j
-  keeps_journal me guest o durable = has_journal seen disk_faults tells o.records (is_durable me.kind) (keeper_of guest) durable o.journal
+  keeps_journal me guest o durable =
+      has_journal seen disk_faults tells o.records (is_durable me.kind) (keeper_of guest) durable o.journal
 
   -- the store of a role that was opened is its own
-  pub good_opened : (me : RoleId) (guest : Guest (JournalState D)) (at : ℕ) → IsOpened seen disk_faults c window events tells (held me) me guest → tells ≡ true → IsBadAs c me (held me) at me.kind → ⊥
+  pub good_opened : (me : RoleId) (guest : Guest (JournalState D)) (at : ℕ)
+      → IsOpened seen disk_faults c window events tells (held me) me guest → tells ≡ true
+      → IsBadAs c me (held me) at me.kind → ⊥
   good_opened me guest at o t bad = good_as c me (held me) o.records at me.kind (o.read t) o.accepted bad
 
   -- ---- all roles
 
-  pub distinct_opened : (roles : List RoleId) (guests : List (Guest (JournalState D))) → AreApart roles → AreOpened seen disk_faults c window events tells held roles guests → AreDistinct (hosted_in guests)
+  pub distinct_opened : (roles : List RoleId) (guests : List (Guest (JournalState D))) → AreApart roles
+      → AreOpened seen disk_faults c window events tells held roles guests → AreDistinct (hosted_in guests)
   distinct_opened roles guests apart all i j a b here there same =
       let g = get_map hosted_of guests i a here in
       let h = get_map hosted_of guests j b there in
       let o = all i g.0 g.1 in
       let p = all j h.0 h.1 in
-      let name : o.0 ≡ p.0 = sym (name_is o.0 g.0 o.2) ∙ ap name_of (sym g.2) ∙ same ∙ ap name_of h.2 ∙ name_is p.0 h.0 p.2 in
+      let name : o.0 ≡ p.0 = sym (name_is o.0 g.0 o.2) ∙ ap name_of (sym g.2) ∙ same ∙ ap name_of h.2
+      ∙ name_is p.0 h.0 p.2 in
       apart i j p.0 (o.1 ∙ ap Some name) p.1
 
-  pub ready_opened : (roles : List RoleId) (guests : List (Guest (JournalState D))) → AreApart roles → ((i : ℕ) (me : RoleId) → slice_get roles i ≡ Some me → IsTrue (names_role c me))
+  pub ready_opened : (roles : List RoleId) (guests : List (Guest (JournalState D))) → AreApart roles
+      → ((i : ℕ) (me : RoleId) → slice_get roles i ≡ Some me → IsTrue (names_role c me))
       → AreOpened seen disk_faults c window events tells held roles guests → AreReady c guests
   ready_opened roles guests apart named all = record {
     each = λ i h at. let o = all i h at in record {
@@ -153,20 +177,26 @@ module _ {D : Type 0} (seen : D → Option (List ℕ)) (disk_faults : D → ℕ)
 
   -- a role was opened from these records
   abbrev pub IsOpenedFrom : List Record → RoleId → Guest (JournalState D) → Type 0
-  IsOpenedFrom records me guest = (o : IsOpened seen disk_faults c window events tells (held me) me guest) × (o.records ≡ records)
+  IsOpenedFrom records me guest =
+      (o : IsOpened seen disk_faults c window events tells (held me) me guest) × (o.records ≡ records)
 
   -- each role of a list was opened from its records
   abbrev pub AreOpenedFrom : (RoleId → List Record) → List RoleId → List (Guest (JournalState D)) → Type 0
-  AreOpenedFrom told roles guests = (i : ℕ) (me : RoleId) (guest : Guest (JournalState D)) → slice_get roles i ≡ Some me → slice_get guests i ≡ Some guest → IsOpenedFrom (told me) me guest
+  AreOpenedFrom told roles guests =
+      (i : ℕ) (me : RoleId) (guest : Guest (JournalState D)) → slice_get roles i ≡ Some me
+      → slice_get guests i ≡ Some guest → IsOpenedFrom (told me) me guest
 
   abbrev first_told : RoleId → List Record → (RoleId → List Record) → RoleId → List Record
   first_told r records told me = if same_role me r then records else told me
 
   -- what each role was opened from; where it is known, it is what the depot holds
   abbrev pub AreTold : List RoleId → List (Guest (JournalState D)) → Type 0
-  AreTold roles guests = (told : RoleId → List Record) × (tells ≡ true → (me : RoleId) → is_durable me.kind ≡ true → told me ≡ told_to held me) × AreOpenedFrom told roles guests
+  AreTold roles guests =
+      (told : RoleId → List Record) × (tells ≡ true → (me : RoleId) → is_durable me.kind ≡ true
+      → told me ≡ told_to held me) × AreOpenedFrom told roles guests
 
-  told_more : (r : RoleId) (rs : List RoleId) (g : Guest (JournalState D)) (gs : List (Guest (JournalState D))) → AreApart (r ∷ rs)
+  told_more : (r : RoleId) (rs : List RoleId) (g : Guest (JournalState D)) (gs : List (Guest (JournalState D)))
+      → AreApart (r ∷ rs)
       → IsOpened seen disk_faults c window events tells (held r) r g → AreTold rs gs → AreTold (r ∷ rs) (g ∷ gs)
   told_more r rs g gs apart first rest = (told, is_told, from)
     where
@@ -186,19 +216,23 @@ module _ {D : Type 0} (seen : D → Option (List ℕ)) (disk_faults : D → ℕ)
           subst (λ h. IsOpenedFrom (told me) me h) (same_Some g guest b)
           (subst (λ m. IsOpenedFrom (told m) m g) (same_Some r me a) (first, sym own))
       from (suc i) me guest a b =
-          let other : same_role me r ≡ false = differ_role me r (λ e. let n = apart 0 (suc i) me (ap Some (sym e)) a in omega (arith, n)) in
+          let other : same_role me r ≡ false = differ_role me r
+          (λ e. let n = apart 0 (suc i) me (ap Some (sym e)) a in omega (arith, n)) in
           let same : told me ≡ rest.0 me = rw other refl in
           subst (λ rs. IsOpenedFrom rs me guest) (sym same) (rest.2 i me guest a b)
 
-  pub told_opened : (roles : List RoleId) (guests : List (Guest (JournalState D))) → AreApart roles → AreOpened seen disk_faults c window events tells held roles guests → AreTold roles guests
+  pub told_opened : (roles : List RoleId) (guests : List (Guest (JournalState D))) → AreApart roles
+      → AreOpened seen disk_faults c window events tells held roles guests → AreTold roles guests
   told_opened roles [] apart all = (told_to held, (λ t me d. refl), λ i me guest a b. absurd (none-some guest b))
   told_opened [] (g ∷ gs) apart all = let o = all 0 g refl in absurd (none-some o.0 o.1)
   told_opened (r ∷ rs) (g ∷ gs) apart all =
       let one = all 0 g refl in
-      told_more r rs g gs apart (subst (λ me. IsOpened seen disk_faults c window events tells (held me) me g) (sym (same_Some r one.0 one.1)) one.2)
+      told_more r rs g gs apart (subst (λ me. IsOpened seen disk_faults c window events tells (held me) me g)
+      (sym (same_Some r one.0 one.1)) one.2)
       (told_opened rs gs (λ i j me a b. let e = apart (suc i) (suc j) me a b in omega (arith, e)) (λ i. all (suc i)))
 
-  pub hosts_opened : (told : RoleId → List Record) (roles : List RoleId) (guests : List (Guest (JournalState D))) → length guests ≡ length roles → AreOpenedFrom told roles guests
+  pub hosts_opened : (told : RoleId → List Record) (roles : List RoleId) (guests : List (Guest (JournalState D)))
+      → length guests ≡ length roles → AreOpenedFrom told roles guests
       → hosted_in guests ≡ hosts c window events told roles
   hosts_opened told [] [] same from = refl
   hosts_opened told [] (g ∷ gs) same from = absurd (omega (arith, same))
@@ -207,4 +241,5 @@ module _ {D : Type 0} (seen : D → Option (List ℕ)) (disk_faults : D → ℕ)
       let o = from 0 r g refl refl in
       let fewer : length gs ≡ length rs = omega (arith, same) in
       ap (λ (h : Hosted). h ∷ hosted_in gs) (o.0.hosted ∙ ap (λ rec. opened_as c window events r rec r.kind) o.1)
-      ∙ ap (λ (hs : List Hosted). opened_as c window events r (told r) r.kind ∷ hs) (hosts_opened told rs gs fewer (λ i. from (suc i)))
+      ∙ ap (λ (hs : List Hosted). opened_as c window events r (told r) r.kind ∷ hs)
+      (hosts_opened told rs gs fewer (λ i. from (suc i)))

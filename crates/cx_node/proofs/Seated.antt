@@ -1,5 +1,7 @@
 -- What a role at its place does, seen of all roles: the others stay as they are, since no two have one name.
-use Rattle.std.proofs.Common.{◌≡◌, ◌⊎◌, ◌==◌, ℕ, zero, suc, true, false, List, [], ◌∷◌, ◌++◌, length, length-set, map, take, IsTrue, Option, None, Some, option_map, Ok, Err, slice_get, slice_set, if◌then◌else◌, append-nil, refl, sym, ap, ◌∙◌, subst, inl, inr}
+use Rattle.std.proofs.Common.{◌≡◌, ◌⊎◌, ◌==◌, ℕ, zero, suc, true, false, List, [], ◌∷◌, ◌++◌, length, length-set, map}
+use Rattle.std.proofs.Common.{take, IsTrue, Option, None, Some, option_map, Ok, Err, slice_get, slice_set}
+use Rattle.std.proofs.Common.{if◌then◌else◌, append-nil, refl, sym, ap, ◌∙◌, subst, inl, inr}
 use Rattle.std.proofs.KnownBytes.{Appends-nil}
 use Rattle.std.proofs.lemmas.List.{length-map, map-set, take-map}
 use Rattle.std.proofs.lemmas.Option.{none-some, same_Some, slice_get-map}
@@ -12,7 +14,8 @@ use Rattle.cx_edge.specs.Sink.{AppendsPart}
 use Rattle.cx_model.specs.Acceptor.{acceptor_rules}
 use Rattle.cx_model.specs.Batcher.{batcher_rules}
 use Rattle.cx_model.specs.Leader.{leader_rules}
-use Rattle.cx_model.specs.Lists.{bool_cases, differ_role, get_set_other, get_set_same, not_both, number_itself, records_other, same_number, same_role-itself}
+use Rattle.cx_model.specs.Lists.{bool_cases, differ_role, get_set_other, get_set_same, not_both, number_itself}
+use Rattle.cx_model.specs.Lists.{records_other, same_number, same_role-itself}
 use Rattle.cx_model.specs.Matchmaker.{matchmaker_rules}
 use Rattle.cx_model.specs.Names.{names_role}
 use Rattle.cx_model.specs.Proxy.{proxy_rules}
@@ -34,15 +37,18 @@ use Rattle.cx_node.specs.declared.node.Stop.TheVariants as stop
 use Rattle.cx_node.specs.Action.{Action, Kept, Printed, Sent, step_actions}
 use Rattle.cx_node.specs.Acts.{Acts}
 use Rattle.cx_node.specs.Doing.{Asks, AsksPart, Did, DidPart, GuestsGrow, scene}
-use Rattle.cx_node.specs.Guest.{AreDistinct, AreReady, FailsIn, Grows, GuestGrows, IsReady, Rests, hosted_in, hosted_of, keeper_of, who}
-use Rattle.cx_node.specs.Hosted.{Hosted, Step, ClientAt, BatcherAt, LeaderAt, ProxyAt, AcceptorAt, MatchmakerAt, ReplicaAt, UnbatcherAt, ReaderAt, does, is_live, name_of}
+use Rattle.cx_node.specs.Guest.{AreDistinct, AreReady, FailsIn, Grows, GuestGrows, IsReady, Rests, hosted_in}
+use Rattle.cx_node.specs.Guest.{hosted_of, keeper_of, who}
+use Rattle.cx_node.specs.Hosted.{Hosted, Step, ClientAt, BatcherAt, LeaderAt, ProxyAt, AcceptorAt, MatchmakerAt}
+use Rattle.cx_node.specs.Hosted.{ReplicaAt, UnbatcherAt, ReaderAt, does, is_live, name_of}
 use Rattle.cx_node.specs.Run.{Moved, does_at, found_does, put_back}
 use Rattle.cx_node.proofs.Asked.{linked_step, step_bound, step_kept, step_printed, step_taken}
 use Rattle.cx_node.proofs.Done.{did_nothing, guests_rest, rests_itself, same_at, stands_at}
 use Rattle.cx_node.proofs.Grown.{before, behind, grows_none}
 
 -- what a role keeps is its own
-kept_own : (h : Hosted) (what : Doing) (me : RoleId) → same_role me (name_of h) ≡ false → records_of me (does h what).kept ≡ []
+kept_own : (h : Hosted) (what : Doing) (me : RoleId) → same_role me (name_of h) ≡ false
+    → records_of me (does h what).kept ≡ []
 unfolding does
 kept_own (ClientAt s) Begin me e = refl
 kept_own (BatcherAt s) Begin me e = refl
@@ -66,14 +72,18 @@ kept_own (UnbatcherAt s) (Give i) me e = records_other me s.me [] (outcome_of un
 kept_own (ReaderAt s) (Give i) me e = records_other me s.me [] (outcome_of reader_rules s i).kept e
 
 -- the record that a step keeps is its first action
-first_of : (me : RoleId) (o : Option Record) (r : Record) (more : List Action) → slice_get (records_of me (kept_by me o)) 0 ≡ Some r → slice_get (map Kept (kept_by me o) ++ more) 0 ≡ Some (Kept (record { role = me; what = r }))
+first_of : (me : RoleId) (o : Option Record) (r : Record) (more : List Action)
+    → slice_get (records_of me (kept_by me o)) 0 ≡ Some r
+    → slice_get (map Kept (kept_by me o) ++ more) 0 ≡ Some (Kept (record { role = me; what = r }))
 first_of me None r more e = absurd (none-some r e)
-first_of me (Some x) r more e = ap (λ y. Some (Kept (record { role = me; what = y }))) (same_Some x r (sym (own (same_role-itself me)) ∙ e))
+first_of me (Some x) r more e =
+    ap (λ y. Some (Kept (record { role = me; what = y }))) (same_Some x r (sym (own (same_role-itself me)) ∙ e))
   where
     own : same_role me me ≡ true → slice_get (if same_role me me then x ∷ [] else []) 0 ≡ Some x
     own is = rw is refl
 
-kept_first : (h : Hosted) (what : Doing) (r : Record) (more : List Action) → slice_get (records_of (name_of h) (does h what).kept) 0 ≡ Some r
+kept_first : (h : Hosted) (what : Doing) (r : Record) (more : List Action)
+    → slice_get (records_of (name_of h) (does h what).kept) 0 ≡ Some r
     → slice_get (map Kept (does h what).kept ++ more) 0 ≡ Some (Kept (record { role = name_of h; what = r }))
 unfolding does
 kept_first (ClientAt s) Begin r more e = absurd (none-some r e)
@@ -98,26 +108,30 @@ kept_first (UnbatcherAt s) (Give i) r more e = first_of s.me (outcome_of unbatch
 kept_first (ReaderAt s) (Give i) r more e = first_of s.me (outcome_of reader_rules s i).kept r more e
 
 -- an append that failed was of some record
-fails_some : {K : Type 0} (gives : Appending K) (o : Option Record) (a b : Option K) → FailsIn gives o a b → (r : Record) × (o ≡ Some r) × FailsIn gives (Some r) a b
+fails_some : {K : Type 0} (gives : Appending K) (o : Option Record) (a b : Option K) → FailsIn gives o a b
+    → (r : Record) × (o ≡ Some r) × FailsIn gives (Some r) a b
 fails_some gives None None b f = absurd f
 fails_some gives None (Some a) None f = absurd f
 fails_some gives None (Some a) (Some b) f = absurd f
 fails_some gives (Some r) a b f = (r, refl, f)
 
 -- where the actions of a step end that are done before it stops between its datagrams, or within its text
-cut_sends : (ks : List KeptRecord) (ls : List Letter) (bs : List ℕ) (n : ℕ) → (k : ℕ) × (take k (step_actions ks ls bs) ≡ step_actions ks (take n ls) [])
+cut_sends : (ks : List KeptRecord) (ls : List Letter) (bs : List ℕ) (n : ℕ) → (k : ℕ)
+    × (take k (step_actions ks ls bs) ≡ step_actions ks (take n ls) [])
 cut_sends ks ls bs n =
     let j = before (map Sent ls) (map Printed bs) n in
     let k = behind (map Kept ks) (map Sent ls ++ map Printed bs) j.0 in
     (k.0, k.1 ∙ ap (λ xs. map Kept ks ++ xs) (j.1 ∙ take-map Sent n ls ∙ sym (append-nil (map Sent (take n ls)))))
 
-cut_text : (ks : List KeptRecord) (ls : List Letter) (bs : List ℕ) (n : ℕ) → (k : ℕ) × (take k (step_actions ks ls bs) ≡ step_actions ks ls (take n bs))
+cut_text : (ks : List KeptRecord) (ls : List Letter) (bs : List ℕ) (n : ℕ) → (k : ℕ)
+    × (take k (step_actions ks ls bs) ≡ step_actions ks ls (take n bs))
 cut_text ks ls bs n =
     let j = behind (map Sent ls) (map Printed bs) n in
     let k = behind (map Kept ks) (map Sent ls ++ map Printed bs) j.0 in
     (k.0, k.1 ∙ ap (λ xs. map Kept ks ++ xs) (j.1 ∙ ap (λ xs. map Sent ls ++ xs) (take-map Printed n bs)))
 
-pub hosted_at : {K : Type 0} (gs : List (Guest K)) (i : ℕ) (a : Guest K) → slice_get gs i ≡ Some a → slice_get (hosted_in gs) i ≡ Some (hosted_of a)
+pub hosted_at : {K : Type 0} (gs : List (Guest K)) (i : ℕ) (a : Guest K) → slice_get gs i ≡ Some a
+    → slice_get (hosted_in gs) i ≡ Some (hosted_of a)
 hosted_at gs i a e = slice_get-map hosted_of gs i ∙ ap (option_map hosted_of) e
 
 names_hosted : {K : Type 0} (gs : List (Guest K)) → map name_of (hosted_in gs) ≡ map who gs
@@ -125,22 +139,29 @@ names_hosted [] = refl
 names_hosted (a ∷ gs) = ap (λ l. who a ∷ l) (names_hosted gs)
 
 -- no two of the same names have one name either
-distinct_still : {K : Type 0} (gs bs : List (Guest K)) → length bs ≡ length gs → map who bs ≡ map who gs → AreDistinct (hosted_in gs) → AreDistinct (hosted_in bs)
+distinct_still : {K : Type 0} (gs bs : List (Guest K)) → length bs ≡ length gs → map who bs ≡ map who gs
+    → AreDistinct (hosted_in gs) → AreDistinct (hosted_in bs)
 distinct_still {K} gs bs len same distinct i j x y p q e =
-    let lens : length (hosted_in gs) ≡ length (hosted_in bs) = length-map gs hosted_of ∙ sym len ∙ sym (length-map bs hosted_of) in
-    let names : map name_of (hosted_in gs) ≡ map name_of (hosted_in bs) = names_hosted gs ∙ sym same ∙ sym (names_hosted bs) in
+    let lens : length (hosted_in gs) ≡ length (hosted_in bs) = length-map gs hosted_of ∙ sym len
+    ∙ sym (length-map bs hosted_of) in
+    let names : map name_of (hosted_in gs) ≡ map name_of (hosted_in bs) = names_hosted gs ∙ sym same
+    ∙ sym (names_hosted bs) in
     let a = stands_at (hosted_in bs) (hosted_in gs) i x lens p in
     let b = stands_at (hosted_in bs) (hosted_in gs) j y lens q in
-    distinct i j a.0 b.0 a.1 b.1 (same_at name_of (hosted_in bs) (hosted_in gs) i x a.0 names p a.1 ∙ e ∙ sym (same_at name_of (hosted_in bs) (hosted_in gs) j y b.0 names q b.1))
+    distinct i j a.0 b.0 a.1 b.1 (same_at name_of (hosted_in bs) (hosted_in gs) i x a.0 names p a.1 ∙ e
+    ∙ sym (same_at name_of (hosted_in bs) (hosted_in gs) j y b.0 names q b.1))
 
-names_set : {K : Type 0} (gs : List (Guest K)) (i : ℕ) (h after : Guest K) → slice_get gs i ≡ Some h → who after ≡ who h → map who (slice_set gs i after) ≡ map who gs
+names_set : {K : Type 0} (gs : List (Guest K)) (i : ℕ) (h after : Guest K) → slice_get gs i ≡ Some h
+    → who after ≡ who h → map who (slice_set gs i after) ≡ map who gs
 names_set [] i h after e same = refl
 names_set (a ∷ gs) zero h after e same = ap (λ w. w ∷ map who gs) (same ∙ ap who (sym (same_Some a h e)))
 names_set (a ∷ gs) (suc i) h after e same = ap (λ l. who a ∷ l) (names_set gs i h after e same)
 
-module _ {K : Type 0} (gives : Appending K) (c : Cluster) (gs : List (Guest K)) (i : ℕ) (what : Doing) (h after : Guest K) (here : slice_get gs i ≡ Some h) (ready : AreReady c gs) (same : who after ≡ who h) where
+module _ {K : Type 0} (gives : Appending K) (c : Cluster) (gs : List (Guest K)) (i : ℕ) (what : Doing)
+    (h after : Guest K) (here : slice_get gs i ≡ Some h) (ready : AreReady c gs) (same : who after ≡ who h) where
   -- what holds at that place, and of each other role, holds of all
-  each_at : (P : Guest K → Guest K → Type 0) → P h after → ((j : ℕ) (a : Guest K) → (j ≡ i → ⊥) → slice_get gs j ≡ Some a → P a a)
+  each_at : (P : Guest K → Guest K → Type 0) → P h after
+      → ((j : ℕ) (a : Guest K) → (j ≡ i → ⊥) → slice_get gs j ≡ Some a → P a a)
       → (j : ℕ) (a b : Guest K) → slice_get gs j ≡ Some a → slice_get (slice_set gs i after) j ≡ Some b → P a b
   each_at P own others j a b e f = go (bool_cases (j == i))
     where
@@ -148,7 +169,8 @@ module _ {K : Type 0} (gives : Appending K) (c : Cluster) (gs : List (Guest K)) 
       go (inl t) =
           let p = same_number j i t in
           let first : h ≡ a = same_Some h a (sym here ∙ ap (slice_get gs) (sym p) ∙ e) in
-          let second : after ≡ b = same_Some after b (sym (get_set_same gs i h after here) ∙ ap (slice_get (slice_set gs i after)) (sym p) ∙ f) in
+          let second : after ≡ b = same_Some after b
+          (sym (get_set_same gs i h after here) ∙ ap (slice_get (slice_set gs i after)) (sym p) ∙ f) in
           subst (λ x. P x b) first (subst (P h) second own)
       go (inr t) =
           let differs : (j ≡ i → ⊥) = λ p. not_both (j == i) (subst (λ k. (j == k) ≡ true) p (number_itself j)) t in
@@ -156,7 +178,9 @@ module _ {K : Type 0} (gives : Appending K) (c : Cluster) (gs : List (Guest K)) 
           subst (P a) still (others j a differs e)
 
   other_name : (j : ℕ) (a : Guest K) → (j ≡ i → ⊥) → slice_get gs j ≡ Some a → same_role (who a) (who h) ≡ false
-  other_name j a differs e = differ_role (who a) (who h) (λ p. differs (ready.distinct j i (hosted_of a) (hosted_of h) (hosted_at gs j a e) (hosted_at gs i h here) p))
+  other_name j a differs e =
+      differ_role (who a) (who h) (λ p. differs (ready.distinct j i (hosted_of a) (hosted_of h) (hosted_at gs j a e)
+      (hosted_at gs i h here) p))
 
   pub seat_does_at : does_at i what (hosted_in gs) ≡ put_back i (hosted_in gs) (does (hosted_of h) what)
   unfolding does_at
@@ -167,15 +191,22 @@ module _ {K : Type 0} (gives : Appending K) (c : Cluster) (gs : List (Guest K)) 
       record {
         each = λ j b f.
             let a = stands_at (slice_set gs i after) gs j b (sym (length-set gs i after)) f in
-            each_at (λ x y. IsReady c y) (record { live = live; named = subst (λ w. IsTrue (names_role c w)) (sym same) (ready.each i h here).named }) (λ k x differs e. ready.each k x e) j a.0 b a.1 f;
-        distinct = distinct_still gs (slice_set gs i after) (length-set gs i after) (names_set gs i h after here same) ready.distinct;
+            each_at (λ x y. IsReady c y) (record {
+              live = live;
+              named = subst (λ w. IsTrue (names_role c w))
+                  (sym same) (ready.each i h here).named;
+            }) (λ k x differs e. ready.each k x e) j a.0 b a.1 f;
+        distinct =
+            distinct_still gs (slice_set gs i after) (length-set gs i after)
+            (names_set gs i h after here same) ready.distinct;
       }
 
   abbrev step : Step
   step = does (hosted_of h) what
 
   -- the step was done as far as these datagrams and this text
-  did_seated : (l k : Option LinkHistory) (o p : Option (List ℕ)) (sends : List Letter) (text : List ℕ) → GuestGrows gives step.kept h after → Asks c sends l k → Appends o p text
+  did_seated : (l k : Option LinkHistory) (o p : Option (List ℕ)) (sends : List Letter) (text : List ℕ)
+      → GuestGrows gives step.kept h after → Asks c sends l k → Appends o p text
       → Did gives c (step_actions step.kept sends text) (scene gs l o) (scene (slice_set gs i after) k p)
   did_seated l k o p sends text grows asked printed =
       record {
@@ -183,7 +214,9 @@ module _ {K : Type 0} (gives : Appending K) (c : Cluster) (gs : List (Guest K)) 
         kept = subst (λ ks. GuestsGrow gives ks gs (slice_set gs i after)) (sym (step_kept step.kept sends text)) (
           length-set gs i after,
           each_at (λ a b. GuestGrows gives step.kept a b) grows
-              (λ j a differs e. subst (λ rs. Grows gives rs (keeper_of a) (keeper_of a)) (sym (kept_own (hosted_of h) what (who a) (other_name j a differs e))) (grows_none gives (keeper_of a))),
+              (λ j a differs e. subst (λ rs. Grows gives rs (keeper_of a) (keeper_of a))
+              (sym (kept_own (hosted_of h) what (who a) (other_name j a differs e)))
+              (grows_none gives (keeper_of a))),
         );
         link = linked_step c step.kept sends text l k asked;
         printed = subst (Appends o p) (sym (step_printed step.kept sends text)) printed;
@@ -194,11 +227,14 @@ module _ {K : Type 0} (gives : Appending K) (c : Cluster) (gs : List (Guest K)) 
       → sends ≡ step.sends → text ≡ step.text → Asks c sends l k → Appends o p text
       → Acts gives c [] (does_at i what (hosted_in gs)) (Ok tt) (scene gs l o) (scene (slice_set gs i after) k p)
   acts_seated l k o p sends text next grows live sends_are text_is asked printed =
-      subst (λ (m : Moved (List Hosted)). Acts gives c [] m (Ok tt) (scene gs l o) (scene (slice_set gs i after) k p)) (sym seat_does_at)
+      subst (λ (m : Moved (List Hosted)). Acts gives c [] m (Ok tt) (scene gs l o) (scene (slice_set gs i after) k p))
+      (sym seat_does_at)
       (record {
         done = record {
           hosted = map-set hosted_of gs i after ∙ ap (slice_set (hosted_in gs) i) next;
-          did = did_seated l k o p step.sends step.text grows (subst (λ ds. Asks c ds l k) sends_are asked) (subst (Appends o p) text_is printed);
+          did =
+              did_seated l k o p step.sends step.text grows (subst (λ ds. Asks c ds l k) sends_are asked)
+              (subst (Appends o p) text_is printed);
         };
         taken = (step_bound step.kept step.sends step.text, step_taken step.kept step.sends step.text);
         ready = ready_still live;
@@ -206,7 +242,9 @@ module _ {K : Type 0} (gives : Appending K) (c : Cluster) (gs : List (Guest K)) 
       })
 
   -- it stopped before anything was kept, sent or printed
-  seated_rests : (l : Option LinkHistory) (o : Option (List ℕ)) → Rests gives (keeper_of h) (keeper_of after) → DidPart gives c (step_actions step.kept step.sends step.text) stop.NoMemory (scene gs l o) (scene (slice_set gs i after) l o)
+  seated_rests : (l : Option LinkHistory) (o : Option (List ℕ)) → Rests gives (keeper_of h) (keeper_of after)
+      → DidPart gives c (step_actions step.kept step.sends step.text) stop.NoMemory (scene gs l o)
+      (scene (slice_set gs i after) l o)
   seated_rests l o rests =
       record {
         count = 0;
@@ -214,12 +252,15 @@ module _ {K : Type 0} (gives : Appending K) (c : Cluster) (gs : List (Guest K)) 
         did = did_nothing gives c (scene gs l o);
         stops = (
           length-set gs i after,
-          each_at (λ a b. (who b ≡ who a) × Rests gives (keeper_of a) (keeper_of b)) (same, rests) (λ j a differs e. (refl, rests_itself gives (keeper_of a))),
+          each_at (λ a b. (who b ≡ who a) × Rests gives (keeper_of a) (keeper_of b)) (same, rests)
+              (λ j a differs e. (refl, rests_itself gives (keeper_of a))),
         );
       }
 
-  seated_fails : (l : Option LinkHistory) (o : Option (List ℕ)) (role : RoleId) → who h ≡ role → FailsIn gives (slice_get (records_of (who h) step.kept) 0) (keeper_of h) (keeper_of after)
-      → DidPart gives c (step_actions step.kept step.sends step.text) (stop.StoreFault role) (scene gs l o) (scene (slice_set gs i after) l o)
+  seated_fails : (l : Option LinkHistory) (o : Option (List ℕ)) (role : RoleId) → who h ≡ role
+      → FailsIn gives (slice_get (records_of (who h) step.kept) 0) (keeper_of h) (keeper_of after)
+      → DidPart gives c (step_actions step.kept step.sends step.text) (stop.StoreFault role) (scene gs l o)
+      (scene (slice_set gs i after) l o)
   seated_fails l o role name fails =
       let f = fails_some gives (slice_get (records_of (who h) step.kept) 0) (keeper_of h) (keeper_of after) fails in
       record {
@@ -228,49 +269,75 @@ module _ {K : Type 0} (gives : Appending K) (c : Cluster) (gs : List (Guest K)) 
         did = did_nothing gives c (scene gs l o);
         stops = (
           f.0,
-          subst (λ me. slice_get (step_actions step.kept step.sends step.text) 0 ≡ Some (Kept (record { role = me; what = f.0 }))) name
+          subst (λ me. slice_get (step_actions step.kept step.sends step.text) 0 ≡ Some
+              (Kept (record { role = me; what = f.0 }))) name
               (kept_first (hosted_of h) what f.0 (map Sent step.sends ++ map Printed step.text) f.1),
-          record { place = i; guest = h; after = after; here = here; others = refl; name = name; same = same; fails = f.2 },
+          record {
+            place = i;
+            guest = h;
+            after = after;
+            here = here;
+            others = refl;
+            name = name;
+            same = same;
+            fails = f.2;
+          },
         );
       }
 
-  seated_part : (l k : Option LinkHistory) (o p : Option (List ℕ)) (e : Stop) → DidPart gives c (step_actions step.kept step.sends step.text) e (scene gs l o) (scene (slice_set gs i after) k p)
+  seated_part : (l k : Option LinkHistory) (o p : Option (List ℕ)) (e : Stop)
+      → DidPart gives c (step_actions step.kept step.sends step.text) e (scene gs l o)
+      (scene (slice_set gs i after) k p)
       → Acts gives c [] (does_at i what (hosted_in gs)) (Err e) (scene gs l o) (scene (slice_set gs i after) k p)
   seated_part l k o p e part =
-      subst (λ (m : Moved (List Hosted)). Acts gives c [] m (Err e) (scene gs l o) (scene (slice_set gs i after) k p)) (sym seat_does_at)
+      subst (λ (m : Moved (List Hosted)). Acts gives c [] m (Err e) (scene gs l o) (scene (slice_set gs i after) k p))
+      (sym seat_does_at)
       (record { done = tt; taken = tt; ready = tt; part = part })
 
   -- its role took no step
-  pub acts_unasked : (l : Option LinkHistory) (o : Option (List ℕ)) (e : Stop) → (e ≡ stop.NoMemory → Rests gives (keeper_of h) (keeper_of after))
-      → ((role : RoleId) → e ≡ stop.StoreFault role → (who h ≡ role) × FailsIn gives (slice_get (records_of (who h) step.kept) 0) (keeper_of h) (keeper_of after))
-      → (e ≡ stop.WriteFault → ⊥) → (e ≡ stop.LinkFault → ⊥) → Acts gives c [] (does_at i what (hosted_in gs)) (Err e) (scene gs l o) (scene (slice_set gs i after) l o)
-  acts_unasked l o stop.NoMemory rests fails no_write no_link = seated_part l l o o stop.NoMemory (seated_rests l o (rests refl))
+  pub acts_unasked : (l : Option LinkHistory) (o : Option (List ℕ)) (e : Stop)
+      → (e ≡ stop.NoMemory → Rests gives (keeper_of h) (keeper_of after))
+      → ((role : RoleId) → e ≡ stop.StoreFault role → (who h ≡ role)
+      × FailsIn gives (slice_get (records_of (who h) step.kept) 0) (keeper_of h) (keeper_of after))
+      → (e ≡ stop.WriteFault → ⊥) → (e ≡ stop.LinkFault → ⊥)
+      → Acts gives c [] (does_at i what (hosted_in gs)) (Err e) (scene gs l o) (scene (slice_set gs i after) l o)
+  acts_unasked l o stop.NoMemory rests fails no_write no_link =
+      seated_part l l o o stop.NoMemory (seated_rests l o (rests refl))
   acts_unasked l o stop.WriteFault rests fails no_write no_link = absurd (no_write refl)
   acts_unasked l o stop.LinkFault rests fails no_write no_link = absurd (no_link refl)
-  acts_unasked l o (stop.StoreFault role) rests fails no_write no_link = let f = fails role refl in seated_part l l o o (stop.StoreFault role) (seated_fails l o role f.0 f.1)
+  acts_unasked l o (stop.StoreFault role) rests fails no_write no_link =
+      let f = fails role refl in seated_part l l o o (stop.StoreFault role) (seated_fails l o role f.0 f.1)
 
   -- memory ran out between its datagrams
-  pub acts_unsent : (l k : Option LinkHistory) (o : Option (List ℕ)) → GuestGrows gives step.kept h after → AsksPart c step.sends l k
-      → Acts gives c [] (does_at i what (hosted_in gs)) (Err stop.NoMemory) (scene gs l o) (scene (slice_set gs i after) k o)
+  pub acts_unsent : (l k : Option LinkHistory) (o : Option (List ℕ)) → GuestGrows gives step.kept h after
+      → AsksPart c step.sends l k
+      → Acts gives c [] (does_at i what (hosted_in gs)) (Err stop.NoMemory) (scene gs l o)
+      (scene (slice_set gs i after) k o)
   acts_unsent l k o grows asked =
       let cut = cut_sends step.kept step.sends step.text asked.0 in
       seated_part l k o o stop.NoMemory
       (record {
         count = cut.0;
         mid = slice_set gs i after;
-        did = subst (λ xs. Did gives c xs (scene gs l o) (scene (slice_set gs i after) k o)) (sym cut.1) (did_seated l k o o (take asked.0 step.sends) [] grows asked.1 (Appends-nil o));
+        did =
+            subst (λ xs. Did gives c xs (scene gs l o) (scene (slice_set gs i after) k o)) (sym cut.1)
+            (did_seated l k o o (take asked.0 step.sends) [] grows asked.1 (Appends-nil o));
         stops = guests_rest gives (slice_set gs i after);
       })
 
   -- the output failed within its text
-  pub acts_unwritten : (l k : Option LinkHistory) (o p : Option (List ℕ)) → GuestGrows gives step.kept h after → Asks c step.sends l k → AppendsPart o p step.text
-      → Acts gives c [] (does_at i what (hosted_in gs)) (Err stop.WriteFault) (scene gs l o) (scene (slice_set gs i after) k p)
+  pub acts_unwritten : (l k : Option LinkHistory) (o p : Option (List ℕ)) → GuestGrows gives step.kept h after
+      → Asks c step.sends l k → AppendsPart o p step.text
+      → Acts gives c [] (does_at i what (hosted_in gs)) (Err stop.WriteFault) (scene gs l o)
+      (scene (slice_set gs i after) k p)
   acts_unwritten l k o p grows asked printed =
       let cut = cut_text step.kept step.sends step.text printed.0 in
       seated_part l k o p stop.WriteFault
       (record {
         count = cut.0;
         mid = slice_set gs i after;
-        did = subst (λ xs. Did gives c xs (scene gs l o) (scene (slice_set gs i after) k p)) (sym cut.1) (did_seated l k o p step.sends (take printed.0 step.text) grows asked printed.1);
+        did =
+            subst (λ xs. Did gives c xs (scene gs l o) (scene (slice_set gs i after) k p)) (sym cut.1)
+            (did_seated l k o p step.sends (take printed.0 step.text) grows asked printed.1);
         stops = guests_rest gives (slice_set gs i after);
       })

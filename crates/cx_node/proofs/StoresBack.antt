@@ -2,6 +2,8 @@
 use Rattle.std.specs.Prelude.{◌≡◌, ◌≤◌, ℕ, Bool, true, List, [], ◌∷◌, Option, None, Some}
 use Rattle.cx_base.specs.declared.role.RoleId.{RoleId}
 use Rattle.cx_base.specs.Faults.{Rises}
+use Rattle.cx_disk.specs.declared.disk.Disk.{Ghosts as DiskGhosts}
+use Rattle.cx_edge.specs.declared.depot.Depot.{Ghosts as DepotGhosts}
 use Rattle.cx_journal.specs.State.{JournalState}
 use Rattle.cx_node.specs.declared.guest.Guest.{Guest}
 use Rattle.cx_node.specs.Guest.{keeper_of, who}
@@ -14,8 +16,15 @@ pub record Shown (D S : Type 0) : Type 0 where
   pub seen : S → Option (List ℕ)
   pub failures : S → ℕ
 
-abbrev pub shown_by : {D S : Type 0} → (D → Bool) → (D → RoleId → List ℕ) → (D → RoleId → ℕ) → (S → Option (List ℕ)) → (S → ℕ) → Shown D S
-shown_by tells held faults seen failures = record { tells = tells; held = held; faults = faults; seen = seen; failures = failures }
+abbrev pub shown_by : {D S : Type 0} → DepotGhosts D S → DiskGhosts S → Shown D S
+shown_by by_depot by_disk =
+    record {
+      tells = by_depot.tells;
+      held = by_depot.held;
+      faults = by_depot.faults;
+      seen = by_disk.seen;
+      failures = by_disk.faults;
+    }
 
 -- the store of a role was given back
 pub record IsGivenBack {D S : Type 0} (shown : Shown D S) (role : RoleId) (store : S) (old new : D) : Type 0 where
@@ -34,4 +43,5 @@ GivesBack shown role (Some j) old new = IsGivenBack shown role j.disk old new
 -- the stores of these roles were given back, as far as they have any
 abbrev pub GiveBack : {D S : Type 0} → Shown D S → List (Guest (JournalState S)) → D → D → Type 0
 GiveBack shown [] old new = new ≡ old
-GiveBack {D} shown (g ∷ gs) old new = (mid : D) × GivesBack shown (who g) (keeper_of g) old mid × GiveBack shown gs mid new
+GiveBack {D} shown (g ∷ gs) old new = (mid : D) × GivesBack shown (who g) (keeper_of g) old mid
+    × GiveBack shown gs mid new

@@ -1,5 +1,7 @@
 -- Turns, one after the other, and the end of a run.
-use Rattle.std.proofs.Common.{◌≡◌, ◌⊎◌, ◌<◌, ℕ, suc, ◌+◌, false, List, [], ◌∷◌, ◌++◌, length, length-append, take, take_at, arith, Option, None, Some, Result, Ok, Err, refl, sym, ap, ◌∙◌, subst, append_assoc, append-nil, add-zero, inl, inr}
+use Rattle.std.proofs.Common.{◌≡◌, ◌⊎◌, ◌<◌, ℕ, suc, ◌+◌, false, List, [], ◌∷◌, ◌++◌, length, length-append, take}
+use Rattle.std.proofs.Common.{take_at, arith, Option, None, Some, Result, Ok, Err, refl, sym, ap, ◌∙◌, subst}
+use Rattle.std.proofs.Common.{append_assoc, append-nil, add-zero, inl, inr}
 use Rattle.std.proofs.lemmas.List.{take-append-le}
 use Rattle.std.specs.Prelude.{IfErr, OnOk}
 use Rattle.cx_base.specs.declared.cluster.Cluster.{Cluster}
@@ -28,7 +30,9 @@ then_stays : {S : Type 0} (m : Moved S) → then_do m (λ s. stays s) ≡ m
 then_stays m = λ i. record { next = m.next; actions = append-nil m.actions i }
 
 -- one turn more
-turns_more : {S : Type 0} (step : ℕ → Option (List ℕ) → S → Moved S) (n : ℕ) (ts : Takes) (what : Option (List ℕ)) (s : S) → turns_from step n (ts ++ what ∷ []) s ≡ then_do (turns_from step n ts s) (λ after. step (n + length ts) what after)
+turns_more : {S : Type 0} (step : ℕ → Option (List ℕ) → S → Moved S) (n : ℕ) (ts : Takes) (what : Option (List ℕ))
+    (s : S) → turns_from step n (ts ++ what ∷ []) s ≡ then_do (turns_from step n ts s)
+    (λ after. step (n + length ts) what after)
 turns_more step n [] what s = then_stays (step n what s) ∙ ap (λ k. step k what s) (sym (add-zero n))
 turns_more step n (t ∷ ts) what s =
     let m = step n t s in
@@ -39,24 +43,33 @@ turns_more step n (t ∷ ts) what s =
 
 -- a run with what is counted in it
 abbrev whole : Option ℕ → Cluster → Takes → List Hosted → Moved Tended
-whole tend c ts hs = then_do (within (all_do Begin) (tended (first_care tend hs) hs)) (λ after. turns_from (any_turn tend c) 1 ts after)
+whole tend c ts hs =
+    then_do (within (all_do Begin) (tended (first_care tend hs) hs))
+    (λ after. turns_from (any_turn tend c) 1 ts after)
 
-whole_more : (tend : Option ℕ) (c : Cluster) (ts : Takes) (what : Option (List ℕ)) (hs : List Hosted) → whole tend c (ts ++ what ∷ []) hs ≡ then_do (whole tend c ts hs) (λ after. any_turn tend c (length ts + 1) what after)
+whole_more : (tend : Option ℕ) (c : Cluster) (ts : Takes) (what : Option (List ℕ)) (hs : List Hosted)
+    → whole tend c (ts ++ what ∷ []) hs ≡ then_do (whole tend c ts hs)
+    (λ after. any_turn tend c (length ts + 1) what after)
 whole_more tend c ts what hs =
     let m = within (all_do Begin) (tended (first_care tend hs) hs) in
     let rest = turns_from (any_turn tend c) 1 ts m.next in
     let number : 1 + length ts ≡ length ts + 1 = omega arith in
-    ap (with_next m) (turns_more (any_turn tend c) 1 ts what m.next ∙ ap (λ k. with_next rest (any_turn tend c k what rest.next)) number)
+    ap (with_next m) (turns_more (any_turn tend c) 1 ts what m.next
+    ∙ ap (λ k. with_next rest (any_turn tend c k what rest.next)) number)
     ∙ with_next_again m rest (any_turn tend c (length ts + 1) what rest.next)
 
 -- a node that doesn't tend counts nothing
-untended_turns : (c : Cluster) (n : ℕ) (ts : Takes) (t : Tended) → without_care (turns_from (any_turn None c) n ts t) ≡ turns_from (turn c) n ts t.hosted
+untended_turns : (c : Cluster) (n : ℕ) (ts : Takes) (t : Tended)
+    → without_care (turns_from (any_turn None c) n ts t) ≡ turns_from (turn c) n ts t.hosted
 untended_turns c n [] t = refl
-untended_turns c n (what ∷ ts) t = let m = turn c n what t.hosted in ap (with_next m) (untended_turns c (n + 1) ts (tended t.care m.next))
+untended_turns c n (what ∷ ts) t =
+    let m = turn c n what t.hosted in ap (with_next m) (untended_turns c (n + 1) ts (tended t.care m.next))
 
-run_is : (tend : Option ℕ) (c : Cluster) (ts : Takes) (hs : List Hosted) → node_run tend c ts hs ≡ without_care (whole tend c ts hs)
+run_is : (tend : Option ℕ) (c : Cluster) (ts : Takes) (hs : List Hosted)
+    → node_run tend c ts hs ≡ without_care (whole tend c ts hs)
 unfolding node_run
-run_is None c ts hs = let m = all_do Begin hs in ap (with_next m) (sym (untended_turns c 1 ts (tended (no_care []) m.next)))
+run_is None c ts hs =
+    let m = all_do Begin hs in ap (with_next m) (sym (untended_turns c 1 ts (tended (no_care []) m.next)))
 run_is (Some most) c ts hs = refl
 
 on_ok : (r : Result (Unit {0}) Stop) (k : Care) → OnOk r (k ≡ k)
@@ -64,7 +77,8 @@ on_ok (Ok u) k = refl
 on_ok (Err e) k = tt
 
 -- a turn in which nothing is counted
-pub once_untended : {K : Type 0} (gives : Appending K) (c : Cluster) (n : ℕ) (r : Result (Unit {0}) Stop) (a b : Scene K) (k : Care) → ActsOnce gives c (λ what. turn c n what (hosted_in a.guests)) r a b
+pub once_untended : {K : Type 0} (gives : Appending K) (c : Cluster) (n : ℕ) (r : Result (Unit {0}) Stop)
+    (a b : Scene K) (k : Care) → ActsOnce gives c (λ what. turn c n what (hosted_in a.guests)) r a b
     → TendsOnce gives c (λ what. any_turn None c n what (tended k (hosted_in a.guests))) r a b k
 once_untended gives c n r a b k q = (q.0, q.1, on_ok r k)
 
@@ -75,22 +89,28 @@ abbrev turn_on : Option ℕ → Cluster → ℕ → Option (List ℕ) → Care �
 turn_on tend c n what k hs = without_care (any_turn tend c n what (tended k hs))
 
 run_more : (tend : Option ℕ) (c : Cluster) (ts : Takes) (what : Option (List ℕ)) (hs : List Hosted)
-    → node_run tend c (ts ++ what ∷ []) hs ≡ then_do (node_run tend c ts hs) (λ after. turn_on tend c (length ts + 1) what (care_after tend c ts hs) after)
+    → node_run tend c (ts ++ what ∷ []) hs ≡ then_do (node_run tend c ts hs)
+    (λ after. turn_on tend c (length ts + 1) what (care_after tend c ts hs) after)
 run_more tend c ts what hs =
     run_is tend c (ts ++ what ∷ []) hs ∙ ap without_care (whole_more tend c ts what hs)
-    ∙ ap (λ (m : Moved (List Hosted)). then_do m (λ after. turn_on tend c (length ts + 1) what (care_after tend c ts hs) after)) (sym (run_is tend c ts hs))
+    ∙ ap (λ (m : Moved (List Hosted)). then_do m
+    (λ after. turn_on tend c (length ts + 1) what (care_after tend c ts hs) after)) (sym (run_is tend c ts hs))
 
 care_more : (tend : Option ℕ) (c : Cluster) (ts : Takes) (what : Option (List ℕ)) (hs : List Hosted)
-    → care_after tend c (ts ++ what ∷ []) hs ≡ (any_turn tend c (length ts + 1) what (tended (care_after tend c ts hs) ((node_run tend c ts hs).next))).next.care
+    → care_after tend c (ts ++ what ∷ []) hs ≡ (any_turn tend c (length ts + 1) what (tended (care_after tend c ts hs)
+    ((node_run tend c ts hs).next))).next.care
 care_more tend c ts what hs =
     ap (λ (m : Moved Tended). m.next.care) (whole_more tend c ts what hs)
-    ∙ ap (λ (m : Moved (List Hosted)). (any_turn tend c (length ts + 1) what (tended (care_after tend c ts hs) m.next)).next.care) (sym (run_is tend c ts hs))
+    ∙ ap (λ (m : Moved (List Hosted)). (any_turn tend c (length ts + 1) what
+    (tended (care_after tend c ts hs) m.next)).next.care) (sym (run_is tend c ts hs))
 
 pub no_end : (tend : Option ℕ) (c : Cluster) (limit : ℕ) (hs : List Hosted) → IsUnderway tend c limit hs []
-no_end tend c limit hs = record { most = omega arith; not_before = λ k short. let none : ⊥ = omega (arith, short) in absurd none }
+no_end tend c limit hs =
+    record { most = omega arith; not_before = λ k short. let none : ⊥ = omega (arith, short) in absurd none }
 
 -- another turn was made, since the run wasn't at its end
-ends_more : (tend : Option ℕ) (c : Cluster) (limit : ℕ) (hs : List Hosted) (ts : Takes) (what : Option (List ℕ)) → length ts < limit → all_finished ((node_run tend c ts hs).next) ≡ false
+ends_more : (tend : Option ℕ) (c : Cluster) (limit : ℕ) (hs : List Hosted) (ts : Takes) (what : Option (List ℕ))
+    → length ts < limit → all_finished ((node_run tend c ts hs).next) ≡ false
     → IsUnderway tend c limit hs ts → IsUnderway tend c limit hs (ts ++ what ∷ [])
 ends_more tend c limit hs ts what more not_yet e =
     record {
@@ -101,32 +121,43 @@ ends_more tend c limit hs ts what more not_yet e =
     cases : (k : ℕ) → k < length ts + 1 → (k < length ts) ⊎ (k ≡ length ts)
     cases k h = grind (arith, h)
 
-    go : (k : ℕ) → (k < length ts) ⊎ (k ≡ length ts) → all_finished ((node_run tend c (take k (ts ++ what ∷ [])) hs).next) ≡ false
-    go k (inl short) = subst (λ l. all_finished ((node_run tend c l hs).next) ≡ false) (sym (take-append-le k ts (what ∷ []) (omega (arith, short)))) (e.not_before k short)
-    go k (inr same) = subst (λ l. all_finished ((node_run tend c l hs).next) ≡ false) (sym (take_at ts (what ∷ []) k (sym same))) not_yet
+    go : (k : ℕ) → (k < length ts) ⊎ (k ≡ length ts) → all_finished
+        ((node_run tend c (take k (ts ++ what ∷ [])) hs).next) ≡ false
+    go k (inl short) =
+        subst (λ l. all_finished ((node_run tend c l hs).next) ≡ false)
+        (sym (take-append-le k ts (what ∷ []) (omega (arith, short)))) (e.not_before k short)
+    go k (inr same) =
+        subst (λ l. all_finished ((node_run tend c l hs).next) ≡ false)
+        (sym (take_at ts (what ∷ []) k (sym same))) not_yet
 
 module _ {K : Type 0} (gives : Appending K) (tend : Option ℕ) (c : Cluster) (limit : ℕ) where
   -- a run with this many turns was made, and this is counted after it
   abbrev pub Underway : ℕ → Scene K → Scene K → Care → Type 0
   Underway made a b k =
-      (ts : Takes) × Acts gives c ts (node_run tend c ts (hosted_in a.guests)) (Ok tt) a b × IsUnderway tend c limit (hosted_in a.guests) ts × (length ts ≡ made) × (k ≡ care_after tend c ts (hosted_in a.guests))
+      (ts : Takes) × Acts gives c ts (node_run tend c ts (hosted_in a.guests)) (Ok tt) a b
+      × IsUnderway tend c limit (hosted_in a.guests) ts × (length ts ≡ made)
+      × (k ≡ care_after tend c ts (hosted_in a.guests))
 
-  pub begun_underway : (a b : Scene K) (k : Care) → k ≡ first_care tend (hosted_in a.guests) → Acts gives c [] (all_do Begin (hosted_in a.guests)) (Ok tt) a b → Underway 0 a b k
+  pub begun_underway : (a b : Scene K) (k : Care) → k ≡ first_care tend (hosted_in a.guests)
+      → Acts gives c [] (all_do Begin (hosted_in a.guests)) (Ok tt) a b → Underway 0 a b k
   begun_underway a b k first p =
       let hs = hosted_in a.guests in (
         [],
         subst (λ (m : Moved (List Hosted)). Acts gives c [] m (Ok tt) a b) (sym (run_is tend c [] hs))
-            (acts_then gives c [] [] (all_do Begin hs) (λ after. stays after) (Ok tt) a b b p (acts_nothing gives c b p.ready)),
+            (acts_then gives c [] [] (all_do Begin hs) (λ after. stays after) (Ok tt) a b b p
+            (acts_nothing gives c b p.ready)),
         no_end tend c limit hs,
         refl,
         first,
       )
 
-  pub stopped_begun : (e : Stop) (a b : Scene K) → Acts gives c [] (all_do Begin (hosted_in a.guests)) (Err e) a b → ActsLong gives tend c limit (Err e) a b
+  pub stopped_begun : (e : Stop) (a b : Scene K) → Acts gives c [] (all_do Begin (hosted_in a.guests)) (Err e) a b
+      → ActsLong gives tend c limit (Err e) a b
   stopped_begun e a b p =
       let hs = hosted_in a.guests in (
         [],
-        subst (λ (m : Moved (List Hosted)). Acts gives c [] m (Err e) a b) (sym (run_is tend c [] hs)) (acts_before gives c [] [] (all_do Begin hs) (λ after. stays after) e a b p),
+        subst (λ (m : Moved (List Hosted)). Acts gives c [] m (Err e) a b) (sym (run_is tend c [] hs))
+            (acts_before gives c [] [] (all_do Begin hs) (λ after. stays after) e a b p),
         no_end tend c limit hs,
         tt,
       )
@@ -137,39 +168,62 @@ module _ {K : Type 0} (gives : Appending K) (tend : Option ℕ) (c : Cluster) (l
       let hs = hosted_in a.guests in
       ([], acts_none gives c [] (node_run tend c [] hs) a, no_end tend c limit hs, tt)
 
-  turned : (n : ℕ) (r : Result (Unit {0}) Stop) (a b d : Scene K) (k j : Care) → n < limit → all_finished (hosted_in b.guests) ≡ false
-      → (u : Underway n a b k) (t : TendsOnce gives c (λ what. any_turn tend c (n + 1) what (tended k (hosted_in b.guests))) r b d j)
-      → Acts gives c (u.0 ++ t.0 ∷ []) (node_run tend c (u.0 ++ t.0 ∷ []) (hosted_in a.guests)) r a d × IsUnderway tend c limit (hosted_in a.guests) (u.0 ++ t.0 ∷ [])
+  turned : (n : ℕ) (r : Result (Unit {0}) Stop) (a b d : Scene K) (k j : Care) → n < limit
+      → all_finished (hosted_in b.guests) ≡ false
+      → (u : Underway n a b k) (t : TendsOnce gives c
+      (λ what. any_turn tend c (n + 1) what (tended k (hosted_in b.guests))) r b d j)
+      → Acts gives c (u.0 ++ t.0 ∷ []) (node_run tend c (u.0 ++ t.0 ∷ []) (hosted_in a.guests)) r a d
+      × IsUnderway tend c limit (hosted_in a.guests) (u.0 ++ t.0 ∷ [])
   turned n r a b d k j more not_yet u t =
       let hs = hosted_in a.guests in
       let ts = u.0 in
       let numbered : Acts gives c (t.0 ∷ []) (turn_on tend c (length ts + 1) t.0 k (hosted_in b.guests)) r b d =
       subst (λ m. Acts gives c (t.0 ∷ []) (turn_on tend c (m + 1) t.0 k (hosted_in b.guests)) r b d) (sym u.3) t.1 in
-      let q : Acts gives c (t.0 ∷ []) (turn_on tend c (length ts + 1) t.0 (care_after tend c ts hs) (hosted_in b.guests)) r b d =
-      subst (λ x. Acts gives c (t.0 ∷ []) (turn_on tend c (length ts + 1) t.0 x (hosted_in b.guests)) r b d) u.4 numbered in (
+      let q : Acts gives c (t.0 ∷ []) (turn_on tend c (length ts + 1) t.0 (care_after tend c ts hs)
+      (hosted_in b.guests)) r b d =
+      subst (λ x. Acts gives c (t.0 ∷ []) (turn_on tend c (length ts + 1) t.0 x
+      (hosted_in b.guests)) r b d) u.4 numbered in (
         subst (λ (m : Moved (List Hosted)). Acts gives c (ts ++ t.0 ∷ []) m r a d) (sym (run_more tend c ts t.0 hs))
-            (acts_then gives c ts (t.0 ∷ []) (node_run tend c ts hs) (λ after. turn_on tend c (length ts + 1) t.0 (care_after tend c ts hs) after) r a b d u.1 q),
-        ends_more tend c limit hs ts t.0 (subst (λ m. m < limit) (sym u.3) more) (ap all_finished (sym u.1.done.hosted) ∙ not_yet) u.2,
+            (acts_then gives c ts (t.0 ∷ []) (node_run tend c ts hs)
+            (λ after. turn_on tend c (length ts + 1) t.0 (care_after tend c ts hs) after) r a b d u.1 q),
+        ends_more tend c limit hs ts t.0 (subst (λ m. m < limit) (sym u.3) more)
+            (ap all_finished (sym u.1.done.hosted) ∙ not_yet) u.2,
       )
 
   pub turned_underway : (n : ℕ) (a b d : Scene K) (k j : Care) → n < limit → all_finished (hosted_in b.guests) ≡ false
-      → Underway n a b k → TendsOnce gives c (λ what. any_turn tend c (n + 1) what (tended k (hosted_in b.guests))) (Ok tt) b d j → Underway (n + 1) a d j
+      → Underway n a b k → TendsOnce gives c (λ what. any_turn tend c (n + 1) what (tended k (hosted_in b.guests)))
+      (Ok tt) b d j → Underway (n + 1) a d j
   turned_underway n a b d k j more not_yet u t =
       let hs = hosted_in a.guests in
       let ts = u.0 in
       let p = turned n (Ok tt) a b d k j more not_yet u t in
       let numbered : j ≡ (any_turn tend c (length ts + 1) t.0 (tended k (hosted_in b.guests))).next.care =
       subst (λ m. j ≡ (any_turn tend c (m + 1) t.0 (tended k (hosted_in b.guests))).next.care) (sym u.3) t.2 in
-      let cared : j ≡ (any_turn tend c (length ts + 1) t.0 (tended (care_after tend c ts hs) (hosted_in b.guests))).next.care =
+      let cared : j ≡ (any_turn tend c (length ts + 1) t.0
+      (tended (care_after tend c ts hs) (hosted_in b.guests))).next.care =
       subst (λ x. j ≡ (any_turn tend c (length ts + 1) t.0 (tended x (hosted_in b.guests))).next.care) u.4 numbered in
-      let hosted : j ≡ (any_turn tend c (length ts + 1) t.0 (tended (care_after tend c ts hs) ((node_run tend c ts hs).next))).next.care =
-      subst (λ x. j ≡ (any_turn tend c (length ts + 1) t.0 (tended (care_after tend c ts hs) x)).next.care) u.1.done.hosted cared in
-      (ts ++ t.0 ∷ [], p.0, p.1, length-append ts (t.0 ∷ []) ∙ ap (λ m. m + 1) u.3, hosted ∙ sym (care_more tend c ts t.0 hs))
+      let hosted : j ≡ (any_turn tend c (length ts + 1) t.0
+      (tended (care_after tend c ts hs) ((node_run tend c ts hs).next))).next.care =
+      subst (λ x. j ≡ (any_turn tend c (length ts + 1) t.0
+      (tended (care_after tend c ts hs) x)).next.care) u.1.done.hosted cared in (
+        ts ++ t.0 ∷ [],
+        p.0,
+        p.1,
+        length-append ts (t.0 ∷ []) ∙ ap (λ m. m + 1) u.3,
+        hosted
+            ∙ sym (care_more tend c ts t.0 hs),
+      )
 
-  pub stopped_turn : (n : ℕ) (e : Stop) (a b d : Scene K) (k j : Care) → n < limit → all_finished (hosted_in b.guests) ≡ false
-      → Underway n a b k → TendsOnce gives c (λ what. any_turn tend c (n + 1) what (tended k (hosted_in b.guests))) (Err e) b d j → ActsLong gives tend c limit (Err e) a d
-  stopped_turn n e a b d k j more not_yet u t = let p = turned n (Err e) a b d k j more not_yet u t in (u.0 ++ t.0 ∷ [], p.0, p.1, tt)
+  pub stopped_turn : (n : ℕ) (e : Stop) (a b d : Scene K) (k j : Care) → n < limit
+      → all_finished (hosted_in b.guests) ≡ false
+      → Underway n a b k → TendsOnce gives c (λ what. any_turn tend c (n + 1) what (tended k (hosted_in b.guests)))
+      (Err e) b d j → ActsLong gives tend c limit (Err e) a d
+  stopped_turn n e a b d k j more not_yet u t =
+      let p = turned n (Err e) a b d k j more not_yet u t in (u.0 ++ t.0 ∷ [], p.0, p.1, tt)
 
   -- what is said of the turns, under the answer of the whole run
-  pub run_stops : (e : Stop) (r : Result RunEnd Stop) (a b : Scene K) → r ≡ Err e → ActsLong gives tend c limit (Err e) a b → IfErr r (λ x. RunsPart gives x tend c limit a b)
-  run_stops e r a b is p = subst (λ (o : Result RunEnd Stop). IfErr o (λ x. RunsPart gives x tend c limit a b)) (sym is) (p.0, p.2, p.1.part)
+  pub run_stops : (e : Stop) (r : Result RunEnd Stop) (a b : Scene K) → r ≡ Err e
+      → ActsLong gives tend c limit (Err e) a b → IfErr r (λ x. RunsPart gives x tend c limit a b)
+  run_stops e r a b is p =
+      subst (λ (o : Result RunEnd Stop). IfErr o (λ x. RunsPart gives x tend c limit a b)) (sym is)
+      (p.0, p.2, p.1.part)

@@ -8,8 +8,8 @@ use Rattle.cx_msg.specs.Letter.{Letter}
 use Rattle.cx_msg.specs.declared.input.KeptRecord.{KeptRecord}
 use Rattle.cx_node.specs.Ports.{bind_of, sendings}
 
--- One action of a node: a role is bound to its port, a take of the link gives this, a role keeps a record, the link is asked to send a
--- datagram, a byte is printed.
+-- One action of a node: a role is bound to its port, a take of the link gives this, a role keeps a record, the link
+-- is asked to send a datagram, a byte is printed.
 pub data Action : Type 0 where
   Bound : (role : RoleId) → Action
   Took : (what : Option (List ℕ)) → Action

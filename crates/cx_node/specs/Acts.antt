@@ -1,7 +1,10 @@
 -- The result of a part of a node's run: it was done whole, or the first of its actions were done and something failed.
-use Rattle.std.specs.Prelude.{◌≡◌, ◌⊎◌, ℕ, true, List, [], ◌∷◌, length, Option, None, Some, option_map, Result, Ok, Err, IfErr, OnOk}
+use Rattle.std.specs.Prelude.{◌≡◌, ◌⊎◌, ℕ, true, List, [], ◌∷◌, length, Option, None, Some, option_map, Result, Ok}
+use Rattle.std.specs.Prelude.{Err, IfErr, OnOk}
 use Rattle.cx_base.specs.Faults.{Rises}
 use Rattle.cx_base.specs.declared.cluster.Cluster.{Cluster}
+use Rattle.cx_edge.specs.declared.link.Link.{Ghosts as LinkGhosts}
+use Rattle.cx_edge.specs.declared.sink.Sink.{Ghosts as SinkGhosts}
 use Rattle.cx_edge.specs.Link.{LinkHistory, with_taken}
 use Rattle.cx_msg.specs.Decoding.{decoded}
 use Rattle.cx_msg.specs.Letter.{Letter}
@@ -12,10 +15,10 @@ use Rattle.cx_node.specs.declared.come.Come.TheVariants as come
 use Rattle.cx_node.specs.declared.node.Stop.{Stop}
 use Rattle.cx_node.specs.declared.node.Stop.TheVariants.{LinkFault, NoMemory, StoreFault, WriteFault}
 use Rattle.cx_node.specs.Action.{HasTaken}
-use Rattle.cx_node.specs.Doing.{DidPart, Does, Scene}
+use Rattle.cx_node.specs.Doing.{DidPart, Does, Scene, scene}
 use Rattle.cx_node.specs.Guest.{AreReady, hosted_in}
 use Rattle.cx_node.specs.Hosted.{Hosted}
-use Rattle.cx_node.specs.Node.{IsUnderway, Takes}
+use Rattle.cx_node.specs.Node.{IsUnderway, NodeState, Takes}
 use Rattle.cx_node.specs.Run.{Moved, all_finished}
 use Rattle.cx_node.specs.Tending.{node_run}
 
@@ -34,22 +37,49 @@ pub record Blames (result : Result (Unit {0}) Stop) (old new : Failures) : Type 
   pub linked : result ≡ Err LinkFault → Rises old.link new.link
   pub unlinked : (result ≡ Err LinkFault → ⊥) → new.link ≡ old.link
 
--- What is to be done is done, with these takes, and all roles may go on; or the first of its actions are done, and then it stopped.
-pub record Acts {K : Type 0} (gives : Appending K) (c : Cluster) (takes : Takes) (m : Moved (List Hosted)) (result : Result (Unit {0}) Stop) (old new : Scene K) : Type 0 where
+-- ---- a node and what is around it
+
+-- what is seen of a node's roles, its link and its output
+abbrev pub scene_of : {K L W : Type 0} → LinkGhosts L → SinkGhosts W → NodeState K → L → W → Scene K
+scene_of by_link by_out node link out = scene node.guests (by_link.told link) (by_out.taken out)
+
+abbrev pub failed : {L W : Type 0} → LinkGhosts L → SinkGhosts W → L → W → Failures
+failed by_link by_out link out = failures (by_link.faults link) (by_out.faults out)
+
+-- ---- what a part of a run comes to
+
+-- What is to be done is done, with these takes, and all roles may go on; or the first of its actions are done, and
+-- then it stopped.
+pub record Acts {K : Type 0} (gives : Appending K) (c : Cluster) (takes : Takes) (m : Moved (List Hosted))
+    (result : Result (Unit {0}) Stop) (old new : Scene K) : Type 0 where
   pub done : OnOk result (Does gives c m old new)
   pub taken : OnOk result (HasTaken takes m.actions)
   pub ready : OnOk result (AreReady c new.guests)
   pub part : IfErr result (λ e. DidPart gives c m.actions e old new)
 
+-- the same of a part without a take, by the hosted roles
+abbrev pub ActsPart : {K : Type 0} → Appending K → Cluster → (List Hosted → Moved (List Hosted))
+    → Result (Unit {0}) Stop → Scene K → Scene K → Type 0
+ActsPart gives c part result old new = Acts gives c [] (part (hosted_in old.guests)) result old new
+
 -- the same with what one take gave
-abbrev pub ActsOnce : {K : Type 0} → Appending K → Cluster → (Option (List ℕ) → Moved (List Hosted)) → Result (Unit {0}) Stop → Scene K → Scene K → Type 0
+abbrev pub ActsOnce : {K : Type 0} → Appending K → Cluster → (Option (List ℕ) → Moved (List Hosted))
+    → Result (Unit {0}) Stop → Scene K → Scene K → Type 0
 ActsOnce gives c f result old new = (what : Option (List ℕ)) × Acts gives c (what ∷ []) (f what) result old new
 
+abbrev pub ActsTaking : {K : Type 0} → Appending K → Cluster → (Option (List ℕ) → List Hosted → Moved (List Hosted))
+    → Result (Unit {0}) Stop → Scene K → Scene K → Type 0
+ActsTaking gives c part result old new = ActsOnce gives c (λ what. part what (hosted_in old.guests)) result old new
+
 -- the turns of a run were made to its end, or a part of them
-abbrev pub ActsLong : {K : Type 0} → Appending K → Option ℕ → Cluster → ℕ → Result (Unit {0}) Stop → Scene K → Scene K → Type 0
+abbrev pub ActsLong : {K : Type 0} → Appending K → Option ℕ → Cluster → ℕ → Result (Unit {0}) Stop
+    → Scene K → Scene K → Type 0
 ActsLong gives tend c limit result old new =
-    (takes : Takes) × Acts gives c takes (node_run tend c takes (hosted_in old.guests)) result old new × IsUnderway tend c limit (hosted_in old.guests) takes
+    (takes : Takes) × Acts gives c takes (node_run tend c takes (hosted_in old.guests)) result old new
+    × IsUnderway tend c limit (hosted_in old.guests) takes
     × OnOk result ((all_finished ((node_run tend c takes (hosted_in old.guests)).next) ≡ true) ⊎ (length takes ≡ limit))
+
+-- ---- what a take of the link gave
 
 -- what a take gave: nothing, bytes that are no datagram, or one
 abbrev pub read_as : Result Letter WireFault → Come

@@ -30,7 +30,8 @@ scene guests link out = record { guests = guests; link = link; out = out }
 abbrev pub Asks : Cluster → List Letter → Option LinkHistory → Option LinkHistory → Type 0
 Asks c letters old new =
     (after : LinkHistory) → new ≡ Some after
-    → (before : LinkHistory) × (old ≡ Some before) × (after ≡ record before { sent = before.sent ++ sendings c letters })
+    → (before : LinkHistory) × (old ≡ Some before)
+    × (after ≡ record before { sent = before.sent ++ sendings c letters })
 
 -- the same with the first of these datagrams
 abbrev pub AsksPart : Cluster → List Letter → Option LinkHistory → Option LinkHistory → Type 0
@@ -45,18 +46,21 @@ Linked c actions old new =
 abbrev pub GuestsGrow : {K : Type 0} → Appending K → List KeptRecord → List (Guest K) → List (Guest K) → Type 0
 GuestsGrow {K} gives kept old new =
     (length new ≡ length old)
-    × ((i : ℕ) (h after : Guest K) → slice_get old i ≡ Some h → slice_get new i ≡ Some after → GuestGrows gives kept h after)
+    × ((i : ℕ) (h after : Guest K) → slice_get old i ≡ Some h → slice_get new i ≡ Some after
+    → GuestGrows gives kept h after)
 
--- These actions were done, and no others: the keepers have their roles' records, the link gave and was asked what they say, and
--- their bytes were printed. Each role is who it was.
-pub record Did {K : Type 0} (gives : Appending K) (c : Cluster) (actions : List Action) (old new : Scene K) : Type 0 where
+-- These actions were done, and no others: the keepers have their roles' records, the link gave and was asked what
+-- they say, and their bytes were printed. Each role is who it was.
+pub record Did {K : Type 0} (gives : Appending K) (c : Cluster) (actions : List Action)
+    (old new : Scene K) : Type 0 where
   pub names : map who new.guests ≡ map who old.guests
   pub kept : GuestsGrow gives (kept_in actions) old.guests new.guests
   pub link : Linked c actions old.link new.link
   pub printed : Appends old.out new.out (printed_in actions)
 
 -- What is to be done was done whole, and each role is as it follows.
-pub record Does {K : Type 0} (gives : Appending K) (c : Cluster) (m : Moved (List Hosted)) (old new : Scene K) : Type 0 where
+pub record Does {K : Type 0} (gives : Appending K) (c : Cluster) (m : Moved (List Hosted))
+    (old new : Scene K) : Type 0 where
   pub hosted : hosted_in new.guests ≡ m.next
   pub did : Did gives c m.actions old new
 
@@ -64,10 +68,12 @@ pub record Does {K : Type 0} (gives : Appending K) (c : Cluster) (m : Moved (Lis
 abbrev pub GuestsRest : {K : Type 0} → Appending K → List (Guest K) → List (Guest K) → Type 0
 GuestsRest {K} gives old new =
     (length new ≡ length old)
-    × ((i : ℕ) (h after : Guest K) → slice_get old i ≡ Some h → slice_get new i ≡ Some after → (who after ≡ who h) × Rests gives (keeper_of h) (keeper_of after))
+    × ((i : ℕ) (h after : Guest K) → slice_get old i ≡ Some h → slice_get new i ≡ Some after
+    → (who after ≡ who h) × Rests gives (keeper_of h) (keeper_of after))
 
 -- the append of this record failed, of the role of this name; the other roles are as they were
-pub record GuestFails {K : Type 0} (gives : Appending K) (role : RoleId) (r : Record) (old new : List (Guest K)) : Type 0 where
+pub record GuestFails {K : Type 0} (gives : Appending K) (role : RoleId) (r : Record)
+    (old new : List (Guest K)) : Type 0 where
   pub place : ℕ
   pub guest : Guest K
   pub after : Guest K
@@ -77,16 +83,19 @@ pub record GuestFails {K : Type 0} (gives : Appending K) (role : RoleId) (r : Re
   pub same : who after ≡ who guest
   pub fails : FailsIn gives (Some r) (keeper_of guest) (keeper_of after)
 
--- What stopped a run, by the action that was next: a take of the link failed, or the append of a role's record, which its store may have
--- all the same; or memory ran out, or the output failed.
+-- What stopped a run, by the action that was next: a take of the link failed, or the append of a role's record, which
+-- its store may have all the same; or memory ran out, or the output failed.
 abbrev pub StopsAt : {K : Type 0} → Appending K → Stop → Option Action → List (Guest K) → List (Guest K) → Type 0
 StopsAt gives stop.NoMemory next old new = GuestsRest gives old new
 StopsAt gives stop.WriteFault next old new = GuestsRest gives old new
-StopsAt gives stop.LinkFault next old new = ((what : Option (List ℕ)) × (next ≡ Some (Took what))) × GuestsRest gives old new
-StopsAt gives (stop.StoreFault role) next old new = (r : Record) × (next ≡ Some (Kept (record { role = role; what = r }))) × GuestFails gives role r old new
+StopsAt gives stop.LinkFault next old new =
+    ((what : Option (List ℕ)) × (next ≡ Some (Took what))) × GuestsRest gives old new
+StopsAt gives (stop.StoreFault role) next old new =
+    (r : Record) × (next ≡ Some (Kept (record { role = role; what = r }))) × GuestFails gives role r old new
 
 -- The first of these actions were done, and no others, when this stopped the run.
-pub record DidPart {K : Type 0} (gives : Appending K) (c : Cluster) (actions : List Action) (e : Stop) (old new : Scene K) : Type 0 where
+pub record DidPart {K : Type 0} (gives : Appending K) (c : Cluster) (actions : List Action) (e : Stop)
+    (old new : Scene K) : Type 0 where
   pub count : ℕ
   pub mid : List (Guest K)
   pub did : Did gives c (take count actions) old (scene mid new.link new.out)

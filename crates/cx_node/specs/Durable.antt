@@ -9,7 +9,9 @@ use Rattle.cx_msg.specs.declared.kept.Record.{Record}
 use Rattle.cx_node.specs.Opening.{HasRecords}
 
 -- It is as the records leave it of which its bytes are the image, and its journal has them.
-pub record IsDurablyOpened {S D V : Type 0} (rules : Rules D V) (seen : S → Option (List ℕ)) (disk_faults : S → ℕ) (c : Cluster) (tells : Bool) (file : List ℕ) (me : RoleId) (j : JournalState S) (role : Running D V) : Type 0 where
+pub record IsDurablyOpened {S D V : Type 0} (rules : Rules D V) (seen : S → Option (List ℕ)) (disk_faults : S → ℕ)
+    (c : Cluster) (tells : Bool) (file : List ℕ) (me : RoleId) (j : JournalState S)
+    (role : Running D V) : Type 0 where
   pub records : List Record
   pub state : role ≡ opened rules c me records
   pub accepted : refused rules c me records ≡ None

@@ -1,16 +1,22 @@
 -- What contracts see of a hosted role, and what its keeper was given.
-use Rattle.std.specs.Prelude.{◌≡◌, ℕ, List, [], ◌∷◌, map, Option, None, Some, Ok, Err, slice_get, IsTrue}
+use Rattle.std.specs.Prelude.{◌≡◌, ℕ, List, [], ◌∷◌, map, Option, None, Some, Result, Ok, Err, slice_get}
+use Rattle.std.specs.Prelude.{IsErrOf, IsTrue, OnErr, OnOk, true}
 use Rattle.cx_base.specs.declared.cluster.Cluster.{Cluster}
 use Rattle.cx_base.specs.declared.role.RoleId.{RoleId}
-use Rattle.cx_keeper.specs.declared.keeper.KeepFault.TheVariants.{Failed}
+use Rattle.cx_keeper.specs.declared.keeper.KeepFault.{KeepFault}
+use Rattle.cx_keeper.specs.declared.keeper.KeepFault.TheVariants.{Failed, NoMemory}
 use Rattle.cx_model.specs.Names.{names_role}
-use Rattle.cx_model.specs.World.{records_of}
+use Rattle.cx_model.specs.Outcome.{Outcome}
+use Rattle.cx_model.specs.Rules.{Rules, Running, running_after}
+use Rattle.cx_model.specs.World.{kept_by, records_of}
+use Rattle.cx_msg.specs.Letter.{Letter}
 use Rattle.cx_msg.specs.declared.input.KeptRecord.{KeptRecord}
 use Rattle.cx_msg.specs.declared.kept.Record.{Record}
 use Rattle.cx_role.specs.Role.{Appending, Refuses}
 use Rattle.cx_node.specs.declared.guest.Guest.{Guest}
 use Rattle.cx_node.specs.declared.guest.Guest.TheVariants as guest
-use Rattle.cx_node.specs.Hosted.{Hosted, ClientAt, BatcherAt, LeaderAt, ProxyAt, AcceptorAt, MatchmakerAt, ReplicaAt, UnbatcherAt, ReaderAt, is_live, name_of}
+use Rattle.cx_node.specs.Hosted.{Hosted, ClientAt, BatcherAt, LeaderAt, ProxyAt, AcceptorAt, MatchmakerAt, ReplicaAt}
+use Rattle.cx_node.specs.Hosted.{UnbatcherAt, ReaderAt, Step, is_live, name_of}
 
 -- the hosted role
 abbrev pub hosted_of : {K : Type 0} → Guest K → Hosted
@@ -49,7 +55,8 @@ pub record IsReady {K : Type 0} (c : Cluster) (h : Guest K) : Type 0 where
 
 -- no two have one name
 abbrev pub AreDistinct : List Hosted → Type 0
-AreDistinct hs = (i j : ℕ) (a b : Hosted) → slice_get hs i ≡ Some a → slice_get hs j ≡ Some b → name_of a ≡ name_of b → i ≡ j
+AreDistinct hs =
+    (i j : ℕ) (a b : Hosted) → slice_get hs i ≡ Some a → slice_get hs j ≡ Some b → name_of a ≡ name_of b → i ≡ j
 
 -- roles of the cluster that may take steps, no two of one name
 pub record AreReady {K : Type 0} (c : Cluster) (guests : List (Guest K)) : Type 0 where
@@ -90,3 +97,36 @@ abbrev pub FailsIn : {K : Type 0} → Appending K → Option Record → Option K
 FailsIn gives next None new = ⊥
 FailsIn gives next (Some old) None = ⊥
 FailsIn gives next (Some old) (Some new) = Fails gives next old new
+
+-- What a role does that is to make a step of this row, in the words of its seat: it makes it; or memory runs out, and
+-- its keeper keeps nothing more; or the append of the row's record fails. A role that can take no step any more may
+-- have another name.
+pub record MakesRow {K D V : Type 0} (gives : Appending K) (rules : Rules D V) (before : Running D V) (row : Outcome V)
+    (result : Result (Unit {0}) KeepFault) (after : Running D V) (old new : K) (sent : List Letter) : Type 0 where
+  pub state : OnOk result (after ≡ running_after rules before row)
+  pub kept : OnOk result (Appended gives (records_of before.me (kept_by before.me row.kept)) old new)
+  pub sends : OnOk result (sent ≡ row.sends)
+  pub rests : IsErrOf result NoMemory → Refuses gives old new
+  pub failed : IsErrOf result Failed → Fails gives
+      (slice_get (records_of before.me (kept_by before.me row.kept)) 0) old new
+  pub name : OnErr result (after.live ≡ true → after.me ≡ before.me)
+
+-- the keeper of a role, if it has one, keeps nothing more
+abbrev pub KeeperRests : {K : Type 0} → Appending K → Guest K → Guest K → Type 0
+KeeperRests gives old new = Rests gives (keeper_of old) (keeper_of new)
+
+-- the append failed of the first of these records that a role has to keep
+abbrev pub KeeperFails : {K : Type 0} → Appending K → List KeptRecord → Guest K → Guest K → Type 0
+KeeperFails gives kept old new = FailsIn gives (slice_get (records_of (who old) kept) 0) (keeper_of old) (keeper_of new)
+
+-- What a hosted role does that is to make this step: it makes it, and may go on; or memory runs out, and its keeper
+-- keeps nothing more; or the append of its record fails.
+pub record Performs {K : Type 0} (gives : Appending K) (step : Step) (result : Result (Unit {0}) KeepFault)
+    (old new : Guest K) (sent : List Letter) (printed : List ℕ) : Type 0 where
+  pub role : OnOk result (hosted_of new ≡ step.next)
+  pub kept : OnOk result (GuestGrows gives step.kept old new)
+  pub sends : OnOk result (sent ≡ step.sends)
+  pub text : OnOk result (printed ≡ step.text)
+  pub live : OnOk result (IsTrue (is_live (hosted_of new)))
+  pub rests : IsErrOf result NoMemory → KeeperRests gives old new
+  pub failed : IsErrOf result Failed → KeeperFails gives step.kept old new

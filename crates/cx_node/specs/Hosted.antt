@@ -43,7 +43,8 @@ name_of (ReplicaAt s) = s.me
 name_of (UnbatcherAt s) = s.me
 name_of (ReaderAt s) = s.me
 
--- The result of a step of a role: what follows, the records that are kept, the datagrams that are sent, and the text that is printed.
+-- The result of a step of a role: what follows, the records that are kept, the datagrams that are sent, and the text
+-- that is printed.
 pub record Step : Type 0 where
   pub next : Hosted
   pub kept : List KeptRecord

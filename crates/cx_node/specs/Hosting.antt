@@ -1,12 +1,16 @@
 -- What binding, running and giving back come to, after an input that was accepted.
-use Rattle.std.specs.Prelude.{◌≡◌, ◌≤◌, ℕ, Bool, true, List, ◌++◌, Option, Some, Result, Ok, Err, IfOk, IfErr, slice_get}
+use Rattle.std.specs.Prelude.{◌≡◌, ◌≤◌, ℕ, Bool, true, List, ◌++◌, Option, Some, Result, Ok, Err, IfOk, IfErr}
+use Rattle.std.specs.Prelude.{map, option_map, slice_get}
 use Rattle.cx_base.specs.declared.cluster.Cluster.{Cluster}
 use Rattle.cx_base.specs.declared.event.Event.{Event}
 use Rattle.cx_base.specs.declared.role.RoleId.{RoleId}
 use Rattle.cx_base.specs.declared.status.Status.{Status}
 use Rattle.cx_base.specs.declared.status.Status.TheVariants as status
 use Rattle.cx_base.specs.Faults.{Rises}
+use Rattle.cx_disk.specs.declared.disk.Disk.{Ghosts as DiskGhosts}
+use Rattle.cx_edge.specs.declared.depot.Depot.{Ghosts as DepotGhosts}
 use Rattle.cx_edge.specs.Link.{Bind, LinkHistory}
+use Rattle.cx_journal.specs.Appends.{IsJournalAppend}
 use Rattle.cx_journal.specs.State.{JournalState}
 use Rattle.cx_msg.specs.declared.kept.Record.{Record}
 use Rattle.cx_role.specs.Role.{Appending}
@@ -17,10 +21,12 @@ use Rattle.cx_node.specs.declared.node.Stop.{Stop}
 use Rattle.cx_node.specs.declared.node.Stop.TheVariants as stop
 use Rattle.cx_node.specs.declared.opening.OpenStop.{OpenStop}
 use Rattle.cx_node.specs.declared.opening.OpenStop.TheVariants as open_stop
+use Rattle.cx_node.specs.Acts.{Failures}
 use Rattle.cx_node.specs.Doing.{Scene}
 use Rattle.cx_node.specs.Guest.{keeper_of, who}
-use Rattle.cx_node.specs.Node.{IsEnd, IsUnderway, Runs, RunsPart, Takes}
+use Rattle.cx_node.specs.Node.{IsEnd, IsUnderway, NodeState, Runs, RunsPart, Takes}
 use Rattle.cx_node.specs.Opening.{IsBadAs, IsFirstBad}
+use Rattle.cx_node.specs.Ports.{bind_of}
 use Rattle.cx_node.specs.Serving.{Outside, Served, ServedPart, hosts}
 
 -- ---- what is answered
@@ -46,51 +52,89 @@ ended_status (Err (stop.StoreFault role)) = status.StoreFault role
 abbrev pub with_binds : List Bind → LinkHistory → LinkHistory
 with_binds binds h = record h { binds = h.binds ++ binds }
 
--- The stores of these roles were given back: the depot holds what each store holds, for other roles what it held, and each fault of
--- a store, and nothing else, has raised its role's count.
-pub record GivesBack {D : Type 0} (seen : D → Option (List ℕ)) (disk_faults : D → ℕ) (guests : List (Guest (JournalState D))) (tells : Bool) (held held_after : RoleId → List ℕ) (faults faults_after : RoleId → ℕ) : Type 0 where
+-- the same with these roles bound to their ports, where the history is known
+abbrev pub with_bound : Cluster → List RoleId → Option LinkHistory → Option LinkHistory
+with_bound c roles told = option_map (with_binds (map (bind_of c) roles)) told
+
+-- The stores of these roles were given back: the depot holds what each store holds, for other roles what it held, and
+-- each fault of a store, and nothing else, has raised its role's count.
+pub record GivesBack {D : Type 0} (seen : D → Option (List ℕ)) (disk_faults : D → ℕ)
+    (guests : List (Guest (JournalState D))) (tells : Bool) (held held_after : RoleId → List ℕ)
+    (faults faults_after : RoleId → ℕ) : Type 0 where
   pub holds : tells ≡ true → (i : ℕ) (guest : Guest (JournalState D)) (j : JournalState D) (file : List ℕ)
-      → slice_get guests i ≡ Some guest → keeper_of guest ≡ Some j → seen j.disk ≡ Some file → held_after (who guest) ≡ file
+      → slice_get guests i ≡ Some guest → keeper_of guest ≡ Some j → seen j.disk ≡ Some file
+      → held_after (who guest) ≡ file
   pub others : (role : RoleId)
-      → ((i : ℕ) (guest : Guest (JournalState D)) (j : JournalState D) → slice_get guests i ≡ Some guest → keeper_of guest ≡ Some j → who guest ≡ role → ⊥)
+      → ((i : ℕ) (guest : Guest (JournalState D)) (j : JournalState D)
+      → slice_get guests i ≡ Some guest → keeper_of guest ≡ Some j → who guest ≡ role → ⊥)
       → held_after role ≡ held role
   pub failed : (i : ℕ) (guest : Guest (JournalState D)) (j : JournalState D)
-      → slice_get guests i ≡ Some guest → keeper_of guest ≡ Some j → Rises 0 (disk_faults j.disk) → Rises (faults (who guest)) (faults_after (who guest))
+      → slice_get guests i ≡ Some guest → keeper_of guest ≡ Some j → Rises 0 (disk_faults j.disk)
+      → Rises (faults (who guest)) (faults_after (who guest))
   pub still : (i : ℕ) (guest : Guest (JournalState D)) (j : JournalState D)
-      → slice_get guests i ≡ Some guest → keeper_of guest ≡ Some j → disk_faults j.disk ≡ 0 → faults_after (who guest) ≡ faults (who guest)
+      → slice_get guests i ≡ Some guest → keeper_of guest ≡ Some j → disk_faults j.disk ≡ 0
+      → faults_after (who guest) ≡ faults (who guest)
   pub others_still : (role : RoleId)
-      → ((i : ℕ) (guest : Guest (JournalState D)) (j : JournalState D) → slice_get guests i ≡ Some guest → keeper_of guest ≡ Some j → who guest ≡ role → ⊥)
+      → ((i : ℕ) (guest : Guest (JournalState D)) (j : JournalState D)
+      → slice_get guests i ≡ Some guest → keeper_of guest ≡ Some j → who guest ≡ role → ⊥)
       → faults_after role ≡ faults role
   pub later : (role : RoleId) → faults role ≤ faults_after role
 
--- Hosted roles ran to this answer: the whole run was made, or the first of its actions were done, and what failed has a cause.
-pub record Ran {K : Type 0} (gives : Appending K) (tend : Option ℕ) (c : Cluster) (turns : ℕ) (answer : Result RunEnd Stop) (old new : Scene K) (links links_after writes writes_after : ℕ) : Type 0 where
+-- they were given back to this depot
+abbrev pub AreGivenBack : {D S : Type 0} → DepotGhosts D S → DiskGhosts S → List (Guest (JournalState S)) → D → D
+    → Type 0
+AreGivenBack by_depot by_disk guests old new =
+    GivesBack by_disk.seen by_disk.faults guests (by_depot.tells old)
+    (by_depot.held old) (by_depot.held new) (by_depot.faults old) (by_depot.faults new)
+
+-- what the appends of a journal on such a disk may answer, and leave
+abbrev pub journal_gives : {D : Type 0} → DiskGhosts D → Appending (JournalState D)
+journal_gives by_disk =
+    IsJournalAppend by_disk.seen by_disk.may_leave by_disk.moment by_disk.left_since by_disk.faults
+
+-- these hosted roles in this cluster
+abbrev pub hosting : {K : Type 0} → Cluster → List (Guest K) → NodeState K
+hosting c guests = record { cluster = c; guests = guests }
+
+-- Hosted roles ran to this answer: the whole run was made, or the first of its actions were done, and what failed has
+-- a cause.
+pub record Ran {K : Type 0} (gives : Appending K) (tend : Option ℕ) (c : Cluster) (turns : ℕ)
+    (answer : Result RunEnd Stop) (old new : Scene K) (before after : Failures) : Type 0 where
   pub done : IfOk answer (λ e. Runs gives tend c turns e old new)
   pub part : IfErr answer (λ e. RunsPart gives e tend c turns old new)
-  pub written : answer ≡ Err stop.WriteFault → Rises writes writes_after
-  pub unwritten : (answer ≡ Err stop.WriteFault → ⊥) → writes_after ≡ writes
-  pub linked : answer ≡ Err stop.LinkFault → Rises links links_after
-  pub unlinked : (answer ≡ Err stop.LinkFault → ⊥) → links_after ≡ links
+  pub written : answer ≡ Err stop.WriteFault → Rises before.out after.out
+  pub unwritten : (answer ≡ Err stop.WriteFault → ⊥) → after.out ≡ before.out
+  pub linked : answer ≡ Err stop.LinkFault → Rises before.link after.link
+  pub unlinked : (answer ≡ Err stop.LinkFault → ⊥) → after.link ≡ before.link
 
 -- the whole run was made, to this end
 abbrev pub HostEnds : List RoleId → Option ℕ → Cluster → ℕ → List Event → ℕ → RunEnd → Outside → Outside → Type 0
 HostEnds roles tend c window events turns e old new =
-    (told : RoleId → List Record) × (takes : Takes) × Served roles tend c window events told takes old new × IsEnd tend c turns (hosts c window events told roles) takes e
+    (told : RoleId → List Record) × (takes : Takes) × Served roles tend c window events told takes old new
+    × IsEnd tend c turns (hosts c window events told roles) takes e
 
 -- the first of its actions were done
 abbrev pub HostEndsEarly : List RoleId → Option ℕ → Cluster → ℕ → List Event → ℕ → Outside → Outside → Type 0
 HostEndsEarly roles tend c window events turns old new =
-    (told : RoleId → List Record) × (takes : Takes) × ServedPart roles tend c window events told takes old new × IsUnderway tend c turns (hosts c window events told roles) takes
+    (told : RoleId → List Record) × (takes : Takes) × ServedPart roles tend c window events told takes old new
+    × IsUnderway tend c turns (hosts c window events told roles) takes
 
 -- what was done, and why, for each answer; hosting reads nothing
 abbrev pub HostDid : List RoleId → Option ℕ → Cluster → ℕ → List Event → ℕ → Outside → Outside → Status → Type 0
-HostDid roles tend c window events turns old new status.Done = HostEnds roles tend c window events turns end.Done old new
-HostDid roles tend c window events turns old new status.Turns = HostEnds roles tend c window events turns end.Turns old new
-HostDid roles tend c window events turns old new status.LinkFault = HostEndsEarly roles tend c window events turns old new × Rises old.links new.links
-HostDid roles tend c window events turns old new status.WriteFault = HostEndsEarly roles tend c window events turns old new × Rises old.writes new.writes
-HostDid roles tend c window events turns old new (status.StoreFault role) = HostEndsEarly roles tend c window events turns old new × Rises (old.stores role) (new.stores role)
-HostDid roles tend c window events turns old new (status.BadStore role at) = HostEndsEarly roles tend c window events turns old new × (old.tells ≡ true → IsFirstBad roles c old.held role at)
-HostDid roles tend c window events turns old new status.NoMemory = HostEndsEarly roles tend c window events turns old new
+HostDid roles tend c window events turns old new status.Done =
+    HostEnds roles tend c window events turns end.Done old new
+HostDid roles tend c window events turns old new status.Turns =
+    HostEnds roles tend c window events turns end.Turns old new
+HostDid roles tend c window events turns old new status.LinkFault =
+    HostEndsEarly roles tend c window events turns old new × Rises old.links new.links
+HostDid roles tend c window events turns old new status.WriteFault =
+    HostEndsEarly roles tend c window events turns old new × Rises old.writes new.writes
+HostDid roles tend c window events turns old new (status.StoreFault role) =
+    HostEndsEarly roles tend c window events turns old new × Rises (old.stores role) (new.stores role)
+HostDid roles tend c window events turns old new (status.BadStore role at) =
+    HostEndsEarly roles tend c window events turns old new × (old.tells ≡ true → IsFirstBad roles c old.held role at)
+HostDid roles tend c window events turns old new status.NoMemory =
+    HostEndsEarly roles tend c window events turns old new
 HostDid roles tend c window events turns old new other = ⊥
 
 -- the roles ran
@@ -100,10 +144,13 @@ HasRun status.Turns = Unit {0}
 HasRun status.WriteFault = Unit {0}
 HasRun other = ⊥
 
--- what hosting answered; a failed write or take, and a store that failed, is always reported, and roles run only from stores of their own
-pub record HostAnswered (roles : List RoleId) (tend : Option ℕ) (c : Cluster) (window : ℕ) (events : List Event) (turns : ℕ) (old new : Outside) (s : Status) : Type 0 where
+-- what hosting answered; a failed write or take, and a store that failed, is always reported, and roles run only from
+-- stores of their own
+pub record HostAnswered (roles : List RoleId) (tend : Option ℕ) (c : Cluster) (window : ℕ) (events : List Event)
+    (turns : ℕ) (old new : Outside) (s : Status) : Type 0 where
   pub did : HostDid roles tend c window events turns old new s
   pub written : (s ≡ status.WriteFault → ⊥) → new.writes ≡ old.writes
   pub linked : (s ≡ status.LinkFault → ⊥) → new.links ≡ old.links
-  pub good : HasRun s → old.tells ≡ true → (i : ℕ) (role : RoleId) (at : ℕ) → slice_get roles i ≡ Some role → IsBadAs c role (old.held role) at role.kind → ⊥
+  pub good : HasRun s → old.tells ≡ true → (i : ℕ) (role : RoleId) (at : ℕ) → slice_get roles i ≡ Some role
+      → IsBadAs c role (old.held role) at role.kind → ⊥
   pub stored : (role : RoleId) → (s ≡ status.StoreFault role → ⊥) → new.stores role ≡ old.stores role

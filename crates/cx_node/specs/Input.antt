@@ -7,10 +7,9 @@ use Rattle.cx_base.specs.declared.role.RoleId.{RoleId}
 use Rattle.cx_cluster.specs.declared.fault.ClusterFault.{ClusterFault}
 use Rattle.cx_cluster.specs.Reading.{header_cluster}
 use Rattle.cx_model.specs.Names.{names_role}
-use Rattle.cx_script.specs.Header.{header_of}
+use Rattle.cx_script.specs.Input.{begun_input, whole_input}
 use Rattle.cx_script.specs.Lines.{Spelled}
 use Rattle.cx_script.specs.Requests.{requests_of}
-use Rattle.cx_script.specs.Unended.{counted, is_long_header}
 use Rattle.cx_node.specs.declared.input.Heard.{Heard}
 use Rattle.cx_node.specs.declared.input.Heard.TheVariants.{Nothing, BadHeader, Lines}
 use Rattle.cx_node.specs.declared.input.Refusal.{Refusal}
@@ -26,19 +25,17 @@ abbrev pub behind : Result Cluster ClusterFault → List ℕ → Heard
 behind (Ok c) rest = with_port c.base_port c rest
 behind (Err fault) rest = BadHeader
 
--- the same of a header's text and the bytes after it, where there is a header
-abbrev pub of_header : Option (List ℕ × List ℕ) → Heard → Heard
-of_header None without = without
-of_header (Some parts) without = behind (header_cluster parts.0) parts.1
+-- the same of a header's text and the bytes after it
+abbrev pub header_says : List ℕ → List ℕ → Heard
+header_says header rest = behind (header_cluster header) rest
 
 -- what a whole input says
-unfoldable pub input_of : List ℕ → Heard
-input_of bytes = of_header (header_of bytes) BadHeader
+abbrev pub input_of : List ℕ → Heard
+input_of bytes = whole_input header_says BadHeader bytes
 
--- What bytes say after which others may come: their whole lines, and a line that is too long already. A header that hasn't ended
--- is bad only where it is too long.
-unfoldable pub lines : List ℕ → Heard
-lines bytes = of_header (header_of (counted 1024 bytes)) (if is_long_header (counted 16384 bytes) then BadHeader else Nothing)
+-- what bytes say after which others may come
+abbrev pub lines : List ℕ → Heard
+lines bytes = begun_input header_says BadHeader Nothing bytes
 
 -- what bytes say: the whole input where it has ended
 abbrev pub heard_of : Bool → List ℕ → Heard
@@ -50,7 +47,8 @@ abbrev pub bad_line_of : Option ℕ → Option Refusal
 bad_line_of None = None
 bad_line_of (Some line) = Some (refusal.BadInput line)
 
--- Why an input is refused of a node of these roles: by its header, a role that isn't in the cluster, or the first bad line, in this order.
+-- Why an input is refused of a node of these roles: by its header, a role that isn't in the cluster, or the first bad
+-- line, in this order.
 abbrev pub refused_of : List RoleId → Heard → Option Refusal
 refused_of roles Nothing = None
 refused_of roles BadHeader = Some (refusal.BadInput 0)
@@ -64,7 +62,8 @@ IsRefusal said refusal.ReadFault = ⊥
 IsRefusal said (refusal.BadInput line) = said ≡ Some (refusal.BadInput line)
 IsRefusal said refusal.BadWords = said ≡ Some refusal.BadWords
 
--- what is answered to bytes that say this, of a whole input or not: what they say, the first refusal, or that more was to come
+-- what is answered to bytes that say this, of a whole input or not: what they say, the first refusal, or that more
+-- was to come
 abbrev pub IsAnswer : Bool → List RoleId → Heard → Result (Cluster × Spelled) Refusal → Type 0
 IsAnswer ended roles heard (Ok p) = (heard ≡ Lines p.0 p.1) × (refused_of roles heard ≡ None) × (ended ≡ true)
 IsAnswer ended roles heard (Err refusal.NoMemory) = Unit {0}
@@ -77,6 +76,9 @@ abbrev pub refusal_of_part : Option Refusal → Refusal
 refusal_of_part None = refusal.ReadFault
 refusal_of_part (Some why) = why
 
--- Where a read failed, an input is refused for what the whole lines of the bytes that were read say, or for that; or memory ran out.
+-- Where a read failed, an input is refused for what the whole lines of the bytes that were read say, or for that; or
+-- memory ran out.
 abbrev pub FailsRead : List RoleId → Option (List ℕ) → Option (List ℕ) → Refusal → Type 0
-FailsRead roles left left_after why = (why ≡ refusal.NoMemory) ⊎ ((bytes : List ℕ) × Consumes left left_after bytes × (why ≡ refusal_of_part (refused_of roles (lines bytes))))
+FailsRead roles left left_after why =
+    (why ≡ refusal.NoMemory) ⊎ ((bytes : List ℕ) × Consumes left left_after bytes
+    × (why ≡ refusal_of_part (refused_of roles (lines bytes))))

@@ -17,4 +17,5 @@ pub mod Durable
 pub mod Hosting
 pub mod Acts
 pub mod Tends
+pub mod TendedParts
 pub mod Orders

@@ -29,18 +29,22 @@ pub record IsUnderway (tend : Option ℕ) (c : Cluster) (limit : ℕ) (hs : List
   pub not_before : (k : ℕ) → k < length takes → all_finished ((node_run tend c (take k takes) hs).next) ≡ false
 
 -- a run has come to its end with these takes, and to no end before the last of them
-pub record IsEnd (tend : Option ℕ) (c : Cluster) (limit : ℕ) (hs : List Hosted) (takes : Takes) (end : RunEnd) : Type 0 where
+pub record IsEnd (tend : Option ℕ) (c : Cluster) (limit : ℕ) (hs : List Hosted) (takes : Takes)
+    (end : RunEnd) : Type 0 where
   pub most : length takes ≤ limit
   pub not_before : (k : ℕ) → k < length takes → all_finished ((node_run tend c (take k takes) hs).next) ≡ false
   -- Done: all hosted clients have finished, or none is hosted and all turns were made.
-  pub done : end ≡ Done → (all_finished ((node_run tend c takes hs).next) ≡ true) ⊎ ((list_any is_client hs ≡ false) × (length takes ≡ limit))
+  pub done : end ≡ Done → (all_finished ((node_run tend c takes hs).next) ≡ true)
+      ⊎ ((list_any is_client hs ≡ false) × (length takes ≡ limit))
   -- Turns: all turns were made, and a hosted client hasn't finished.
-  pub turns : end ≡ Turns → (list_any is_client hs ≡ true) × (length takes ≡ limit) × (all_finished ((node_run tend c takes hs).next) ≡ false)
+  pub turns : end ≡ Turns → (list_any is_client hs ≡ true) × (length takes ≡ limit)
+      × (all_finished ((node_run tend c takes hs).next) ≡ false)
 
 -- the whole run was made, with what the takes of the link gave
 abbrev pub Runs : {K : Type 0} → Appending K → Option ℕ → Cluster → ℕ → RunEnd → Scene K → Scene K → Type 0
 Runs gives tend c turns end old new =
-    (takes : Takes) × Does gives c (node_run tend c takes (hosted_in old.guests)) old new × IsEnd tend c turns (hosted_in old.guests) takes end
+    (takes : Takes) × Does gives c (node_run tend c takes (hosted_in old.guests)) old new
+    × IsEnd tend c turns (hosted_in old.guests) takes end
     × HasTaken takes (node_run tend c takes (hosted_in old.guests)).actions
 
 -- The first of its actions were done, its takes among them, when this stopped it.

@@ -35,5 +35,7 @@ pub record IsApt (l : Running LeaderDurable LeaderVolatile) (o : Order) : Type 0
 
 -- each order that a leader is given, whatever was counted; one that leads has a round
 abbrev pub NoVainOrder : Type 0
-NoVainOrder = (l : Running LeaderDurable LeaderVolatile) (k : Care) (o : Order) → (is_leading l.volatile.mode ≡ true → is_some l.durable.own ≡ true)
+NoVainOrder =
+    (l : Running LeaderDurable LeaderVolatile) (k : Care) (o : Order)
+    → (is_leading l.volatile.mode ≡ true → is_some l.durable.own ≡ true)
     → leader_asked l.cluster (standing_of l) k ≡ Some o → IsApt l o

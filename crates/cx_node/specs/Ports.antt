@@ -3,7 +3,8 @@ use Rattle.std.specs.Prelude.{ℕ, ◌+◌, ◌*◌, ◌%◌, List, map, Option,
 use Rattle.std.specs.List.{filter}
 use Rattle.cx_base.specs.declared.cluster.Cluster.{Cluster}
 use Rattle.cx_base.specs.declared.role.Kind.{Kind}
-use Rattle.cx_base.specs.declared.role.Kind.TheVariants.{Client, Batcher, Leader, Proxy, Acceptor, Matchmaker, Replica, Unbatcher, Reader}
+use Rattle.cx_base.specs.declared.role.Kind.TheVariants.{Client, Batcher, Leader, Proxy, Acceptor, Matchmaker}
+use Rattle.cx_base.specs.declared.role.Kind.TheVariants.{Replica, Unbatcher, Reader}
 use Rattle.cx_base.specs.declared.role.RoleId.{RoleId}
 use Rattle.cx_msg.specs.Letter.{Letter, spelling}
 use Rattle.cx_model.specs.Names.{names_role}
@@ -19,7 +20,8 @@ before c Acceptor = c.clients + c.batchers + c.leaders + c.proxies
 before c Matchmaker = c.clients + c.batchers + c.leaders + c.proxies + c.acceptors
 before c Replica = c.clients + c.batchers + c.leaders + c.proxies + c.acceptors + (2 * c.f + 1)
 before c Unbatcher = c.clients + c.batchers + c.leaders + c.proxies + c.acceptors + (2 * c.f + 1) + c.replicas
-before c Reader = c.clients + c.batchers + c.leaders + c.proxies + c.acceptors + (2 * c.f + 1) + c.replicas + c.unbatchers
+before c Reader =
+    c.clients + c.batchers + c.leaders + c.proxies + c.acceptors + (2 * c.f + 1) + c.replicas + c.unbatchers
 
 abbrev pub first_port : Option ℕ → ℕ
 first_port None = 0

@@ -1,6 +1,8 @@
--- The turns of a node that doesn't tend its roles, and its run: a function of its cluster, its hosted roles as they were opened, and what
--- each take of its link gave.
-use Rattle.std.specs.Prelude.{ℕ, zero, suc, ◌+◌, ◌/◌, ◌%◌, ◌==◌, min, Bool, true, false, ◌&&◌, ◌||◌, List, [], ◌∷◌, ◌++◌, length, Option, None, Some, Result, Ok, Err, option_map, slice_get, slice_set, if◌then◌else◌}
+-- The turns of a node that doesn't tend its roles, and its run: a function of its cluster, its hosted roles as they
+-- were opened, and what each take of its link gave.
+use Rattle.std.specs.Prelude.{ℕ, zero, suc, ◌+◌, ◌/◌, ◌%◌, ◌==◌, min, Bool, true, false, ◌&&◌, ◌||◌, List, [], ◌∷◌}
+use Rattle.std.specs.Prelude.{◌++◌, length, Option, None, Some, Result, Ok, Err, option_map, slice_get, slice_set}
+use Rattle.std.specs.Prelude.{if◌then◌else◌}
 use Rattle.std.specs.List.{list_all, list_any}
 use Rattle.cx_base.specs.declared.cluster.Cluster.{Cluster}
 use Rattle.cx_base.specs.declared.event.Order.TheVariants as order
@@ -67,7 +69,8 @@ at_place (Some i) what hs = does_at i what hs
 
 -- ---- the three parts of a turn
 
--- the grid that leader 0 is ordered to lead: the first acceptors, at most 16, in two rows where their number is even, else in one
+-- the grid that leader 0 is ordered to lead: the first acceptors, at most 16, in two rows where their number is even,
+-- else in one
 abbrev pub first_grid : ℕ → Shape
 first_grid n =
     if n % 2 == 0

@@ -7,6 +7,10 @@ use Rattle.cx_base.specs.declared.role.RoleId.{RoleId}
 use Rattle.cx_base.specs.declared.status.Status.{Status}
 use Rattle.cx_base.specs.declared.status.Status.TheVariants as status
 use Rattle.cx_base.specs.Faults.{Rises}
+use Rattle.cx_edge.specs.declared.depot.Depot.{Ghosts as DepotGhosts}
+use Rattle.cx_edge.specs.declared.link.Link.{Ghosts as LinkGhosts}
+use Rattle.cx_edge.specs.declared.sink.Sink.{Ghosts as SinkGhosts}
+use Rattle.cx_edge.specs.declared.source.Source.{Ghosts as SourceGhosts}
 use Rattle.cx_edge.specs.Link.{LinkHistory}
 use Rattle.cx_journal.specs.Image.{image}
 use Rattle.cx_journal.specs.State.{records_or_none, told_records}
@@ -26,8 +30,8 @@ use Rattle.cx_node.specs.Opening.{IsBadAs, IsFirstBad, is_durable, opened_as}
 use Rattle.cx_node.specs.Run.{Moved}
 use Rattle.cx_node.specs.Tending.{node_run}
 
--- What a node has outside: what its source has left, the history of its link, what its output has taken, what its depot holds for each
--- role and whether that is known, and how often each has failed.
+-- What a node has outside: what its source has left, the history of its link, what its output has taken, what its
+-- depot holds for each role and whether that is known, and how often each has failed.
 pub record Outside : Type 0 where
   pub left : Option (List ℕ)
   pub reads : ℕ
@@ -39,9 +43,27 @@ pub record Outside : Type 0 where
   pub held : RoleId → List ℕ
   pub stores : RoleId → ℕ
 
-abbrev pub outside : Option (List ℕ) → ℕ → Option LinkHistory → ℕ → Option (List ℕ) → ℕ → Bool → (RoleId → List ℕ) → (RoleId → ℕ) → Outside
-outside left reads link links out writes tells held stores =
-    record { left = left; reads = reads; link = link; links = links; out = out; writes = writes; tells = tells; held = held; stores = stores }
+-- what is outside, where so much is left of a source, and so many of its reads have failed
+abbrev pub outside_read : {L D S W : Type 0} → LinkGhosts L → DepotGhosts D S → SinkGhosts W → Option (List ℕ) → ℕ
+    → L → D → W → Outside
+outside_read by_link by_depot by_out left reads link depot out =
+    record {
+      left = left;
+      reads = reads;
+      link = by_link.told link;
+      links = by_link.faults link;
+      out = by_out.taken out;
+      writes = by_out.faults out;
+      tells = by_depot.tells depot;
+      held = by_depot.held depot;
+      stores = by_depot.faults depot;
+    }
+
+-- what is outside, as a source, a link, a depot and an output show it
+abbrev pub outside : {I L D S W : Type 0} → SourceGhosts I → LinkGhosts L → DepotGhosts D S → SinkGhosts W
+    → I → L → D → W → Outside
+outside by_input by_link by_depot by_out input link depot out =
+    outside_read by_link by_depot by_out (by_input.left input) (by_input.faults input) link depot out
 
 -- the records of a store, as a role of its own kind opens it
 abbrev pub told_to : (RoleId → List ℕ) → RoleId → List Record
@@ -52,12 +74,15 @@ abbrev pub hosts : Cluster → ℕ → List Event → (RoleId → List Record) �
 hosts c window events told roles = map (λ (me : RoleId). opened_as c window events me (told me) me.kind) roles
 
 -- the run of these roles over what the takes of a link gave
-abbrev pub run_of : Option ℕ → Cluster → ℕ → List Event → (RoleId → List Record) → List RoleId → Takes → Moved (List Hosted)
+abbrev pub run_of : Option ℕ → Cluster → ℕ → List Event → (RoleId → List Record) → List RoleId → Takes
+    → Moved (List Hosted)
 run_of tend c window events told roles takes = node_run tend c takes (hosts c window events told roles)
 
 -- the input says this cluster and these requests, and is refused for nothing
 abbrev pub Says : List RoleId → Option (List ℕ) → Cluster → List Event → Type 0
-Says roles left c events = IfSome left (λ all. (input_of all ≡ Lines c (record { events = events; bad = None })) × (refused_of roles (input_of all) ≡ None))
+Says roles left c events =
+    IfSome left (λ all. (input_of all ≡ Lines c (record { events = events; bad = None }))
+    × (refused_of roles (input_of all) ≡ None))
 
 -- what the roles were opened from is what the depot holds, where that is known
 abbrev pub IsTold : Outside → (RoleId → List Record) → Type 0
@@ -65,28 +90,34 @@ IsTold old told = old.tells ≡ true → (me : RoleId) → is_durable me.kind �
 
 -- all that is done to the end of a run: each role is bound to its port, and then come the actions of the run
 abbrev pub whole_run : Option ℕ → Cluster → ℕ → List Event → (RoleId → List Record) → List RoleId → Takes → List Action
-whole_run tend c window events told roles takes = map Bound roles ++ (run_of tend c window events told roles takes).actions
+whole_run tend c window events told roles takes =
+    map Bound roles ++ (run_of tend c window events told roles takes).actions
 
--- These actions were done, and no others: the link's history has their binds, takes and sends, their bytes are printed, and each hosted role's store
--- has their records of it, after those that it had. Of a role that isn't hosted nothing was touched.
+-- These actions were done, and no others: the link's history has their binds, takes and sends, their bytes are
+-- printed, and each hosted role's store has their records of it, after those that it had. Of a role that isn't hosted
+-- nothing was touched.
 pub record Did (roles : List RoleId) (c : Cluster) (actions : List Action) (old new : Outside) : Type 0 where
   pub link : Linked c actions old.link new.link
   pub printed : Appends old.out new.out (printed_in actions)
   pub stores : old.tells ≡ true → (i : ℕ) (me : RoleId) → slice_get roles i ≡ Some me → is_durable me.kind ≡ true
       → told_records (Some (new.held me)) ≡ told_records (Some (old.held me)) ++ records_of me (kept_in actions)
-  pub others : (me : RoleId) → ((i : ℕ) → slice_get roles i ≡ Some me → ⊥) → (new.held me ≡ old.held me) × (new.stores me ≡ old.stores me)
+  pub others : (me : RoleId) → ((i : ℕ) → slice_get roles i ≡ Some me → ⊥)
+      → (new.held me ≡ old.held me) × (new.stores me ≡ old.stores me)
   pub tells : new.tells ≡ old.tells
 
 -- A whole run was done: over what the takes of the link gave, and from the records that the stores had.
-pub record Served (roles : List RoleId) (tend : Option ℕ) (c : Cluster) (window : ℕ) (events : List Event) (told : RoleId → List Record) (takes : Takes) (old new : Outside) : Type 0 where
+pub record Served (roles : List RoleId) (tend : Option ℕ) (c : Cluster) (window : ℕ) (events : List Event)
+    (told : RoleId → List Record) (takes : Takes) (old new : Outside) : Type 0 where
   pub told_by : IsTold old told
-  pub told_whole : old.tells ≡ true → (i : ℕ) (me : RoleId) → slice_get roles i ≡ Some me → is_durable me.kind ≡ true → told_records (Some (old.held me)) ≡ told me
+  pub told_whole : old.tells ≡ true → (i : ℕ) (me : RoleId) → slice_get roles i ≡ Some me → is_durable me.kind ≡ true
+      → told_records (Some (old.held me)) ≡ told me
   pub taken : HasTaken takes (run_of tend c window events told roles takes).actions
   pub did : Did roles c (whole_run tend c window events told roles takes) old new
 
--- The first actions of a run were done, one after the other, and no others. What the link gave is in them too, so each rests on what was
--- taken and kept before it; what the takes to come would give is free.
-pub record ServedPart (roles : List RoleId) (tend : Option ℕ) (c : Cluster) (window : ℕ) (events : List Event) (told : RoleId → List Record) (takes : Takes) (old new : Outside) : Type 0 where
+-- The first actions of a run were done, one after the other, and no others. What the link gave is in them too, so
+-- each rests on what was taken and kept before it; what the takes to come would give is free.
+pub record ServedPart (roles : List RoleId) (tend : Option ℕ) (c : Cluster) (window : ℕ) (events : List Event)
+    (told : RoleId → List Record) (takes : Takes) (old new : Outside) : Type 0 where
   pub told_by : IsTold old told
   pub count : ℕ
   pub did : Did roles c (take count (whole_run tend c window events told roles takes)) old new
@@ -99,13 +130,15 @@ AllRead old new = IsAtEnd new.left × (new.reads ≡ old.reads)
 abbrev pub Ends : List RoleId → Option ℕ → ℕ → ℕ → RunEnd → Outside → Outside → Type 0
 Ends roles tend window turns e old new =
     (c : Cluster) × (events : List Event) × (told : RoleId → List Record) × (takes : Takes)
-    × Says roles old.left c events × AllRead old new × Served roles tend c window events told takes old new × IsEnd tend c turns (hosts c window events told roles) takes e
+    × Says roles old.left c events × AllRead old new × Served roles tend c window events told takes old new
+    × IsEnd tend c turns (hosts c window events told roles) takes e
 
 -- the input was accepted, and the first actions of its run were done
 abbrev pub EndsEarly : List RoleId → Option ℕ → ℕ → ℕ → Outside → Outside → Type 0
 EndsEarly roles tend window turns old new =
     (c : Cluster) × (events : List Event) × (told : RoleId → List Record) × (takes : Takes)
-    × Says roles old.left c events × AllRead old new × ServedPart roles tend c window events told takes old new × IsUnderway tend c turns (hosts c window events told roles) takes
+    × Says roles old.left c events × AllRead old new × ServedPart roles tend c window events told takes old new
+    × IsUnderway tend c turns (hosts c window events told roles) takes
 
 -- nothing but the source was used
 pub record IsUntouched (old new : Outside) : Type 0 where
@@ -129,24 +162,30 @@ abbrev pub AnswersPart : List RoleId → Option (List ℕ) → Option (List ℕ)
 AnswersPart roles left left_after s = (why : Refusal) × (s ≡ refused_status why) × FailsRead roles left left_after why
 
 -- What a node answered: what was done, and why.
-pub record Answered (roles : List RoleId) (tend : Option ℕ) (window turns : ℕ) (old new : Outside) (s : Status) : Type 0 where
-  -- Done: all hosted clients have finished, or none is hosted and all turns were made; Turns: all were made, and a client hasn't finished.
+pub record Answered (roles : List RoleId) (tend : Option ℕ) (window turns : ℕ) (old new : Outside)
+    (s : Status) : Type 0 where
+  -- Done: all hosted clients have finished, or none is hosted and all turns were made; Turns: all were made, and a
+  -- client hasn't finished.
   pub done : s ≡ status.Done → Ends roles tend window turns end.Done old new
   pub turns_ended : s ≡ status.Turns → Ends roles tend window turns end.Turns old new
   -- The input is refused by a role outside the cluster, or its first bad line, or a read failed; nothing else was done.
-  pub bad_words : s ≡ status.BadWords → IfSome old.left (λ all. refused_of roles (input_of all) ≡ Some refusal.BadWords) × IsUntouched old new
-  pub bad_input : (line : ℕ) → s ≡ status.BadInput line → IfSome old.left (λ all. refused_of roles (input_of all) ≡ Some (refusal.BadInput line)) × IsUntouched old new
+  pub bad_words : s ≡ status.BadWords
+      → IfSome old.left (λ all. refused_of roles (input_of all) ≡ Some refusal.BadWords) × IsUntouched old new
+  pub bad_input : (line : ℕ) → s ≡ status.BadInput line
+      → IfSome old.left (λ all. refused_of roles (input_of all) ≡ Some (refusal.BadInput line)) × IsUntouched old new
   pub read_fault : s ≡ status.ReadFault → Rises old.reads new.reads × IsUntouched old new
   -- A failure after that: its count has risen, and the first actions of the run were done.
   pub link_fault : s ≡ status.LinkFault → Rises old.links new.links × EndsEarly roles tend window turns old new
   pub write_fault : s ≡ status.WriteFault → Rises old.writes new.writes × EndsEarly roles tend window turns old new
-  pub store_fault : (role : RoleId) → s ≡ status.StoreFault role → Rises (old.stores role) (new.stores role) × EndsEarly roles tend window turns old new
+  pub store_fault : (role : RoleId) → s ≡ status.StoreFault role
+      → Rises (old.stores role) (new.stores role) × EndsEarly roles tend window turns old new
   -- The first store that isn't one of its role's is reported with the place of its first fault.
   pub bad_store : (role : RoleId) (at : ℕ) → s ≡ status.BadStore role at → EndsEarly roles tend window turns old new
-  pub bad_place : (role : RoleId) (at : ℕ) → s ≡ status.BadStore role at → old.tells ≡ true → (c : Cluster) × (events : List Event) × Says roles old.left c events × IsFirstBad roles c old.held role at
+  pub bad_place : (role : RoleId) (at : ℕ) → s ≡ status.BadStore role at → old.tells ≡ true
+      → (c : Cluster) × (events : List Event) × Says roles old.left c events × IsFirstBad roles c old.held role at
   pub no_memory : s ≡ status.NoMemory → IsUntouched old new ⊎ EndsEarly roles tend window turns old new
-  -- A failed read is always reported, unless the whole lines before it are refused. A failed write or take, and a store that failed, is
-  -- always reported.
+  -- A failed read is always reported, unless the whole lines before it are refused. A failed write or take, and a
+  -- store that failed, is always reported.
   pub heard : (new.reads ≡ old.reads) ⊎ AnswersPart roles old.left new.left s
   pub written : (s ≡ status.WriteFault → ⊥) → new.writes ≡ old.writes
   pub linked : (s ≡ status.LinkFault → ⊥) → new.links ≡ old.links
@@ -159,13 +198,15 @@ pub record NoFault (old new : Outside) : Type 0 where
   pub writes : Rises old.writes new.writes → ⊥
   pub stores : (role : RoleId) → Rises (old.stores role) (new.stores role) → ⊥
 
--- the whole input is known and refused for nothing, and the depot is known to hold for each hosted role a store of its own
+-- the whole input is known and refused for nothing, and the depot is known to hold for each hosted role a store of
+-- its own
 pub record IsGood (roles : List RoleId) (old : Outside) : Type 0 where
   pub all : List ℕ
   pub left : old.left ≡ Some all
   pub accepted : refused_of roles (input_of all) ≡ None
   pub tells : old.tells ≡ true
-  pub stores : (c : Cluster) (events : List Event) (i : ℕ) (role : RoleId) (at : ℕ) → Says roles old.left c events → slice_get roles i ≡ Some role → IsBadAs c role (old.held role) at role.kind → ⊥
+  pub stores : (c : Cluster) (events : List Event) (i : ℕ) (role : RoleId) (at : ℕ) → Says roles old.left c events
+      → slice_get roles i ≡ Some role → IsBadAs c role (old.held role) at role.kind → ⊥
 
 -- the run came to its end, or memory ran out
 abbrev pub EndsWell : Status → Type 0
@@ -178,9 +219,11 @@ EndsWell other = ⊥
 abbrev pub Completes : List RoleId → Outside → Outside → Status → Type 0
 Completes roles old new s = NoFault old new → IsGood roles old → EndsWell s
 
--- Where the whole input is known and accepted and nothing fails, a store that isn't one of its role's is always reported, or memory ran out.
+-- Where the whole input is known and accepted and nothing fails, a store that isn't one of its role's is always
+-- reported, or memory ran out.
 abbrev pub TellsBad : List RoleId → Outside → Outside → Status → Type 0
 TellsBad roles old new s =
-    NoFault old new → old.tells ≡ true → (all : List ℕ) → old.left ≡ Some all → (c : Cluster) (events : List Event) (role : RoleId) (at : ℕ)
+    NoFault old new → old.tells ≡ true → (all : List ℕ) → old.left ≡ Some all
+    → (c : Cluster) (events : List Event) (role : RoleId) (at : ℕ)
     → Says roles old.left c events → IsFirstBad roles c old.held role at
     → (s ≡ status.BadStore role at) ⊎ (s ≡ status.NoMemory)

@@ -33,15 +33,16 @@ MayAppend (event.Crash r) = ⊥
 MayAppend (event.Restart r) = ⊥
 
 -- A role's journal has what the role kept in a run, and in the next event, if it is whole, the role keeps this record.
-pub record IsNextRecord {D : Type 0} (seen : D → Option (List ℕ)) (c : Cluster) (es : List Event) (e : Event) (me : RoleId) (r : Record) (journal : JournalState D) : Type 0 where
+pub record IsNextRecord {D : Type 0} (seen : D → Option (List ℕ)) (c : Cluster) (es : List Event) (e : Event)
+    (me : RoleId) (r : Record) (journal : JournalState D) : Type 0 where
   pub may_append : MayAppend e
   pub whole : journal.whole ≡ true
   pub told : is_some (seen journal.disk) ≡ true
   pub records : told_records (seen journal.disk) ≡ records_of me (run c es).kept
   pub next : (change (run c es) (with_cut Whole e)).kept ≡ kept_by me (Some r)
 
--- The bytes are the journal, as a role of this kind opens it, of what the role kept in a run with this event cut so, and that run is
--- lawful.
+-- The bytes are the journal, as a role of this kind opens it, of what the role kept in a run with this event cut so,
+-- and that run is lawful.
 pub record IsOfRun (c : Cluster) (es : List Event) (e : Event) (cut : Cut) (me : RoleId) (bytes : List ℕ) : Type 0 where
   pub journal : image (Some me.kind) bytes ≡ Ok (records_of me (run c (es ++ with_cut cut e ∷ [])).kept)
   pub lawful : IsLawful c (es ++ with_cut cut e ∷ [])

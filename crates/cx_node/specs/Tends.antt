@@ -25,7 +25,8 @@ is_meant Others marks = λ i h. not (is_client h)
 is_meant Overtaken marks = is_overtaken marks
 
 -- a test of a leader, which another role doesn't pass
-abbrev pub is_leader_so : (Running LeaderDurable LeaderVolatile → Bool) → Option (Running LeaderDurable LeaderVolatile) → Bool
+abbrev pub is_leader_so : (Running LeaderDurable LeaderVolatile → Bool)
+    → Option (Running LeaderDurable LeaderVolatile) → Bool
 is_leader_so test l = option_map_or test l false
 
 -- whether it was done at all
@@ -34,6 +35,8 @@ done_of (Ok x) = Ok tt
 done_of (Err e) = Err e
 
 -- What one take gave, what the roles did with it, and what is counted.
-abbrev pub TendsOnce : {K : Type 0} → Appending K → Cluster → (Option (List ℕ) → Moved Tended) → Result (Unit {0}) Stop → Scene K → Scene K → Care → Type 0
+abbrev pub TendsOnce : {K : Type 0} → Appending K → Cluster → (Option (List ℕ) → Moved Tended)
+    → Result (Unit {0}) Stop → Scene K → Scene K → Care → Type 0
 TendsOnce gives c f result old new care =
-    (what : Option (List ℕ)) × Acts gives c (what ∷ []) (without_care (f what)) result old new × OnOk result (care ≡ (f what).next.care)
+    (what : Option (List ℕ)) × Acts gives c (what ∷ []) (without_care (f what)) result old new
+    × OnOk result (care ≡ (f what).next.care)

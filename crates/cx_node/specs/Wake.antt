@@ -9,9 +9,10 @@ use Rattle.cx_journal.specs.State.{told_records}
 use Rattle.cx_model.specs.Rules.{Rules, Running, opened, refused}
 use Rattle.cx_msg.specs.declared.kept.Record.{Record}
 
--- A role as the records of a store leave it: they are the image of its bytes, each is one that the role could have appended, and
--- its journal has them.
-pub record IsWoken {D V : Type 0} (rules : Rules D V) (c : Cluster) (me : RoleId) (seen seen_after : Option (List ℕ)) (role : Running D V) : Type 0 where
+-- A role as the records of a store leave it: they are the image of its bytes, each is one that the role could have
+-- appended, and its journal has them.
+pub record IsWoken {D V : Type 0} (rules : Rules D V) (c : Cluster) (me : RoleId) (seen seen_after : Option (List ℕ))
+    (role : Running D V) : Type 0 where
   pub records : List Record
   pub state : role ≡ opened rules c me records
   pub accepted : refused rules c me records ≡ None
@@ -19,7 +20,8 @@ pub record IsWoken {D V : Type 0} (rules : Rules D V) (c : Cluster) (me : RoleId
   pub kept : (file : List ℕ) → seen ≡ Some file → told_records seen_after ≡ records
   pub told : is_some seen_after ≡ is_some seen
 
--- The place at which the bytes are no store of this role: their first break, or that of the first record which the role could not have appended.
+-- The place at which the bytes are no store of this role: their first break, or that of the first record which the
+-- role could not have appended.
 abbrev pub IsBadStore : {D V : Type 0} → Rules D V → Cluster → RoleId → List ℕ → ℕ → Type 0
 IsBadStore rules c me file at =
     (image (Some me.kind) file ≡ Err at)

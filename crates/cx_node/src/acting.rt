@@ -1,14 +1,12 @@
 //! How hosted roles do what they are asked.
 
-ghost use Rattle.std.specs.Prelude.{◌≡◌, ◌<◌, [], length, OnOk, IsTrue, Err, slice_get};
+ghost use Rattle.std.specs.Prelude.{◌≡◌, ◌<◌, length, OnOk, IsTrue, Err};
 ghost use Rattle.std.specs.List.{position};
 ghost use Rattle.cx_base.specs.declared.role.RoleId.{RoleId};
 ghost use Rattle.cx_base.specs.Role.{same_role};
 ghost use Rattle.cx_node.specs.declared.node.Stop.TheVariants as stop;
-ghost use Rattle.cx_model.specs.World.{records_of};
-ghost use Rattle.cx_node.specs.Acts.{Acts, Blames, failures};
-ghost use Rattle.cx_node.specs.Doing.{scene};
-ghost use Rattle.cx_node.specs.Guest.{AreReady, FailsIn, GuestGrows, Rests, hosted_in, hosted_of, keeper_of, who};
+ghost use Rattle.cx_node.specs.Acts.{ActsPart, Blames, failed, scene_of};
+ghost use Rattle.cx_node.specs.Guest.{AreReady, GuestGrows, KeeperFails, KeeperRests, hosted_in, hosted_of, who};
 ghost use Rattle.cx_node.specs.Hosted.{does, is_live};
 ghost use Rattle.cx_node.specs.Run.{all_do, at_place, does_at, place_of};
 
@@ -31,8 +29,10 @@ fn ask<K: Keeper>(
     ensures kept { OnOk result (GuestGrows K.append_gives (does (hosted_of seat.old) what.now).kept seat.old seat.new) }
     ensures sends { OnOk result (outbox.new.list ≡ (does (hosted_of seat.old) what.now).sends) }
     ensures text { OnOk result (text.new.items ≡ (does (hosted_of seat.old) what.now).text) }
-    ensures rests { result ≡ Err stop.NoMemory → Rests K.append_gives (keeper_of seat.old) (keeper_of seat.new) }
-    ensures failed { (role : RoleId) → result ≡ Err (stop.StoreFault role) → (who seat.old ≡ role) × FailsIn K.append_gives (slice_get (records_of (who seat.old) (does (hosted_of seat.old) what.now).kept) 0) (keeper_of seat.old) (keeper_of seat.new) }
+    ensures rests { result ≡ Err stop.NoMemory → KeeperRests K.append_gives seat.old seat.new }
+    ensures failed { (role : RoleId) → result ≡ Err (stop.StoreFault role)
+        → (who seat.old ≡ role)
+        × KeeperFails K.append_gives (does (hosted_of seat.old) what.now).kept seat.old seat.new }
     ensures no_write { result ≡ Err stop.WriteFault → ⊥ }
     ensures no_link { result ≡ Err stop.LinkFault → ⊥ }
     ensures name { who seat.new ≡ who seat.old }
@@ -65,8 +65,9 @@ impl<K: Keeper + Drop> Node<K> {
     ) -> Result<(), Stop>
         requires place { place < length self.old.guests }
         requires ready { AreReady self.old.cluster self.old.guests }
-        ensures acts { Acts K.append_gives self.old.cluster [] (does_at place what.now (hosted_in self.old.guests)) result (scene self.old.guests (L.told link.old) (W.taken out.old)) (scene self.new.guests (L.told link.new) (W.taken out.new)) }
-        ensures blames { Blames result (failures (L.faults link.old) (W.faults out.old)) (failures (L.faults link.new) (W.faults out.new)) }
+        ensures acts { ActsPart K.append_gives self.old.cluster (does_at place what.now) result
+            (scene_of L.Link W.Sink self.old link.old out.old) (scene_of L.Link W.Sink self.new link.new out.new) }
+        ensures blames { Blames result (failed L.Link W.Sink link.old out.old) (failed L.Link W.Sink link.new out.new) }
         ensures cluster { self.new.cluster ≡ self.old.cluster }
     {
         ask(
@@ -96,8 +97,9 @@ impl<K: Keeper + Drop> Node<K> {
         out: &mut W,
     ) -> Result<(), Stop>
         requires ready { AreReady self.old.cluster self.old.guests }
-        ensures acts { Acts K.append_gives self.old.cluster [] (all_do what.now (hosted_in self.old.guests)) result (scene self.old.guests (L.told link.old) (W.taken out.old)) (scene self.new.guests (L.told link.new) (W.taken out.new)) }
-        ensures blames { Blames result (failures (L.faults link.old) (W.faults out.old)) (failures (L.faults link.new) (W.faults out.new)) }
+        ensures acts { ActsPart K.append_gives self.old.cluster (all_do what.now) result
+            (scene_of L.Link W.Sink self.old link.old out.old) (scene_of L.Link W.Sink self.new link.new out.new) }
+        ensures blames { Blames result (failed L.Link W.Sink link.old out.old) (failed L.Link W.Sink link.new out.new) }
         ensures cluster { self.new.cluster ≡ self.old.cluster }
     {
         let count = self.seats.len();
@@ -123,8 +125,9 @@ impl<K: Keeper + Drop> Node<K> {
         out: &mut W,
     ) -> Result<(), Stop>
         requires ready { AreReady self.old.cluster self.old.guests }
-        ensures acts { Acts K.append_gives self.old.cluster [] (at_place (place_of role (hosted_in self.old.guests)) what.now (hosted_in self.old.guests)) result (scene self.old.guests (L.told link.old) (W.taken out.old)) (scene self.new.guests (L.told link.new) (W.taken out.new)) }
-        ensures blames { Blames result (failures (L.faults link.old) (W.faults out.old)) (failures (L.faults link.new) (W.faults out.new)) }
+        ensures acts { ActsPart K.append_gives self.old.cluster (λ hs. at_place (place_of role hs) what.now hs) result
+            (scene_of L.Link W.Sink self.old link.old out.old) (scene_of L.Link W.Sink self.new link.new out.new) }
+        ensures blames { Blames result (failed L.Link W.Sink link.old out.old) (failed L.Link W.Sink link.new out.new) }
         ensures cluster { self.new.cluster ≡ self.old.cluster }
     {
         match self.find(role) {

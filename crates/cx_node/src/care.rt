@@ -35,7 +35,16 @@ impl Model for Care {
 
     ghost Value = { CareState };
 
-    ghost view = { λ k. record { turns = k.turns; empty = k.empty; came = k.came; done = k.done; still = k.still; marks = k.marks.items; cw = k.cw; stuck = k.stuck } };
+    ghost view = { λ k. record {
+      turns = k.turns;
+      empty = k.empty;
+      came = k.came;
+      done = k.done;
+      still = k.still;
+      marks = k.marks.items;
+      cw = k.cw;
+      stuck = k.stuck;
+    } };
 }
 
 // The sum of these numbers, as far as it fits.

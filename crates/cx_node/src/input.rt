@@ -1,6 +1,7 @@
 //! What the input of a node says.
 
-ghost use Rattle.std.specs.Prelude.{◌≡◌, ◌⊎◌, ◌≤◌, ℕ, Some, None, Err, IfOk, IfErr, IfSome, IsErrOf, IsTrue, false, is_some};
+ghost use Rattle.std.specs.Prelude.{◌≡◌, ◌⊎◌, ◌≤◌, ℕ, Some, None, Err, false, is_some};
+ghost use Rattle.std.specs.Prelude.{IfOk, IfErr, IfSome, IsErrOf, IsTrue};
 ghost use Rattle.std.specs.Io.KnownBytes.{IsAtEnd};
 ghost use Rattle.std.specs.List.{list_all};
 ghost use Rattle.cx_base.specs.declared.role.RoleId.{RoleId};
@@ -10,7 +11,8 @@ ghost use Rattle.cx_script.specs.Requests.{IsScript, script_of};
 ghost use Rattle.cx_cluster.specs.Reading.{header_cluster};
 ghost use Rattle.cx_node.specs.declared.input.Heard.TheVariants.{Lines, Nothing};
 ghost use Rattle.cx_node.specs.declared.input.Refusal.TheVariants as refusal;
-ghost use Rattle.cx_node.specs.Input.{FailsRead, IsAnswer, IsRefusal, bad_line_of, behind, heard_of, input_of, lines, refused_of, with_port};
+ghost use Rattle.cx_node.specs.Input.{FailsRead, IsAnswer, IsRefusal};
+ghost use Rattle.cx_node.specs.Input.{bad_line_of, behind, heard_of, input_of, lines, refused_of, with_port};
 
 use cx_base::{Cluster, MAX_HEADER_LENGTH, MAX_LINE_LENGTH, NoMemory, RoleId};
 use cx_cluster::{ClusterFault, read};
@@ -71,7 +73,7 @@ fn behind(alloc: Global, header: &[u8], rest: &[u8]) -> Result<Heard, NoMemory>
 }
 
 // What a whole input says.
-#[tactic(auto, unfolding(crate::specs::Input::input_of))]
+#[tactic(auto, unfolding(cx_script::specs::Input::whole_input))]
 fn read_input(alloc: Global, bytes: &[u8]) -> Result<Heard, NoMemory>
     ensures { IfOk result (λ heard. heard ≡ input_of bytes.now) }
 {
@@ -82,7 +84,7 @@ fn read_input(alloc: Global, bytes: &[u8]) -> Result<Heard, NoMemory>
 }
 
 // What bytes say after which others may come.
-#[tactic(auto, unfolding(crate::specs::Input::lines))]
+#[tactic(auto, unfolding(cx_script::specs::Input::begun_input))]
 fn read_lines(alloc: Global, bytes: &[u8]) -> Result<Heard, NoMemory>
     ensures { IfOk result (λ heard. heard ≡ lines bytes.now) }
 {
@@ -169,9 +171,9 @@ fn answer_bytes(
     }
 }
 
-/// Reads the input to its end, and answers its cluster and requests, for a node of these roles. It is refused, in this order, for
-/// its header, for a role outside the cluster, and for its first bad line; `ReadFault` comes only where the source's count rose,
-/// and none of these comes before it.
+/// Reads the input to its end, and answers its cluster and requests, for a node of these roles. It is refused, in
+/// this order, for its header, for a role outside the cluster, and for its first bad line; `ReadFault` comes only
+/// where the source's count rose, and none of these comes before it.
 pub fn listen<S: Source>(
     alloc: Global,
     roles: &[RoleId],
@@ -184,15 +186,19 @@ pub fn listen<S: Source>(
     ensures scripts { IfOk result (λ p. (client : ℕ) → IsScript p.0 client (script_of client p.1.events)) }
     ensures at_end { IfOk result (λ _. IsAtEnd (S.left source.new)) }
     ensures all_read { IfOk result (λ _. S.faults source.new ≡ S.faults source.old) }
-    ensures bad_input { (line : ℕ) → result ≡ Err (refusal.BadInput line) → IfSome (S.left source.old) (λ all. refused_of roles.now (input_of all) ≡ Some (refusal.BadInput line)) }
-    ensures bad_words { result ≡ Err refusal.BadWords → IfSome (S.left source.old) (λ all. refused_of roles.now (input_of all) ≡ Some refusal.BadWords) }
+    ensures bad_input { (line : ℕ) → result ≡ Err (refusal.BadInput line)
+        → IfSome (S.left source.old) (λ all. refused_of roles.now (input_of all) ≡ Some (refusal.BadInput line)) }
+    ensures bad_words { result ≡ Err refusal.BadWords
+        → IfSome (S.left source.old) (λ all. refused_of roles.now (input_of all) ≡ Some refusal.BadWords) }
     ensures read_fault { IsErrOf result Refusal.ReadFault → Rises (S.faults source.old) (S.faults source.new) }
     // A failed read is always reported, unless the whole lines before it are refused.
-    ensures read_failed { (S.faults source.new ≡ S.faults source.old) ⊎ IfErr result (FailsRead roles.now (S.left source.old) (S.left source.new)) }
+    ensures read_failed { (S.faults source.new ≡ S.faults source.old)
+        ⊎ IfErr result (FailsRead roles.now (S.left source.old) (S.left source.new)) }
     ensures later { S.faults source.old ≤ S.faults source.new }
 
     // Where no read failed, the answer is what the whole input says, or that memory ran out.
-    ensures complete { (Rises (S.faults source.old) (S.faults source.new) → ⊥) → IfSome (S.left source.old) (λ all. IfErr result (IsRefusal (refused_of roles.now (input_of all)))) }
+    ensures complete { (Rises (S.faults source.old) (S.faults source.new) → ⊥)
+        → IfSome (S.left source.old) (λ all. IfErr result (IsRefusal (refused_of roles.now (input_of all)))) }
 {
     match read_all(alloc, source, LIMIT) {
         ReadAll::Whole(bytes) => answer_bytes(alloc, roles, &bytes, true),

@@ -1,11 +1,10 @@
 //! The node: its hosted roles, and how it runs.
 
-ghost use Rattle.std.specs.Prelude.{◌≡◌, ◌≤◌, ◌<◌, [], length, IfOk, IfErr, Err};
+ghost use Rattle.std.specs.Prelude.{◌≡◌, Err, IfOk, IfErr};
 ghost use Rattle.std.specs.List.{list_all, list_any};
 ghost use Rattle.cx_base.specs.Faults.{Rises};
 ghost use Rattle.cx_node.specs.declared.node.Stop.TheVariants as stop;
-ghost use Rattle.cx_node.specs.Acts.{ActsLong, Blames, failures};
-ghost use Rattle.cx_node.specs.Doing.{scene};
+ghost use Rattle.cx_node.specs.Acts.{ActsLong, Blames, failed, scene_of};
 ghost use Rattle.cx_node.specs.Guest.{AreReady, hosted_in, hosted_of};
 ghost use Rattle.cx_node.specs.Node.{Runs, RunsPart};
 ghost use Rattle.cx_node.specs.Run.{all_finished, has_finished, is_client};
@@ -139,8 +138,9 @@ impl<K: Keeper + Drop> Node<K> {
         out: &mut W,
     ) -> Result<(), Stop>
         requires ready { AreReady self.old.cluster self.old.guests }
-        ensures acts { ActsLong K.append_gives tend self.old.cluster turns result (scene self.old.guests (L.told link.old) (W.taken out.old)) (scene self.new.guests (L.told link.new) (W.taken out.new)) }
-        ensures blames { Blames result (failures (L.faults link.old) (W.faults out.old)) (failures (L.faults link.new) (W.faults out.new)) }
+        ensures acts { ActsLong K.append_gives tend self.old.cluster turns result
+            (scene_of L.Link W.Sink self.old link.old out.old) (scene_of L.Link W.Sink self.new link.new out.new) }
+        ensures blames { Blames result (failed L.Link W.Sink link.old out.old) (failed L.Link W.Sink link.new out.new) }
         ensures cluster { self.new.cluster ≡ self.old.cluster }
     {
         let mut care = self.first_care(tend)?;
@@ -156,11 +156,12 @@ impl<K: Keeper + Drop> Node<K> {
         Ok(())
     }
 
-    /// Runs `turns` turns, or until all hosted clients have finished: clients send their first requests, and each turn has three
-    /// parts. An idle leader 0 is ordered to lead (at turn 1 and at each that 4,096 divides), one datagram is taken from the link,
-    /// and all roles tick (at each turn that 64 divides). A node that tends its roles has them tick, and orders leader 0, by what it
-    /// counts, with at most `tend` turns from one beat to the next. What is taken, kept, sent and printed are exactly the run's
-    /// actions, or a prefix of them where something failed.
+    /// Runs `turns` turns, or until all hosted clients have finished: clients send their first requests, and each
+    /// turn has three parts. An idle leader 0 is ordered to lead (at turn 1 and at each that 4,096 divides), one
+    /// datagram is taken from the link, and all roles tick (at each turn that 64 divides). A node that tends its
+    /// roles has them tick, and orders leader 0, by what it counts, with at most `tend` turns from one beat to the
+    /// next. What is taken, kept, sent and printed are exactly the run's actions, or a prefix of them where something
+    /// failed.
     pub fn run<L: Link, W: Sink>(
         &mut self,
         turns: u32,
@@ -169,8 +170,10 @@ impl<K: Keeper + Drop> Node<K> {
         out: &mut W,
     ) -> Result<RunEnd, Stop>
         requires ready { AreReady self.old.cluster self.old.guests }
-        ensures done { IfOk result (λ end. Runs K.append_gives tend self.old.cluster turns end (scene self.old.guests (L.told link.old) (W.taken out.old)) (scene self.new.guests (L.told link.new) (W.taken out.new))) }
-        ensures part { IfErr result (λ e. RunsPart K.append_gives e tend self.old.cluster turns (scene self.old.guests (L.told link.old) (W.taken out.old)) (scene self.new.guests (L.told link.new) (W.taken out.new))) }
+        ensures done { IfOk result (λ end. Runs K.append_gives tend self.old.cluster turns end
+            (scene_of L.Link W.Sink self.old link.old out.old) (scene_of L.Link W.Sink self.new link.new out.new)) }
+        ensures part { IfErr result (λ e. RunsPart K.append_gives e tend self.old.cluster turns
+            (scene_of L.Link W.Sink self.old link.old out.old) (scene_of L.Link W.Sink self.new link.new out.new)) }
         ensures written { result ≡ Err stop.WriteFault → Rises (W.faults out.old) (W.faults out.new) }
         ensures unwritten { (result ≡ Err stop.WriteFault → ⊥) → W.faults out.new ≡ W.faults out.old }
         ensures linked { result ≡ Err stop.LinkFault → Rises (L.faults link.old) (L.faults link.new) }

@@ -1,18 +1,19 @@
 //! How hosted roles are opened.
 
-ghost use Rattle.std.specs.Prelude.{◌≡◌, ◌≤◌, ◌++◌, ◌∷◌, [], ℕ, List, true, false, Some, Err, length, IfOk, OnOk, OnErr, IsTrue, slice_get};
+ghost use Rattle.std.specs.Prelude.{◌≡◌, ◌≤◌, ◌++◌, ◌∷◌, [], ℕ, true, false, Some, Err, length};
+ghost use Rattle.std.specs.Prelude.{IfOk, OnOk, OnErr, IsTrue, slice_get};
 ghost use Rattle.std.specs.List.{list_any};
 ghost use Rattle.cx_base.specs.declared.role.Kind.TheVariants as kind;
 ghost use Rattle.cx_base.specs.declared.role.RoleId.{RoleId};
 ghost use Rattle.cx_base.specs.Faults.{Rises};
 ghost use Rattle.cx_base.specs.Role.{same_role};
 ghost use Rattle.cx_client.specs.Client.{client_opened};
-ghost use Rattle.cx_journal.specs.State.{told_records};
 ghost use Rattle.cx_model.specs.Names.{names_role};
 ghost use Rattle.cx_model.specs.Rules.{opened};
 ghost use Rattle.cx_script.specs.Requests.{IsScript, script_of};
 ghost use Rattle.cx_node.specs.declared.opening.OpenStop.TheVariants as open_stop;
-ghost use Rattle.cx_node.specs.Opening.{AreOpened, IsBadAs, IsFirstBad, IsOpened, lent_to};
+ghost use Rattle.cx_node.specs.Opening.{AreApart, AreOpened, IsBadAs, IsFirstBad, IsOpened};
+ghost use Rattle.cx_node.specs.Opening.{SameRecords, StaysFor, lent_to};
 ghost use Rattle.cx_node.specs.Durable.{IsDurablyOpened};
 ghost use Rattle.cx_node.specs.Wake.{IsBadStore};
 
@@ -52,17 +53,21 @@ fn open_durable<D: Depot, R: Role>(
     requires kind { me.kind ≡ R.rules.kind }
     requires named { IsTrue (names_role cluster.now me) }
     requires in_depot { list_any (same_role me) (D.out depot.old) ≡ false }
-    ensures role { IfOk result (λ p. IsDurablyOpened R.rules D.Store.Disk.seen D.Store.Disk.faults cluster.now (D.tells depot.old) (D.held depot.old me) me p.0 (R.state p.1)) }
+    ensures role { IfOk result (λ p. IsDurablyOpened R.rules D.Store.Disk.seen D.Store.Disk.faults cluster.now
+        (D.tells depot.old) (D.held depot.old me) me p.0 (R.state p.1)) }
     ensures out { OnOk result (D.out depot.new ≡ D.out depot.old ++ me ∷ []) }
     ensures given_back { OnErr result (D.out depot.new ≡ D.out depot.old) }
     ensures told { D.tells depot.new ≡ D.tells depot.old }
     ensures stays { OnOk result ((who : RoleId) → D.held depot.new who ≡ D.held depot.old who) }
-    ensures held { D.tells depot.old ≡ true → (who : RoleId) → told_records (Some (D.held depot.new who)) ≡ told_records (Some (D.held depot.old who)) }
+    ensures held { D.tells depot.old ≡ true → SameRecords (D.held depot.old) (D.held depot.new) }
     ensures later { (who : RoleId) → D.faults depot.old who ≤ D.faults depot.new who }
-    ensures bad { (role : RoleId) (at : ℕ) → result ≡ Err (open_stop.BadStore role at) → (role ≡ me) × (D.tells depot.old ≡ true → IsBadStore R.rules cluster.now me (D.held depot.old me) at) }
-    ensures others { (who : RoleId) → (result ≡ Err (open_stop.StoreFault who) → ⊥) → D.faults depot.new who ≡ D.faults depot.old who }
-    ensures failed { (role : RoleId) → result ≡ Err (open_stop.StoreFault role) → (role ≡ me) × Rises (D.faults depot.old me) (D.faults depot.new me) }
-    ensures apart { (who : RoleId) → (who ≡ me → ⊥) → (D.held depot.new who ≡ D.held depot.old who) × (D.faults depot.new who ≡ D.faults depot.old who) }
+    ensures bad { (role : RoleId) (at : ℕ) → result ≡ Err (open_stop.BadStore role at)
+        → (role ≡ me) × (D.tells depot.old ≡ true → IsBadStore R.rules cluster.now me (D.held depot.old me) at) }
+    ensures others { (who : RoleId) → (result ≡ Err (open_stop.StoreFault who) → ⊥)
+        → D.faults depot.new who ≡ D.faults depot.old who }
+    ensures failed { (role : RoleId) → result ≡ Err (open_stop.StoreFault role)
+        → (role ≡ me) × Rises (D.faults depot.old me) (D.faults depot.new me) }
+    ensures apart { (who : RoleId) → (who ≡ me → ⊥) → StaysFor D.Depot depot.old depot.new who }
 {
     let Ok(store) = depot.open(me) else {
         return Err(OpenStop::StoreFault { role: me });
@@ -129,18 +134,22 @@ fn open_guest<D: Depot>(
     requires some_window { 1 ≤ window }
     requires window { window ≤ 64 }
     requires in_depot { list_any (same_role me) (D.out depot.old) ≡ false }
-    ensures opened { IfOk result (λ guest. IsOpened D.Store.Disk.seen D.Store.Disk.faults cluster.now window events.now (D.tells depot.old) (D.held depot.old me) me guest) }
+    ensures opened { IfOk result (λ guest. IsOpened D.Store.Disk.seen D.Store.Disk.faults cluster.now window events.now
+        (D.tells depot.old) (D.held depot.old me) me guest) }
     ensures out { IfOk result (λ guest. D.out depot.new ≡ D.out depot.old ++ lent_to (guest ∷ [])) }
     ensures given_back { OnErr result (D.out depot.new ≡ D.out depot.old) }
     ensures told { D.tells depot.new ≡ D.tells depot.old }
     ensures stays { OnOk result ((who : RoleId) → D.held depot.new who ≡ D.held depot.old who) }
-    ensures held { D.tells depot.old ≡ true → (who : RoleId) → told_records (Some (D.held depot.new who)) ≡ told_records (Some (D.held depot.old who)) }
+    ensures held { D.tells depot.old ≡ true → SameRecords (D.held depot.old) (D.held depot.new) }
     ensures later { (who : RoleId) → D.faults depot.old who ≤ D.faults depot.new who }
-    ensures bad { (role : RoleId) (at : ℕ) → result ≡ Err (open_stop.BadStore role at) → D.tells depot.old ≡ true → IsBadAs cluster.now role (D.held depot.old role) at role.kind }
+    ensures bad { (role : RoleId) (at : ℕ) → result ≡ Err (open_stop.BadStore role at) → D.tells depot.old ≡ true
+        → IsBadAs cluster.now role (D.held depot.old role) at role.kind }
     ensures own { (role : RoleId) (at : ℕ) → result ≡ Err (open_stop.BadStore role at) → role ≡ me }
-    ensures others { (who : RoleId) → (result ≡ Err (open_stop.StoreFault who) → ⊥) → D.faults depot.new who ≡ D.faults depot.old who }
-    ensures failed { (role : RoleId) → result ≡ Err (open_stop.StoreFault role) → Rises (D.faults depot.old role) (D.faults depot.new role) }
-    ensures apart { (who : RoleId) → (who ≡ me → ⊥) → (D.held depot.new who ≡ D.held depot.old who) × (D.faults depot.new who ≡ D.faults depot.old who) }
+    ensures others { (who : RoleId) → (result ≡ Err (open_stop.StoreFault who) → ⊥)
+        → D.faults depot.new who ≡ D.faults depot.old who }
+    ensures failed { (role : RoleId) → result ≡ Err (open_stop.StoreFault role)
+        → Rises (D.faults depot.old role) (D.faults depot.new role) }
+    ensures apart { (who : RoleId) → (who ≡ me → ⊥) → StaysFor D.Depot depot.old depot.new who }
 {
     match me.kind {
         Kind::Client => {
@@ -182,8 +191,9 @@ fn open_guest<D: Depot>(
     }
 }
 
-/// Opens these roles in their order: the store of each that has records is taken from the depot, and the role woken from it;
-/// a client gets its requests among those of the input. Those that were opened before a fault stay among the seats.
+/// Opens these roles in their order: the store of each that has records is taken from the depot, and the role woken
+/// from it; a client gets its requests among those of the input. Those that were opened before a fault stay among the
+/// seats.
 pub fn open_seats<D: Depot>(
     alloc: Global,
     cluster: &Cluster,
@@ -194,28 +204,33 @@ pub fn open_seats<D: Depot>(
     seats: &mut Vec<Seat<Journal<D::Store>>>,
 ) -> Result<(), OpenStop>
     requires named { (i : ℕ) (me : RoleId) → slice_get roles.now i ≡ Some me → IsTrue (names_role cluster.now me) }
-    requires distinct { (i j : ℕ) (me : RoleId) → slice_get roles.now i ≡ Some me → slice_get roles.now j ≡ Some me → i ≡ j }
+    requires distinct { AreApart roles.now }
     requires scripts { (client : ℕ) → IsScript cluster.now client (script_of client events.now) }
     requires some_window { 1 ≤ window }
     requires window { window ≤ 64 }
     requires empty { seats.old.items ≡ [] }
     requires not_out { D.out depot.old ≡ [] }
-    ensures opened { AreOpened D.Store.Disk.seen D.Store.Disk.faults cluster.now window events.now (D.tells depot.old) (D.held depot.old) roles.now seats.new.items }
+    ensures opened { AreOpened D.Store.Disk.seen D.Store.Disk.faults cluster.now window events.now
+        (D.tells depot.old) (D.held depot.old) roles.now seats.new.items }
     ensures all { OnOk result (length seats.new.items ≡ length roles.now) }
     ensures out { D.out depot.new ≡ lent_to seats.new.items }
     ensures told { D.tells depot.new ≡ D.tells depot.old }
 
     // The records of a store stay, also where it could not be opened.
-    ensures held { D.tells depot.old ≡ true → (who : RoleId) → told_records (Some (D.held depot.new who)) ≡ told_records (Some (D.held depot.old who)) }
-    ensures bad { (role : RoleId) (at : ℕ) → result ≡ Err (open_stop.BadStore role at) → D.tells depot.old ≡ true → IsFirstBad roles.now cluster.now (D.held depot.old) role at }
+    ensures held { D.tells depot.old ≡ true → SameRecords (D.held depot.old) (D.held depot.new) }
+    ensures bad { (role : RoleId) (at : ℕ) → result ≡ Err (open_stop.BadStore role at) → D.tells depot.old ≡ true
+        → IsFirstBad roles.now cluster.now (D.held depot.old) role at }
     ensures later { (role : RoleId) → D.faults depot.old role ≤ D.faults depot.new role }
 
     // A count rises only where the answer names its role.
-    ensures others { (who : RoleId) → (result ≡ Err (open_stop.StoreFault who) → ⊥) → D.faults depot.new who ≡ D.faults depot.old who }
-    ensures failed { (role : RoleId) → result ≡ Err (open_stop.StoreFault role) → Rises (D.faults depot.old role) (D.faults depot.new role) }
+    ensures others { (who : RoleId) → (result ≡ Err (open_stop.StoreFault who) → ⊥)
+        → D.faults depot.new who ≡ D.faults depot.old who }
+    ensures failed { (role : RoleId) → result ≡ Err (open_stop.StoreFault role)
+        → Rises (D.faults depot.old role) (D.faults depot.new role) }
 
     // What the depot shows of other roles stays.
-    ensures apart { (who : RoleId) → ((i : ℕ) → slice_get roles.now i ≡ Some who → ⊥) → (D.held depot.new who ≡ D.held depot.old who) × (D.faults depot.new who ≡ D.faults depot.old who) }
+    ensures apart { (who : RoleId) → ((i : ℕ) → slice_get roles.now i ≡ Some who → ⊥)
+        → StaysFor D.Depot depot.old depot.new who }
 {
     for role in roles {
         if seats.reserve(1).is_err() {

@@ -2,9 +2,9 @@
 
 ghost use Rattle.cx_node.specs.Orders.{NoVainOrder};
 
-/// A law of tending: each order that a leader is given, whatever was counted, is one that it takes: a round is begun, or there is
-/// none left, or the earlier rounds begin to be retired. Only an idle leader is to lead, and only one that has retired the earlier
-/// rounds to change.
+/// A law of tending: each order that a leader is given, whatever was counted, is one that it takes: a round is begun,
+/// or there is none left, or the earlier rounds begin to be retired. Only an idle leader is to lead, and only one
+/// that has retired the earlier rounds to change.
 pub fn no_vain_order()
     ensures { NoVainOrder }
 {}

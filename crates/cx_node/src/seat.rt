@@ -1,13 +1,10 @@
 //! A hosted role at its place in the node.
 
-ghost use Rattle.std.specs.Prelude.{◌≡◌, [], true, IsTrue, OnOk, OnErr, IsErrOf};
-ghost use Rattle.std.specs.List.{slice_get};
+ghost use Rattle.std.specs.Prelude.{◌≡◌, [], true, IsTrue, OnOk, OnErr};
 ghost use Rattle.std.specs.Option.{option_map};
 ghost use Rattle.cx_leader.specs.Tending.{can_collect, is_new};
 ghost use Rattle.cx_model.specs.Rules.{outcome_of, running_after};
-ghost use Rattle.cx_model.specs.World.{kept_by, records_of};
-ghost use Rattle.cx_role.specs.Role.{Refuses};
-ghost use Rattle.cx_node.specs.Guest.{Appended, Fails, FailsIn, GuestGrows, Rests, hosted_of, keeper_of, who};
+ghost use Rattle.cx_node.specs.Guest.{MakesRow, Performs, hosted_of, keeper_of, who};
 ghost use Rattle.cx_node.specs.Hosted.{ClientAt, begun, client_given, does, given, is_idle_leader, is_live};
 ghost use Rattle.cx_node.specs.Run.{has_finished, is_client};
 ghost use Rattle.cx_node.specs.Tending.{completed, held_of, is_of, leader_of, standing_of};
@@ -52,14 +49,8 @@ fn step<R: Role, K: Keeper>(
 ) -> Result<(), StepFault>
     requires live { (R.state role.old).live ≡ true }
     requires empty { out.old.list ≡ [] }
-    ensures state { OnOk result (R.state role.new ≡ running_after R.rules (R.state role.old) (outcome_of R.rules (R.state role.old) input.now)) }
-    ensures kept { OnOk result (Appended K.append_gives (records_of (R.state role.old).me (kept_by (R.state role.old).me (outcome_of R.rules (R.state role.old) input.now).kept)) keeper.old keeper.new) }
-    ensures sends { OnOk result (out.new.list ≡ (outcome_of R.rules (R.state role.old) input.now).sends) }
-    ensures rests { IsErrOf result StepFault.NoMemory → Refuses K.append_gives keeper.old keeper.new }
-    ensures failed { IsErrOf result StepFault.Failed → Fails K.append_gives (slice_get (records_of (R.state role.old).me (kept_by (R.state role.old).me (outcome_of R.rules (R.state role.old) input.now).kept)) 0) keeper.old keeper.new }
-
-    // A role that can take no step any more may have another name.
-    ensures name { OnErr result ((R.state role.new).live ≡ true → (R.state role.new).me ≡ (R.state role.old).me) }
+    ensures { MakesRow K.append_gives R.rules (R.state role.old) (outcome_of R.rules (R.state role.old) input.now)
+        result (R.state role.new) keeper.old keeper.new out.new.list }
 {
     match input {
         Input::Take { datagram } => {
@@ -84,7 +75,8 @@ fn step_alone<R: Role>(
 ) -> Result<(), NoMemory>
     requires live { (R.state role.old).live ≡ true }
     requires empty { out.old.list ≡ [] }
-    ensures state { OnOk result (R.state role.new ≡ running_after R.rules (R.state role.old) (outcome_of R.rules (R.state role.old) input.now)) }
+    ensures state { OnOk result (R.state role.new
+        ≡ running_after R.rules (R.state role.old) (outcome_of R.rules (R.state role.old) input.now)) }
     ensures sends { OnOk result (out.new.list ≡ (outcome_of R.rules (R.state role.old) input.now).sends) }
     ensures name { OnErr result ((R.state role.new).live ≡ true → (R.state role.new).me ≡ (R.state role.old).me) }
 {
@@ -153,14 +145,9 @@ fn give<K: Keeper>(
     requires live { IsTrue (is_live (hosted_of guest.old)) }
     requires empty { out.old.list ≡ [] }
     requires no_text { text.old.items ≡ [] }
-    ensures role { OnOk result (hosted_of guest.new ≡ (given (hosted_of guest.old) input.now).next) }
-    ensures kept { OnOk result (GuestGrows K.append_gives (given (hosted_of guest.old) input.now).kept guest.old guest.new) }
-    ensures sends { OnOk result (out.new.list ≡ (given (hosted_of guest.old) input.now).sends) }
-    ensures text { OnOk result (text.new.items ≡ (given (hosted_of guest.old) input.now).text) }
-    ensures rests { IsErrOf result StepFault.NoMemory → Rests K.append_gives (keeper_of guest.old) (keeper_of guest.new) }
-    ensures failed { IsErrOf result StepFault.Failed → FailsIn K.append_gives (slice_get (records_of (who guest.old) (given (hosted_of guest.old) input.now).kept) 0) (keeper_of guest.old) (keeper_of guest.new) }
+    ensures step { Performs K.append_gives (given (hosted_of guest.old) input.now)
+        result guest.old guest.new out.new.list text.new.items }
     ensures name { OnOk result (who guest.new ≡ who guest.old) }
-    ensures live { OnOk result (IsTrue (is_live (hosted_of guest.new))) }
     ensures no_name { OnErr result (IsTrue (is_live (hosted_of guest.new)) → who guest.new ≡ who guest.old) }
 {
     match guest {
@@ -310,8 +297,9 @@ impl<K: Keeper> Seat<K> {
         keeper_in(self.guest)
     }
 
-    /// The role does what it is asked: its state, its record, what it sends and the line that it prints are exactly those of the
-    /// definition. `Failed` comes only where its keeper's append of that record failed; then, and out of memory, nothing may be sent.
+    /// The role does what it is asked: its state, its record, what it sends and the line that it prints are exactly
+    /// those of the definition. `Failed` comes only where its keeper's append of that record failed; then, and out of
+    /// memory, nothing may be sent.
     #[tactic(auto, unfolding(crate::specs::Hosted::does))]
     pub fn act(
         &mut self,
@@ -322,14 +310,9 @@ impl<K: Keeper> Seat<K> {
         requires live { IsTrue (is_live (hosted_of self.old)) }
         requires empty { out.old.list ≡ [] }
         requires no_text { text.old.items ≡ [] }
-        ensures role { OnOk result (hosted_of self.new ≡ (does (hosted_of self.old) what.now).next) }
-        ensures kept { OnOk result (GuestGrows K.append_gives (does (hosted_of self.old) what.now).kept self.old self.new) }
-        ensures sends { OnOk result (out.new.list ≡ (does (hosted_of self.old) what.now).sends) }
-        ensures text { OnOk result (text.new.items ≡ (does (hosted_of self.old) what.now).text) }
-        ensures rests { IsErrOf result StepFault.NoMemory → Rests K.append_gives (keeper_of self.old) (keeper_of self.new) }
-        ensures failed { IsErrOf result StepFault.Failed → FailsIn K.append_gives (slice_get (records_of (who self.old) (does (hosted_of self.old) what.now).kept) 0) (keeper_of self.old) (keeper_of self.new) }
+        ensures step { Performs K.append_gives (does (hosted_of self.old) what.now)
+            result self.old self.new out.new.list text.new.items }
         ensures name { who self.new ≡ who self.old }
-        ensures live { OnOk result (IsTrue (is_live (hosted_of self.new))) }
     {
         match what {
             Doing::Begin => begin(&mut self.guest, out)?,

@@ -29,7 +29,8 @@ fn before(cluster: &Cluster, kind: Kind) -> u16
     }
 }
 
-/// The port of a role: the cluster's first one, and the role's place among all roles, by kind and index. It takes no memory.
+/// The port of a role: the cluster's first one, and the role's place among all roles, by kind and index. It takes no
+/// memory.
 pub fn port_of(cluster: &Cluster, role: RoleId) -> u16
     ensures { result ≡ port_of cluster.now role }
 {
@@ -60,8 +61,8 @@ fn send_one<L: Link>(
     Ok(())
 }
 
-/// Asks the link to send these datagrams, in order, each as its bytes. One that the link loses is lost. Out of memory, the
-/// first ones were sent.
+/// Asks the link to send these datagrams, in order, each as its bytes. One that the link loses is lost. Out of
+/// memory, the first ones were sent.
 pub fn send_all<L: Link>(
     alloc: Global,
     cluster: &Cluster,

@@ -1,20 +1,20 @@
 //! Serving: the input is read, ports are bound, stores are opened, and the node runs.
 
-ghost use Rattle.std.specs.Prelude.{◌≡◌, ◌≤◌, [], ℕ, Bool, List, Option, Result, is_some, slice_get, Some, IsTrue};
+ghost use Rattle.std.specs.Prelude.{◌≡◌, ◌≤◌, [], ℕ, List, Option, Result, IsTrue};
 ghost use Rattle.std.specs.List.{list_all};
 ghost use Rattle.cx_base.specs.declared.role.RoleId.{RoleId};
-ghost use Rattle.cx_journal.specs.Appends.{IsJournalAppend};
-ghost use Rattle.cx_journal.specs.State.{JournalState, told_records};
+ghost use Rattle.cx_journal.specs.State.{JournalState};
 ghost use Rattle.cx_model.specs.Names.{names_role};
 ghost use Rattle.cx_script.specs.Requests.{IsScript, script_of};
 ghost use Rattle.cx_node.specs.declared.guest.Guest.{Guest};
 ghost use Rattle.cx_node.specs.declared.node.RunEnd.{RunEnd};
 ghost use Rattle.cx_node.specs.declared.node.Stop.{Stop};
-ghost use Rattle.cx_node.specs.Doing.{scene};
+ghost use Rattle.cx_node.specs.Acts.{failed, scene_of};
 ghost use Rattle.cx_node.specs.Guest.{AreReady};
-ghost use Rattle.cx_node.specs.Hosting.{GivesBack, HostAnswered, Ran, ended_status, unopened_status};
-ghost use Rattle.cx_node.specs.Opening.{lent_to};
-ghost use Rattle.cx_node.specs.Serving.{Answered, Completes, TellsBad, outside, refused_status};
+ghost use Rattle.cx_node.specs.Hosting.{AreGivenBack, HostAnswered, Ran, ended_status, hosting, journal_gives};
+ghost use Rattle.cx_node.specs.Hosting.{unopened_status};
+ghost use Rattle.cx_node.specs.Opening.{AreApart, lent_to};
+ghost use Rattle.cx_node.specs.Serving.{Answered, Completes, TellsBad, outside, outside_read, refused_status};
 
 use crate::Seat;
 use crate::binding::bind_all;
@@ -77,10 +77,13 @@ fn run_seats<L: Link, D: Depot, W: Sink>(
 ) -> Status
     requires ready { AreReady cluster.now seats.items }
     requires lent { D.out depot.old ≡ lent_to seats.items }
-    ensures ran { (after : List (Guest (JournalState D.Store))) × (answer : Result RunEnd Stop) × (result ≡ ended_status answer)
-        × Ran (IsJournalAppend D.Store.Disk.seen D.Store.Disk.may_leave D.Store.Disk.moment D.Store.Disk.left_since D.Store.Disk.faults)
-        tend cluster.now turns answer (scene seats.items (L.told link.old) (W.taken out.old)) (scene after (L.told link.new) (W.taken out.new)) (L.faults link.old) (L.faults link.new) (W.faults out.old) (W.faults out.new)
-        × GivesBack D.Store.Disk.seen D.Store.Disk.faults after (D.tells depot.old) (D.held depot.old) (D.held depot.new) (D.faults depot.old) (D.faults depot.new) }
+    ensures ran { (after : List (Guest (JournalState D.Store))) × (answer : Result RunEnd Stop)
+        × (result ≡ ended_status answer)
+        × Ran (journal_gives D.Store.Disk) tend cluster.now turns answer
+        (scene_of L.Link W.Sink (hosting cluster.now seats.items) link.old out.old)
+        (scene_of L.Link W.Sink (hosting cluster.now after) link.new out.new)
+        (failed L.Link W.Sink link.old out.old) (failed L.Link W.Sink link.new out.new)
+        × AreGivenBack D.Depot D.Store.Disk after depot.old depot.new }
     ensures told { D.tells depot.new ≡ D.tells depot.old }
     ensures given_back { D.out depot.new ≡ [] }
 {
@@ -111,14 +114,15 @@ fn host<L: Link, D: Depot, W: Sink>(
     out: &mut W,
 ) -> Status
     requires named { IsTrue (list_all (λ (r : RoleId). names_role cluster.now r) roles.now) }
-    requires distinct { (i j : ℕ) (me : RoleId) → slice_get roles.now i ≡ Some me → slice_get roles.now j ≡ Some me → i ≡ j }
+    requires distinct { AreApart roles.now }
     requires scripts { (client : ℕ) → IsScript cluster.now client (script_of client events.now) }
     requires some_window { 1 ≤ window }
     requires window { window ≤ 64 }
     requires lent { D.out depot.old ≡ [] }
-    ensures answered { (left left_after : Option (List ℕ)) (reads reads_after : ℕ) → HostAnswered roles.now tend cluster.now window events.now turns
-        (outside left reads (L.told link.old) (L.faults link.old) (W.taken out.old) (W.faults out.old) (D.tells depot.old) (D.held depot.old) (D.faults depot.old))
-        (outside left_after reads_after (L.told link.new) (L.faults link.new) (W.taken out.new) (W.faults out.new) (D.tells depot.new) (D.held depot.new) (D.faults depot.new)) result }
+    ensures answered { (left left_after : Option (List ℕ)) (reads reads_after : ℕ)
+        → HostAnswered roles.now tend cluster.now window events.now turns
+        (outside_read L.Link D.Depot W.Sink left reads link.old depot.old out.old)
+        (outside_read L.Link D.Depot W.Sink left_after reads_after link.new depot.new out.new) result }
     ensures given_back { D.out depot.new ≡ [] }
 {
     if !bind_all(cluster, roles, link) {
@@ -134,11 +138,12 @@ fn host<L: Link, D: Depot, W: Sink>(
     }
 }
 
-/// Hosts these roles: the input is read to its end; each role is bound to its port and opened from its store; and they run `turns`
-/// turns, or until all hosted clients have finished. With `tend` the node tends them, with at most that many turns from one beat to
-/// the next (64 to 65,536 are of use). A hosted client has up to `window` of its requests outstanding, 1 to 64. What was bound, sent,
-/// printed and kept is exactly the node's run, or a prefix of it where something failed, and every store is given back whatever
-/// happens. A role or a port that is bound already is a fault of the link.
+/// Hosts these roles: the input is read to its end; each role is bound to its port and opened from its store; and
+/// they run `turns` turns, or until all hosted clients have finished. With `tend` the node tends them, with at most
+/// that many turns from one beat to the next (64 to 65,536 are of use). A hosted client has up to `window` of its
+/// requests outstanding, 1 to 64. What was bound, sent, printed and kept is exactly the node's run, or a prefix of it
+/// where something failed, and every store is given back whatever happens. A role or a port that is bound already is
+/// a fault of the link.
 pub fn serve<S: Source, L: Link, D: Depot, W: Sink>(
     alloc: Global,
     roles: &[RoleId],
@@ -150,19 +155,19 @@ pub fn serve<S: Source, L: Link, D: Depot, W: Sink>(
     depot: &mut D,
     out: &mut W,
 ) -> Status
-    requires distinct { (i j : ℕ) (me : RoleId) → slice_get roles.now i ≡ Some me → slice_get roles.now j ≡ Some me → i ≡ j }
+    requires distinct { AreApart roles.now }
     requires lent { D.out depot.old ≡ [] }
     requires some_window { 1 ≤ window }
     requires window { window ≤ 64 }
     ensures answered { Answered roles.now tend window turns
-        (outside (S.left input.old) (S.faults input.old) (L.told link.old) (L.faults link.old) (W.taken out.old) (W.faults out.old) (D.tells depot.old) (D.held depot.old) (D.faults depot.old))
-        (outside (S.left input.new) (S.faults input.new) (L.told link.new) (L.faults link.new) (W.taken out.new) (W.faults out.new) (D.tells depot.new) (D.held depot.new) (D.faults depot.new)) result }
+        (outside S.Source L.Link D.Depot W.Sink input.old link.old depot.old out.old)
+        (outside S.Source L.Link D.Depot W.Sink input.new link.new depot.new out.new) result }
     ensures complete { Completes roles.now
-        (outside (S.left input.old) (S.faults input.old) (L.told link.old) (L.faults link.old) (W.taken out.old) (W.faults out.old) (D.tells depot.old) (D.held depot.old) (D.faults depot.old))
-        (outside (S.left input.new) (S.faults input.new) (L.told link.new) (L.faults link.new) (W.taken out.new) (W.faults out.new) (D.tells depot.new) (D.held depot.new) (D.faults depot.new)) result }
+        (outside S.Source L.Link D.Depot W.Sink input.old link.old depot.old out.old)
+        (outside S.Source L.Link D.Depot W.Sink input.new link.new depot.new out.new) result }
     ensures tells_bad { TellsBad roles.now
-        (outside (S.left input.old) (S.faults input.old) (L.told link.old) (L.faults link.old) (W.taken out.old) (W.faults out.old) (D.tells depot.old) (D.held depot.old) (D.faults depot.old))
-        (outside (S.left input.new) (S.faults input.new) (L.told link.new) (L.faults link.new) (W.taken out.new) (W.faults out.new) (D.tells depot.new) (D.held depot.new) (D.faults depot.new)) result }
+        (outside S.Source L.Link D.Depot W.Sink input.old link.old depot.old out.old)
+        (outside S.Source L.Link D.Depot W.Sink input.new link.new depot.new out.new) result }
     ensures given_back { D.out depot.new ≡ [] }
 {
     match listen(alloc, roles, input) {

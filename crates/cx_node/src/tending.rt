@@ -1,18 +1,19 @@
 //! The turns of a node that tends its roles.
 
-ghost use Rattle.std.specs.Prelude.{◌≡◌, ◌<◌, ◌/◌, ◌==◌, ◌&&◌, nat_lt, ℕ, [], ◌∷◌, List, length, filter, map, min, not, sum_by, Option, is_some, IfOk, OnOk, slice_get, if◌then◌else◌};
+ghost use Rattle.std.specs.Prelude.{◌≡◌, ◌<◌, ◌/◌, ◌==◌, ◌&&◌, nat_lt, ℕ, [], ◌∷◌, List, length, filter, map, min, not};
+ghost use Rattle.std.specs.Prelude.{sum_by, Option, is_some, IfOk, if◌then◌else◌};
 ghost use Rattle.std.specs.Option.{option_map};
 ghost use Rattle.cx_base.specs.Role.{role, same_role};
 ghost use Rattle.cx_base.specs.declared.role.Kind.TheVariants as kind;
 ghost use Rattle.cx_leader.specs.Tending.{can_collect, is_new};
-ghost use Rattle.cx_node.specs.declared.doing.Doing.TheVariants.{Give};
-ghost use Rattle.cx_msg.specs.declared.input.Input.TheVariants as input;
-ghost use Rattle.cx_node.specs.Acts.{Acts, Blames, failures};
-ghost use Rattle.cx_node.specs.Doing.{scene};
+ghost use Rattle.cx_node.specs.Acts.{Acts, ActsPart, Blames, failed, scene_of};
 ghost use Rattle.cx_node.specs.Guest.{AreReady, hosted_in, hosted_of};
-ghost use Rattle.cx_node.specs.Run.{does_at, is_client, stays};
-ghost use Rattle.cx_node.specs.Tending.{beat, clients_tended, collected, completed, first_leader, flushed, gets, heeded, held_by, is_so, leader_asked, leader_cared, leader_tended, next_pass, reported, standing_of, tend_comes, tend_ordered, tended_turn, those_tick, turn_ended, without_care};
-ghost use Rattle.cx_node.specs.Tends.{TendsOnce, done_of, is_leader_so, is_meant, tended};
+ghost use Rattle.cx_node.specs.Run.{is_client, stays};
+ghost use Rattle.cx_node.specs.Tending.{beat, clients_tended, collected, completed, first_leader, flushed, gets};
+ghost use Rattle.cx_node.specs.Tending.{heeded, held_by, leader_asked, leader_cared, next_pass, reported, standing_of};
+ghost use Rattle.cx_node.specs.Tending.{tend_comes, tend_ordered, tended_turn, those_tick, turn_ended};
+ghost use Rattle.cx_node.specs.TendedParts.{ActsTended, ActsTurn, Counts, leader_part, ticks_if};
+ghost use Rattle.cx_node.specs.Tends.{done_of, is_leader_so, is_meant};
 
 use crate::care::Care;
 use crate::turning::{first_grid, receive};
@@ -142,7 +143,8 @@ impl<K: Keeper + Drop> Node<K> {
 
     // Whether leader 0 isn't ordered at this turn, since it has had a round.
     fn has_begun(&self, n: u32) -> bool
-        ensures { result ≡ ((n == 1) && not (is_leader_so (λ l. is_new l.durable) (first_leader (hosted_in self.now.guests)))) }
+        ensures { result
+            ≡ ((n == 1) && not (is_leader_so (λ l. is_new l.durable) (first_leader (hosted_in self.now.guests)))) }
     {
         n == 1 && !self.has_new_leader()
     }
@@ -155,8 +157,9 @@ impl<K: Keeper + Drop> Node<K> {
         out: &mut W,
     ) -> Result<(), Stop>
         requires ready { AreReady self.old.cluster self.old.guests }
-        ensures acts { Acts K.append_gives self.old.cluster [] (gets order (hosted_in self.old.guests)) result (scene self.old.guests (L.told link.old) (W.taken out.old)) (scene self.new.guests (L.told link.new) (W.taken out.new)) }
-        ensures blames { Blames result (failures (L.faults link.old) (W.faults out.old)) (failures (L.faults link.new) (W.faults out.new)) }
+        ensures acts { ActsPart K.append_gives self.old.cluster (gets order) result
+            (scene_of L.Link W.Sink self.old link.old out.old) (scene_of L.Link W.Sink self.new link.new out.new) }
+        ensures blames { Blames result (failed L.Link W.Sink link.old out.old) (failed L.Link W.Sink link.new out.new) }
         ensures cluster { self.new.cluster ≡ self.old.cluster }
     {
         match order {
@@ -183,8 +186,9 @@ impl<K: Keeper + Drop> Node<K> {
     ) -> Result<(), Stop>
         requires place { place < length self.old.guests }
         requires ready { AreReady self.old.cluster self.old.guests }
-        ensures acts { Acts K.append_gives self.old.cluster [] (if is_so (is_meant whom care.now.marks place) (slice_get (hosted_in self.old.guests) place) then does_at place (Give input.Tick) (hosted_in self.old.guests) else stays (hosted_in self.old.guests)) result (scene self.old.guests (L.told link.old) (W.taken out.old)) (scene self.new.guests (L.told link.new) (W.taken out.new)) }
-        ensures blames { Blames result (failures (L.faults link.old) (W.faults out.old)) (failures (L.faults link.new) (W.faults out.new)) }
+        ensures acts { ActsPart K.append_gives self.old.cluster (ticks_if (is_meant whom care.now.marks) place) result
+            (scene_of L.Link W.Sink self.old link.old out.old) (scene_of L.Link W.Sink self.new link.new out.new) }
+        ensures blames { Blames result (failed L.Link W.Sink link.old out.old) (failed L.Link W.Sink link.new out.new) }
         ensures cluster { self.new.cluster ≡ self.old.cluster }
     {
         if is_meant(whom, care, place, &self.seats[place]) {
@@ -202,8 +206,9 @@ impl<K: Keeper + Drop> Node<K> {
         out: &mut W,
     ) -> Result<(), Stop>
         requires ready { AreReady self.old.cluster self.old.guests }
-        ensures acts { Acts K.append_gives self.old.cluster [] (those_tick (is_meant whom care.now.marks) (hosted_in self.old.guests)) result (scene self.old.guests (L.told link.old) (W.taken out.old)) (scene self.new.guests (L.told link.new) (W.taken out.new)) }
-        ensures blames { Blames result (failures (L.faults link.old) (W.faults out.old)) (failures (L.faults link.new) (W.faults out.new)) }
+        ensures acts { ActsPart K.append_gives self.old.cluster (those_tick (is_meant whom care.now.marks)) result
+            (scene_of L.Link W.Sink self.old link.old out.old) (scene_of L.Link W.Sink self.new link.new out.new) }
+        ensures blames { Blames result (failed L.Link W.Sink link.old out.old) (failed L.Link W.Sink link.new out.new) }
         ensures cluster { self.new.cluster ≡ self.old.cluster }
     {
         let count = self.seats.len();
@@ -221,8 +226,9 @@ impl<K: Keeper + Drop> Node<K> {
         out: &mut W,
     ) -> Result<(), Stop>
         requires ready { AreReady self.old.cluster self.old.guests }
-        ensures acts { Acts K.append_gives self.old.cluster [] (tend_ordered self.old.cluster n (hosted_in self.old.guests)) result (scene self.old.guests (L.told link.old) (W.taken out.old)) (scene self.new.guests (L.told link.new) (W.taken out.new)) }
-        ensures blames { Blames result (failures (L.faults link.old) (W.faults out.old)) (failures (L.faults link.new) (W.faults out.new)) }
+        ensures acts { ActsPart K.append_gives self.old.cluster (tend_ordered self.old.cluster n) result
+            (scene_of L.Link W.Sink self.old link.old out.old) (scene_of L.Link W.Sink self.new link.new out.new) }
+        ensures blames { Blames result (failed L.Link W.Sink link.old out.old) (failed L.Link W.Sink link.new out.new) }
         ensures cluster { self.new.cluster ≡ self.old.cluster }
     {
         if self.has_begun(n) {
@@ -240,8 +246,9 @@ impl<K: Keeper + Drop> Node<K> {
         out: &mut W,
     ) -> Result<(), Stop>
         requires ready { AreReady self.old.cluster self.old.guests }
-        ensures acts { Acts K.append_gives self.old.cluster [] (reported role before (hosted_in self.old.guests)) result (scene self.old.guests (L.told link.old) (W.taken out.old)) (scene self.new.guests (L.told link.new) (W.taken out.new)) }
-        ensures blames { Blames result (failures (L.faults link.old) (W.faults out.old)) (failures (L.faults link.new) (W.faults out.new)) }
+        ensures acts { ActsPart K.append_gives self.old.cluster (reported role before) result
+            (scene_of L.Link W.Sink self.old link.old out.old) (scene_of L.Link W.Sink self.new link.new out.new) }
+        ensures blames { Blames result (failed L.Link W.Sink link.old out.old) (failed L.Link W.Sink link.new out.new) }
         ensures cluster { self.new.cluster ≡ self.old.cluster }
     {
         if self.holds_more(role, before) {
@@ -253,8 +260,9 @@ impl<K: Keeper + Drop> Node<K> {
     // Leader 0 is ordered to collect, where that would begin.
     fn collect<L: Link, W: Sink>(&mut self, link: &mut L, out: &mut W) -> Result<(), Stop>
         requires ready { AreReady self.old.cluster self.old.guests }
-        ensures acts { Acts K.append_gives self.old.cluster [] (collected (hosted_in self.old.guests)) result (scene self.old.guests (L.told link.old) (W.taken out.old)) (scene self.new.guests (L.told link.new) (W.taken out.new)) }
-        ensures blames { Blames result (failures (L.faults link.old) (W.faults out.old)) (failures (L.faults link.new) (W.faults out.new)) }
+        ensures acts { ActsPart K.append_gives self.old.cluster collected result
+            (scene_of L.Link W.Sink self.old link.old out.old) (scene_of L.Link W.Sink self.new link.new out.new) }
+        ensures blames { Blames result (failed L.Link W.Sink link.old out.old) (failed L.Link W.Sink link.new out.new) }
         ensures cluster { self.new.cluster ≡ self.old.cluster }
     {
         if self.can_collect() {
@@ -271,8 +279,10 @@ impl<K: Keeper + Drop> Node<K> {
         out: &mut W,
     ) -> Result<(), Stop>
         requires ready { AreReady self.old.cluster self.old.guests }
-        ensures acts { Acts K.append_gives self.old.cluster [] (if same_role to (role kind.Leader 0) then collected (hosted_in self.old.guests) else stays (hosted_in self.old.guests)) result (scene self.old.guests (L.told link.old) (W.taken out.old)) (scene self.new.guests (L.told link.new) (W.taken out.new)) }
-        ensures blames { Blames result (failures (L.faults link.old) (W.faults out.old)) (failures (L.faults link.new) (W.faults out.new)) }
+        ensures acts { ActsPart K.append_gives self.old.cluster
+            (λ hs. if same_role to (role kind.Leader 0) then collected hs else stays hs) result
+            (scene_of L.Link W.Sink self.old link.old out.old) (scene_of L.Link W.Sink self.new link.new out.new) }
+        ensures blames { Blames result (failed L.Link W.Sink link.old out.old) (failed L.Link W.Sink link.new out.new) }
         ensures cluster { self.new.cluster ≡ self.old.cluster }
     {
         if to.is(first_name()) {
@@ -289,8 +299,9 @@ impl<K: Keeper + Drop> Node<K> {
         out: &mut W,
     ) -> Result<(), Stop>
         requires ready { AreReady self.old.cluster self.old.guests }
-        ensures acts { Acts K.append_gives self.old.cluster [] (heeded datagram (hosted_in self.old.guests)) result (scene self.old.guests (L.told link.old) (W.taken out.old)) (scene self.new.guests (L.told link.new) (W.taken out.new)) }
-        ensures blames { Blames result (failures (L.faults link.old) (W.faults out.old)) (failures (L.faults link.new) (W.faults out.new)) }
+        ensures acts { ActsPart K.append_gives self.old.cluster (heeded datagram) result
+            (scene_of L.Link W.Sink self.old link.old out.old) (scene_of L.Link W.Sink self.new link.new out.new) }
+        ensures blames { Blames result (failed L.Link W.Sink link.old out.old) (failed L.Link W.Sink link.new out.new) }
         ensures cluster { self.new.cluster ≡ self.old.cluster }
     {
         let to = datagram.to();
@@ -310,8 +321,13 @@ impl<K: Keeper + Drop> Node<K> {
     // One take of the link, and what is done with what it gave. It says whether something came.
     fn tend_take<L: Link, W: Sink>(&mut self, link: &mut L, out: &mut W) -> Result<bool, Stop>
         requires ready { AreReady self.old.cluster self.old.guests }
-        ensures acts { (what : Option (List ℕ)) × Acts K.append_gives self.old.cluster (what ∷ []) (tend_comes what (hosted_in self.old.guests)) (done_of result) (scene self.old.guests (L.told link.old) (W.taken out.old)) (scene self.new.guests (L.told link.new) (W.taken out.new)) × IfOk result (λ came. came ≡ is_some what) }
-        ensures blames { Blames (done_of result) (failures (L.faults link.old) (W.faults out.old)) (failures (L.faults link.new) (W.faults out.new)) }
+        ensures acts { (what : Option (List ℕ))
+            × Acts K.append_gives self.old.cluster (what ∷ [])
+            (tend_comes what (hosted_in self.old.guests)) (done_of result)
+            (scene_of L.Link W.Sink self.old link.old out.old) (scene_of L.Link W.Sink self.new link.new out.new)
+            × IfOk result (λ came. came ≡ is_some what) }
+        ensures blames { Blames (done_of result)
+            (failed L.Link W.Sink link.old out.old) (failed L.Link W.Sink link.new out.new) }
         ensures cluster { self.new.cluster ≡ self.old.cluster }
     {
         let come = receive(self.alloc, &mut self.buffer, link)?;
@@ -334,8 +350,9 @@ impl<K: Keeper + Drop> Node<K> {
         out: &mut W,
     ) -> Result<(), Stop>
         requires ready { AreReady self.old.cluster self.old.guests }
-        ensures acts { Acts K.append_gives self.old.cluster [] (flushed care.now came (hosted_in self.old.guests)) result (scene self.old.guests (L.told link.old) (W.taken out.old)) (scene self.new.guests (L.told link.new) (W.taken out.new)) }
-        ensures blames { Blames result (failures (L.faults link.old) (W.faults out.old)) (failures (L.faults link.new) (W.faults out.new)) }
+        ensures acts { ActsPart K.append_gives self.old.cluster (flushed care.now came) result
+            (scene_of L.Link W.Sink self.old link.old out.old) (scene_of L.Link W.Sink self.new link.new out.new) }
+        ensures blames { Blames result (failed L.Link W.Sink link.old out.old) (failed L.Link W.Sink link.new out.new) }
         ensures cluster { self.new.cluster ≡ self.old.cluster }
     {
         if care.has_paused(came) {
@@ -359,9 +376,10 @@ impl<K: Keeper + Drop> Node<K> {
         out: &mut W,
     ) -> Result<(), Stop>
         requires ready { AreReady self.old.cluster self.old.guests }
-        ensures acts { Acts K.append_gives self.old.cluster [] (without_care (leader_tended self.old.cluster (first_leader (hosted_in self.old.guests)) (tended care.old (hosted_in self.old.guests)))) result (scene self.old.guests (L.told link.old) (W.taken out.old)) (scene self.new.guests (L.told link.new) (W.taken out.new)) }
-        ensures care { OnOk result (care.new ≡ (leader_tended self.old.cluster (first_leader (hosted_in self.old.guests)) (tended care.old (hosted_in self.old.guests))).next.care) }
-        ensures blames { Blames result (failures (L.faults link.old) (W.faults out.old)) (failures (L.faults link.new) (W.faults out.new)) }
+        ensures acts { ActsTended K.append_gives self.old.cluster (leader_part self.old.cluster) result care.old
+            (scene_of L.Link W.Sink self.old link.old out.old) (scene_of L.Link W.Sink self.new link.new out.new) }
+        ensures care { Counts (leader_part self.old.cluster) result care.old care.new (hosted_in self.old.guests) }
+        ensures blames { Blames result (failed L.Link W.Sink link.old out.old) (failed L.Link W.Sink link.new out.new) }
         ensures cluster { self.new.cluster ≡ self.old.cluster }
     {
         match self.standing() {
@@ -381,9 +399,10 @@ impl<K: Keeper + Drop> Node<K> {
         out: &mut W,
     ) -> Result<(), Stop>
         requires ready { AreReady self.old.cluster self.old.guests }
-        ensures acts { Acts K.append_gives self.old.cluster [] (without_care (next_pass (tended care.old (hosted_in self.old.guests)))) result (scene self.old.guests (L.told link.old) (W.taken out.old)) (scene self.new.guests (L.told link.new) (W.taken out.new)) }
-        ensures care { OnOk result (care.new ≡ (next_pass (tended care.old (hosted_in self.old.guests))).next.care) }
-        ensures blames { Blames result (failures (L.faults link.old) (W.faults out.old)) (failures (L.faults link.new) (W.faults out.new)) }
+        ensures acts { ActsTended K.append_gives self.old.cluster next_pass result care.old
+            (scene_of L.Link W.Sink self.old link.old out.old) (scene_of L.Link W.Sink self.new link.new out.new) }
+        ensures care { Counts next_pass result care.old care.new (hosted_in self.old.guests) }
+        ensures blames { Blames result (failed L.Link W.Sink link.old out.old) (failed L.Link W.Sink link.new out.new) }
         ensures cluster { self.new.cluster ≡ self.old.cluster }
     {
         self.tick_those(Whom::Overtaken, care, link, out)?;
@@ -400,9 +419,10 @@ impl<K: Keeper + Drop> Node<K> {
         out: &mut W,
     ) -> Result<(), Stop>
         requires ready { AreReady self.old.cluster self.old.guests }
-        ensures acts { Acts K.append_gives self.old.cluster [] (without_care (clients_tended (tended care.old (hosted_in self.old.guests)))) result (scene self.old.guests (L.told link.old) (W.taken out.old)) (scene self.new.guests (L.told link.new) (W.taken out.new)) }
-        ensures care { OnOk result (care.new ≡ (clients_tended (tended care.old (hosted_in self.old.guests))).next.care) }
-        ensures blames { Blames result (failures (L.faults link.old) (W.faults out.old)) (failures (L.faults link.new) (W.faults out.new)) }
+        ensures acts { ActsTended K.append_gives self.old.cluster clients_tended result care.old
+            (scene_of L.Link W.Sink self.old link.old out.old) (scene_of L.Link W.Sink self.new link.new out.new) }
+        ensures care { Counts clients_tended result care.old care.new (hosted_in self.old.guests) }
+        ensures blames { Blames result (failed L.Link W.Sink link.old out.old) (failed L.Link W.Sink link.new out.new) }
         ensures cluster { self.new.cluster ≡ self.old.cluster }
     {
         let done = all_completed(&self.seats);
@@ -425,9 +445,10 @@ impl<K: Keeper + Drop> Node<K> {
         out: &mut W,
     ) -> Result<(), Stop>
         requires ready { AreReady self.old.cluster self.old.guests }
-        ensures acts { Acts K.append_gives self.old.cluster [] (without_care (beat self.old.cluster (tended care.old (hosted_in self.old.guests)))) result (scene self.old.guests (L.told link.old) (W.taken out.old)) (scene self.new.guests (L.told link.new) (W.taken out.new)) }
-        ensures care { OnOk result (care.new ≡ (beat self.old.cluster (tended care.old (hosted_in self.old.guests))).next.care) }
-        ensures blames { Blames result (failures (L.faults link.old) (W.faults out.old)) (failures (L.faults link.new) (W.faults out.new)) }
+        ensures acts { ActsTended K.append_gives self.old.cluster (beat self.old.cluster) result care.old
+            (scene_of L.Link W.Sink self.old link.old out.old) (scene_of L.Link W.Sink self.new link.new out.new) }
+        ensures care { Counts (beat self.old.cluster) result care.old care.new (hosted_in self.old.guests) }
+        ensures blames { Blames result (failed L.Link W.Sink link.old out.old) (failed L.Link W.Sink link.new out.new) }
         ensures cluster { self.new.cluster ≡ self.old.cluster }
     {
         self.tick_those(Whom::Others, care, link, out)?;
@@ -445,9 +466,12 @@ impl<K: Keeper + Drop> Node<K> {
         out: &mut W,
     ) -> Result<(), Stop>
         requires ready { AreReady self.old.cluster self.old.guests }
-        ensures acts { Acts K.append_gives self.old.cluster [] (without_care (turn_ended self.old.cluster most came (tended care.old (hosted_in self.old.guests)))) result (scene self.old.guests (L.told link.old) (W.taken out.old)) (scene self.new.guests (L.told link.new) (W.taken out.new)) }
-        ensures care { OnOk result (care.new ≡ (turn_ended self.old.cluster most came (tended care.old (hosted_in self.old.guests))).next.care) }
-        ensures blames { Blames result (failures (L.faults link.old) (W.faults out.old)) (failures (L.faults link.new) (W.faults out.new)) }
+        ensures acts { ActsTended K.append_gives self.old.cluster
+            (turn_ended self.old.cluster most came) result care.old
+            (scene_of L.Link W.Sink self.old link.old out.old) (scene_of L.Link W.Sink self.new link.new out.new) }
+        ensures care { Counts
+            (turn_ended self.old.cluster most came) result care.old care.new (hosted_in self.old.guests) }
+        ensures blames { Blames result (failed L.Link W.Sink link.old out.old) (failed L.Link W.Sink link.new out.new) }
         ensures cluster { self.new.cluster ≡ self.old.cluster }
     {
         care.count(came);
@@ -468,8 +492,10 @@ impl<K: Keeper + Drop> Node<K> {
         out: &mut W,
     ) -> Result<(), Stop>
         requires ready { AreReady self.old.cluster self.old.guests }
-        ensures acts { TendsOnce K.append_gives self.old.cluster (λ what. tended_turn self.old.cluster most n what (tended care.old (hosted_in self.old.guests))) result (scene self.old.guests (L.told link.old) (W.taken out.old)) (scene self.new.guests (L.told link.new) (W.taken out.new)) care.new }
-        ensures blames { Blames result (failures (L.faults link.old) (W.faults out.old)) (failures (L.faults link.new) (W.faults out.new)) }
+        ensures acts { ActsTurn K.append_gives self.old.cluster
+            (tended_turn self.old.cluster most n) result care.old care.new
+            (scene_of L.Link W.Sink self.old link.old out.old) (scene_of L.Link W.Sink self.new link.new out.new) }
+        ensures blames { Blames result (failed L.Link W.Sink link.old out.old) (failed L.Link W.Sink link.new out.new) }
         ensures cluster { self.new.cluster ≡ self.old.cluster }
     {
         self.tend_order(n, link, out)?;

@@ -1,17 +1,16 @@
 //! The parts of a turn.
 
-ghost use Rattle.std.specs.Prelude.{◌≡◌, ◌==◌, ◌%◌, ◌||◌, [], Err};
+ghost use Rattle.std.specs.Prelude.{◌≡◌, ◌==◌, ◌%◌, ◌||◌, Err};
 ghost use Rattle.cx_base.specs.Faults.{Rises};
 ghost use Rattle.cx_base.specs.declared.role.RoleId.{RoleId};
 ghost use Rattle.cx_node.specs.declared.node.Stop.TheVariants as stop;
-ghost use Rattle.cx_node.specs.Acts.{Acts, ActsOnce, Blames, Receives, failures};
-ghost use Rattle.cx_node.specs.Doing.{scene};
-ghost use Rattle.cx_node.specs.Guest.{AreReady, hosted_in};
+ghost use Rattle.cx_node.specs.Acts.{ActsPart, ActsTaking, Blames, Receives, failed, scene_of};
+ghost use Rattle.cx_node.specs.Guest.{AreReady};
 ghost use Rattle.cx_base.specs.Role.{role};
 ghost use Rattle.cx_base.specs.declared.role.Kind.TheVariants as kind;
 ghost use Rattle.cx_node.specs.Run.{comes, grid_of, lead_at, ordered, place_of, ticked, turn};
+ghost use Rattle.cx_node.specs.TendedParts.{ActsTurn};
 ghost use Rattle.cx_node.specs.Tending.{any_turn};
-ghost use Rattle.cx_node.specs.Tends.{TendsOnce, tended};
 
 use crate::care::Care;
 use crate::{Come, Doing, Node, Stop};
@@ -76,8 +75,10 @@ impl<K: Keeper + Drop> Node<K> {
     // Orders leader 0 to lead, if it is hosted and idle.
     fn lead<L: Link, W: Sink>(&mut self, link: &mut L, out: &mut W) -> Result<(), Stop>
         requires ready { AreReady self.old.cluster self.old.guests }
-        ensures acts { Acts K.append_gives self.old.cluster [] (lead_at self.old.cluster (place_of (role kind.Leader 0) (hosted_in self.old.guests)) (hosted_in self.old.guests)) result (scene self.old.guests (L.told link.old) (W.taken out.old)) (scene self.new.guests (L.told link.new) (W.taken out.new)) }
-        ensures blames { Blames result (failures (L.faults link.old) (W.faults out.old)) (failures (L.faults link.new) (W.faults out.new)) }
+        ensures acts { ActsPart K.append_gives self.old.cluster
+            (λ hs. lead_at self.old.cluster (place_of (role kind.Leader 0) hs) hs) result
+            (scene_of L.Link W.Sink self.old link.old out.old) (scene_of L.Link W.Sink self.new link.new out.new) }
+        ensures blames { Blames result (failed L.Link W.Sink link.old out.old) (failed L.Link W.Sink link.new out.new) }
         ensures cluster { self.new.cluster ≡ self.old.cluster }
     {
         let Some(place) = self.find(RoleId::new(Kind::Leader, 0)) else {
@@ -100,8 +101,9 @@ impl<K: Keeper + Drop> Node<K> {
     // The first part of the n-th turn.
     pub fn order<L: Link, W: Sink>(&mut self, n: u32, link: &mut L, out: &mut W) -> Result<(), Stop>
         requires ready { AreReady self.old.cluster self.old.guests }
-        ensures acts { Acts K.append_gives self.old.cluster [] (ordered self.old.cluster n (hosted_in self.old.guests)) result (scene self.old.guests (L.told link.old) (W.taken out.old)) (scene self.new.guests (L.told link.new) (W.taken out.new)) }
-        ensures blames { Blames result (failures (L.faults link.old) (W.faults out.old)) (failures (L.faults link.new) (W.faults out.new)) }
+        ensures acts { ActsPart K.append_gives self.old.cluster (ordered self.old.cluster n) result
+            (scene_of L.Link W.Sink self.old link.old out.old) (scene_of L.Link W.Sink self.new link.new out.new) }
+        ensures blames { Blames result (failed L.Link W.Sink link.old out.old) (failed L.Link W.Sink link.new out.new) }
         ensures cluster { self.new.cluster ≡ self.old.cluster }
     {
         if is_order_turn(n) {
@@ -113,8 +115,9 @@ impl<K: Keeper + Drop> Node<K> {
     // The second part of a turn: one take of the link.
     fn take<L: Link, W: Sink>(&mut self, link: &mut L, out: &mut W) -> Result<(), Stop>
         requires ready { AreReady self.old.cluster self.old.guests }
-        ensures acts { ActsOnce K.append_gives self.old.cluster (λ what. comes what (hosted_in self.old.guests)) result (scene self.old.guests (L.told link.old) (W.taken out.old)) (scene self.new.guests (L.told link.new) (W.taken out.new)) }
-        ensures blames { Blames result (failures (L.faults link.old) (W.faults out.old)) (failures (L.faults link.new) (W.faults out.new)) }
+        ensures acts { ActsTaking K.append_gives self.old.cluster comes result
+            (scene_of L.Link W.Sink self.old link.old out.old) (scene_of L.Link W.Sink self.new link.new out.new) }
+        ensures blames { Blames result (failed L.Link W.Sink link.old out.old) (failed L.Link W.Sink link.new out.new) }
         ensures cluster { self.new.cluster ≡ self.old.cluster }
     {
         let come = receive(self.alloc, &mut self.buffer, link)?;
@@ -138,8 +141,9 @@ impl<K: Keeper + Drop> Node<K> {
     // The third part of the n-th turn.
     fn tick<L: Link, W: Sink>(&mut self, n: u32, link: &mut L, out: &mut W) -> Result<(), Stop>
         requires ready { AreReady self.old.cluster self.old.guests }
-        ensures acts { Acts K.append_gives self.old.cluster [] (ticked n (hosted_in self.old.guests)) result (scene self.old.guests (L.told link.old) (W.taken out.old)) (scene self.new.guests (L.told link.new) (W.taken out.new)) }
-        ensures blames { Blames result (failures (L.faults link.old) (W.faults out.old)) (failures (L.faults link.new) (W.faults out.new)) }
+        ensures acts { ActsPart K.append_gives self.old.cluster (ticked n) result
+            (scene_of L.Link W.Sink self.old link.old out.old) (scene_of L.Link W.Sink self.new link.new out.new) }
+        ensures blames { Blames result (failed L.Link W.Sink link.old out.old) (failed L.Link W.Sink link.new out.new) }
         ensures cluster { self.new.cluster ≡ self.old.cluster }
     {
         if is_tick_turn(n) {
@@ -156,8 +160,9 @@ impl<K: Keeper + Drop> Node<K> {
         out: &mut W,
     ) -> Result<(), Stop>
         requires ready { AreReady self.old.cluster self.old.guests }
-        ensures acts { ActsOnce K.append_gives self.old.cluster (λ what. turn self.old.cluster n what (hosted_in self.old.guests)) result (scene self.old.guests (L.told link.old) (W.taken out.old)) (scene self.new.guests (L.told link.new) (W.taken out.new)) }
-        ensures blames { Blames result (failures (L.faults link.old) (W.faults out.old)) (failures (L.faults link.new) (W.faults out.new)) }
+        ensures acts { ActsTaking K.append_gives self.old.cluster (turn self.old.cluster n) result
+            (scene_of L.Link W.Sink self.old link.old out.old) (scene_of L.Link W.Sink self.new link.new out.new) }
+        ensures blames { Blames result (failed L.Link W.Sink link.old out.old) (failed L.Link W.Sink link.new out.new) }
         ensures cluster { self.new.cluster ≡ self.old.cluster }
     {
         self.order(n, link, out)?;
@@ -175,8 +180,10 @@ impl<K: Keeper + Drop> Node<K> {
         out: &mut W,
     ) -> Result<(), Stop>
         requires ready { AreReady self.old.cluster self.old.guests }
-        ensures acts { TendsOnce K.append_gives self.old.cluster (λ what. any_turn tend self.old.cluster n what (tended care.old (hosted_in self.old.guests))) result (scene self.old.guests (L.told link.old) (W.taken out.old)) (scene self.new.guests (L.told link.new) (W.taken out.new)) care.new }
-        ensures blames { Blames result (failures (L.faults link.old) (W.faults out.old)) (failures (L.faults link.new) (W.faults out.new)) }
+        ensures acts { ActsTurn K.append_gives self.old.cluster
+            (any_turn tend self.old.cluster n) result care.old care.new
+            (scene_of L.Link W.Sink self.old link.old out.old) (scene_of L.Link W.Sink self.new link.new out.new) }
+        ensures blames { Blames result (failed L.Link W.Sink link.old out.old) (failed L.Link W.Sink link.new out.new) }
         ensures cluster { self.new.cluster ≡ self.old.cluster }
     {
         match tend {

@@ -25,9 +25,10 @@ pub enum WakeStop {
     NoMemory,
 }
 
-/// Wakes a role from its store: its journal is opened, and the role from the records that were read. `Failed` comes exactly where
-/// the disk's count rose; `Bad` names exactly the first break of the bytes, or the place of the first record that the role
-/// could not have appended. The disk is given back with the fault, and its records are as they were.
+/// Wakes a role from its store: its journal is opened, and the role from the records that were read. `Failed` comes
+/// exactly where the disk's count rose; `Bad` names exactly the first break of the bytes, or the place of the first
+/// record that the role could not have appended. The disk is given back with the fault, and its records are as they
+/// were.
 pub fn wake<D: Disk, R: Role>(
     alloc: Global,
     cluster: &Cluster,
@@ -38,13 +39,17 @@ pub fn wake<D: Disk, R: Role>(
     requires named { IsTrue (names_role cluster.now me) }
     ensures role { IfOk result (λ p. IsWoken R.rules cluster.now me (D.seen disk) (D.seen p.0.disk) (R.state p.1)) }
     ensures whole { IfOk result (λ p. p.0.whole ≡ true) }
-    ensures lasts { is_some (D.seen disk) ≡ true → IfOk result (λ p. (c : List ℕ) → D.may_leave p.0.disk c → IsImageOf (told_records (D.seen p.0.disk)) c) }
-    ensures bad { (file : List ℕ) (at : ℕ) → D.seen disk ≡ Some file → IfErr result (λ e. e.0 ≡ wake_stop.Bad at → IsBadStore R.rules cluster.now me file at) }
-    ensures same { (file now : List ℕ) → D.seen disk ≡ Some file → IfErr result (λ e. D.seen e.1 ≡ Some now → SameImage now file) }
+    ensures lasts { is_some (D.seen disk) ≡ true
+        → IfOk result (λ p. (c : List ℕ) → D.may_leave p.0.disk c → IsImageOf (told_records (D.seen p.0.disk)) c) }
+    ensures bad { (file : List ℕ) (at : ℕ) → D.seen disk ≡ Some file
+        → IfErr result (λ e. e.0 ≡ wake_stop.Bad at → IsBadStore R.rules cluster.now me file at) }
+    ensures same { (file now : List ℕ) → D.seen disk ≡ Some file
+        → IfErr result (λ e. D.seen e.1 ≡ Some now → SameImage now file) }
     ensures tells { IfErr result (λ e. is_some (D.seen e.1) ≡ is_some (D.seen disk)) }
     ensures failed { IfErr result (λ e. e.0 ≡ wake_stop.Failed → Rises (D.faults disk) (D.faults e.1)) }
     ensures later { MatchResult result (λ p. D.faults disk ≤ D.faults p.0.disk) (λ e. D.faults disk ≤ D.faults e.1) }
-    ensures still { MatchResult result (λ p. D.faults p.0.disk ≡ D.faults disk) (λ e. (e.0 ≡ wake_stop.Failed → ⊥) → D.faults e.1 ≡ D.faults disk) }
+    ensures still { MatchResult result (λ p. D.faults p.0.disk ≡ D.faults disk)
+        (λ e. (e.0 ≡ wake_stop.Failed → ⊥) → D.faults e.1 ≡ D.faults disk) }
 {
     match Journal::open(alloc, disk, me.kind) {
         Ok((journal, records)) => match R::open(alloc, cluster, me, &records) {

@@ -9,6 +9,6 @@ invariant-loop-seat g l = record {
   ends : (goal.iterator-loop-seat g).is_finite l.seat-iterator;
   out : g.D.Depot.out l.depot ≡ lent_to l.seat-iterator.rest.items;
   back : (end : g.row.D.Denot)
-      → GiveBack (shown_by g.D.Depot.tells g.D.Depot.held g.D.Depot.faults g.D.Store.Disk.seen g.D.Store.Disk.faults) l.seat-iterator.rest.items l.depot end
-      → GiveBack (shown_by g.D.Depot.tells g.D.Depot.held g.D.Depot.faults g.D.Store.Disk.seen g.D.Store.Disk.faults) l.fn.seats.items l.fn.depot end;
+      → GiveBack (shown_by g.D.Depot g.D.Store.Disk) l.seat-iterator.rest.items l.depot end
+      → GiveBack (shown_by g.D.Depot g.D.Store.Disk) l.fn.seats.items l.fn.depot end;
 }

@@ -1,4 +1,5 @@
-use Rattle.std.proofs.Common.{◌≡◌, ◌∙◌, ℕ, List, length, length-append, slice_get, slice_index_or, Some, Result, Err, sym, ap, subst, refl}
+use Rattle.std.proofs.Common.{◌≡◌, ◌∙◌, ℕ, List, length, length-append, slice_get, slice_index_or, Some, Result, Err}
+use Rattle.std.proofs.Common.{sym, ap, subst, refl}
 use Rattle.std.proofs.lemmas.Option.{slice_get-get_or}
 use Rattle.std.proofs.lemmas.Result.{err_from_is_err_and}
 use Rattle.cx_base.specs.declared.role.Kind.TheVariants as kind
@@ -19,8 +20,12 @@ open_guest-requires-clause-in_depot g c =
     let before = c.loop-role.invariant in
     let me : RoleId = slice_index_or c.args.roles.now c.loop-role.role-index (a_role kind.Client 0) in
     let next : slice_get c.args.roles.now (length c.loop-role.seats.items) ≡ Some me =
-    subst (λ n. slice_get c.args.roles.now n ≡ Some me) (sym before.size) (slice_get-get_or c.args.roles.now c.loop-role.role-index (a_role kind.Client 0) c.loop-role-test.true) in
-    rw before.out (next_in_depot g.D.Store.Disk.seen g.D.Store.Disk.faults c.args.cluster.now c.args.window c.args.events.now (g.D.Depot.tells c.args.depot.now) (g.D.Depot.held c.args.depot.now) c.args.roles.now c.loop-role.seats.items me
+    subst (λ n. slice_get c.args.roles.now n ≡ Some me) (sym before.size)
+    (slice_get-get_or c.args.roles.now c.loop-role.role-index (a_role kind.Client 0) c.loop-role-test.true) in
+    rw before.out
+    (next_in_depot g.D.Store.Disk.seen g.D.Store.Disk.faults c.args.cluster.now c.args.window c.args.events.now
+    (g.D.Depot.tells c.args.depot.now)
+    (g.D.Depot.held c.args.depot.now) c.args.roles.now c.loop-role.seats.items me
     next before.opened c.requires.distinct)
 
 pub loop-role-preserved : goal.loop-role-preserved
@@ -28,17 +33,25 @@ loop-role-preserved g c =
     let before = c.loop-role.invariant in
     let me : RoleId = slice_index_or c.args.roles.now c.loop-role.role-index (a_role kind.Client 0) in
     let next : slice_get c.args.roles.now (length c.loop-role.seats.items) ≡ Some me =
-    subst (λ n. slice_get c.args.roles.now n ≡ Some me) (sym before.size) (slice_get-get_or c.args.roles.now c.loop-role.role-index (a_role kind.Client 0) c.loop-role-test.true) in
+    subst (λ n. slice_get c.args.roles.now n ≡ Some me) (sym before.size)
+    (slice_get-get_or c.args.roles.now c.loop-role.role-index (a_role kind.Client 0) c.loop-role-test.true) in
     let opened = rw (before.told, before.held me) at c.in_ok-guest.ensures.opened in
     record {
       opened = rw (c.push_reserved.ensures.items, c.reserve.ensures.items, c.new.ensures)
-          (opened_more g.D.Store.Disk.seen g.D.Store.Disk.faults c.args.cluster.now c.args.window c.args.events.now (g.D.Depot.tells c.args.depot.now) (g.D.Depot.held c.args.depot.now) c.args.roles.now c.loop-role.seats.items me
+          (opened_more g.D.Store.Disk.seen g.D.Store.Disk.faults c.args.cluster.now c.args.window c.args.events.now
+          (g.D.Depot.tells c.args.depot.now)
+          (g.D.Depot.held c.args.depot.now) c.args.roles.now c.loop-role.seats.items me
           next before.opened c.in_ok-guest.guest opened);
       size = rw (c.push_reserved.ensures.items, c.reserve.ensures.items, length-append, before.size) refl;
-      out = c.in_ok-guest.ensures.out ∙ rw (before.out, c.push_reserved.ensures.items, c.reserve.ensures.items, c.new.ensures, lent_append) refl;
+      out =
+          c.in_ok-guest.ensures.out
+          ∙ rw (before.out, c.push_reserved.ensures.items, c.reserve.ensures.items, c.new.ensures, lent_append)
+          refl;
       told = c.open_guest.ensures.told ∙ before.told;
       held = λ who. c.in_ok-guest.ensures.stays who ∙ before.held who;
-      still = λ who. c.in_ok-guest.ensures.others who (ok_is_err c.in_ok-guest.guest (open_stop.StoreFault who)) ∙ before.still who;
+      still =
+          λ who. c.in_ok-guest.ensures.others who (ok_is_err c.in_ok-guest.guest (open_stop.StoreFault who))
+          ∙ before.still who;
     }
 
 pub returns-in_err-guest-clause-bad : goal.returns-in_err-guest-clause-bad
@@ -46,18 +59,24 @@ returns-in_err-guest-clause-bad g c = λ role at e tells.
     let before = c.loop-role.invariant in
     let me : RoleId = slice_index_or c.args.roles.now c.loop-role.role-index (a_role kind.Client 0) in
     let p = err_from_is_err_and c.from_residual.result c.from_residual.ensures.1 in
-    let is : ◌≡◌ {A = OpenStop} c.in_err-guest.field-0.0 (open_stop.BadStore role at) = same_stop _ _ (sym (p.1 ∙ ap Err p.2) ∙ e) in
+    let is : ◌≡◌ {A = OpenStop} c.in_err-guest.field-0.0 (open_stop.BadStore role at) = same_stop _ _
+    (sym (p.1 ∙ ap Err p.2) ∙ e) in
     let own : role ≡ me = c.in_err-guest.ensures.own role at (ap Err is) in
     let next : slice_get c.args.roles.now (length c.loop-role.seats.items) ≡ Some role =
-    subst (λ n. slice_get c.args.roles.now n ≡ Some role) (sym before.size) (slice_get-get_or c.args.roles.now c.loop-role.role-index (a_role kind.Client 0) c.loop-role-test.true ∙ ap Some (sym own)) in
-    first_bad g.D.Store.Disk.seen g.D.Store.Disk.faults c.args.cluster.now c.args.window c.args.events.now (g.D.Depot.tells c.args.depot.now) (g.D.Depot.held c.args.depot.now) c.args.roles.now c.loop-role.seats.items
+    subst (λ n. slice_get c.args.roles.now n ≡ Some role) (sym before.size)
+    (slice_get-get_or c.args.roles.now c.loop-role.role-index (a_role kind.Client 0) c.loop-role-test.true
+    ∙ ap Some (sym own)) in
+    first_bad g.D.Store.Disk.seen g.D.Store.Disk.faults c.args.cluster.now c.args.window c.args.events.now
+    (g.D.Depot.tells c.args.depot.now) (g.D.Depot.held c.args.depot.now) c.args.roles.now c.loop-role.seats.items
     before.opened tells role at next
-    (subst (λ (file : List ℕ). IsBadAs c.args.cluster.now role file at role.kind) (before.held role) (c.in_err-guest.ensures.bad role at (ap Err is) (before.told ∙ tells)))
+    (subst (λ (file : List ℕ). IsBadAs c.args.cluster.now role file at role.kind) (before.held role)
+    (c.in_err-guest.ensures.bad role at (ap Err is) (before.told ∙ tells)))
 
 pub returns-in_err-guest-clause-apart : goal.returns-in_err-guest-clause-apart
 returns-in_err-guest-clause-apart g c = λ who none.
     let before = c.loop-role.invariant in
     let me : RoleId = slice_index_or c.args.roles.now c.loop-role.role-index (a_role kind.Client 0) in
-    let here : slice_get c.args.roles.now c.loop-role.role-index ≡ Some me = slice_get-get_or c.args.roles.now c.loop-role.role-index (a_role kind.Client 0) c.loop-role-test.true in
+    let here : slice_get c.args.roles.now c.loop-role.role-index ≡ Some me = slice_get-get_or c.args.roles.now
+    c.loop-role.role-index (a_role kind.Client 0) c.loop-role-test.true in
     let stays = c.open_guest.ensures.apart who (λ e. none c.loop-role.role-index (here ∙ ap Some (sym e))) in
     (stays.0 ∙ before.held who, stays.1 ∙ before.still who)

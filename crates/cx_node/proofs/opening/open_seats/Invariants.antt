@@ -5,7 +5,8 @@ use Rattle.cx_node.proofs.opening.open_seats.Given as goal
 
 abbrev pub invariant-loop-role : goal.invariant-loop-role
 invariant-loop-role g l = record {
-  opened : AreOpened g.D.Store.Disk.seen g.D.Store.Disk.faults l.cluster l.window l.events (g.D.Depot.tells l.fn.depot) (g.D.Depot.held l.fn.depot) l.roles l.seats.items;
+  opened : AreOpened g.D.Store.Disk.seen g.D.Store.Disk.faults l.cluster l.window l.events
+      (g.D.Depot.tells l.fn.depot) (g.D.Depot.held l.fn.depot) l.roles l.seats.items;
   size : length l.seats.items ≡ l.role-index;
   out : g.D.Depot.out l.depot ≡ lent_to l.seats.items;
   told : g.D.Depot.tells l.depot ≡ g.D.Depot.tells l.fn.depot;

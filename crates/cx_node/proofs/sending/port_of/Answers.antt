@@ -8,4 +8,5 @@ unfolding port_of
 returns c =
     let first : c.unwrap_or-first.result ≡ first_port c.args.cluster.now.base_port = search rules in
     let place : c.before-2.result ≡ before c.args.cluster.now c.args.role.kind = search rules in
-    rw (first, place) (mod-add-mod (first_port c.args.cluster.now.base_port + before c.args.cluster.now c.args.role.kind) 65536 c.args.role.index)
+    rw (first, place) (mod-add-mod
+    (first_port c.args.cluster.now.base_port + before c.args.cluster.now c.args.role.kind) 65536 c.args.role.index)

@@ -1,7 +1,7 @@
 use Rattle.std.proofs.Common.{◌≡◌, ◌∙◌, Result, Err, refl, sym, ap, subst}
 use Rattle.cx_model.specs.Names.{names_role}
 use Rattle.cx_node.specs.Hosting.{GivesBack, HostAnswered}
-use Rattle.cx_node.specs.Serving.{outside}
+use Rattle.cx_node.specs.Serving.{outside_read}
 use Rattle.cx_node.specs.declared.opening.OpenStop.{OpenStop}
 use Rattle.cx_node.specs.declared.opening.OpenStop.TheVariants as open_stop
 use Rattle.cx_node.proofs.ClosedStores.{opened_stays, opened_still, opened_unhosted}
@@ -16,12 +16,16 @@ same_stop a b e = cc
 
 pub returns-then-not-bind_all-clause-answered : goal.returns-then-not-bind_all-clause-answered
 returns-then-not-bind_all-clause-answered g c = λ left left_after reads reads_after.
-    let old = outside left reads (g.L.Link.told c.args.link.now) (g.L.Link.faults c.args.link.now) (g.W.Sink.taken c.args.out.now) (g.W.Sink.faults c.args.out.now)
-    (g.D.Depot.tells c.args.depot.now) (g.D.Depot.held c.args.depot.now) (g.D.Depot.faults c.args.depot.now) in
-    let new = outside left_after reads_after (g.L.Link.told c.bind_all.new.link) (g.L.Link.faults c.bind_all.new.link) (g.W.Sink.taken c.args.out.now) (g.W.Sink.faults c.args.out.now)
-    (g.D.Depot.tells c.args.depot.now) (g.D.Depot.held c.args.depot.now) (g.D.Depot.faults c.args.depot.now) in
+    let old = outside_read g.L.Link g.D.Depot g.W.Sink left reads c.args.link.now c.args.depot.now c.args.out.now in
+    let new = outside_read g.L.Link g.D.Depot g.W.Sink left_after reads_after c.bind_all.new.link c.args.depot.now
+    c.args.out.now in
     record {
-      did = (host_early c.args.tend c.args.cluster.now c.args.window c.args.events.now c.args.turns c.args.roles.now old new c.bind_all.ensures.part.0 c.bind_all.ensures.part.1 refl (λ t i me here durable. refl) (λ me none. (refl, refl)) refl, c.bind_all.ensures.failed c.if-not-bind_all.true);
+      did = (
+        host_early c.args.tend c.args.cluster.now c.args.window c.args.events.now c.args.turns c.args.roles.now old
+            new c.bind_all.ensures.part.0 c.bind_all.ensures.part.1 refl (λ t i me here durable. refl)
+            (λ me none. (refl, refl)) refl,
+        c.bind_all.ensures.failed c.if-not-bind_all.true,
+      );
       written = λ no. refl;
       linked = λ no. absurd (no refl);
       good = λ run. absurd run;
@@ -29,59 +33,85 @@ returns-then-not-bind_all-clause-answered g c = λ left left_after reads reads_a
     }
 
 pub open_seats-requires-clause-named : goal.open_seats-requires-clause-named
-open_seats-requires-clause-named g c = all_named (λ r. names_role c.args.cluster.now r) c.args.roles.now c.requires.named
+open_seats-requires-clause-named g c =
+    all_named (λ r. names_role c.args.cluster.now r) c.args.roles.now c.requires.named
 
 pub run_seats-requires-clause-ready : goal.run_seats-requires-clause-ready
 run_seats-requires-clause-ready g c =
-    ready_opened g.D.Store.Disk.seen g.D.Store.Disk.faults c.args.cluster.now c.args.window c.args.events.now (g.D.Depot.tells c.args.depot.now) (g.D.Depot.held c.args.depot.now) c.args.roles.now c.open_seats.new.seats.items
-    c.requires.distinct (all_named (λ r. names_role c.args.cluster.now r) c.args.roles.now c.requires.named) c.open_seats.ensures.opened
+    ready_opened g.D.Store.Disk.seen g.D.Store.Disk.faults c.args.cluster.now c.args.window c.args.events.now
+    (g.D.Depot.tells c.args.depot.now)
+    (g.D.Depot.held c.args.depot.now) c.args.roles.now c.open_seats.new.seats.items
+    c.requires.distinct (all_named
+    (λ r. names_role c.args.cluster.now r) c.args.roles.now c.requires.named) c.open_seats.ensures.opened
 
 pub close_seats-requires-clause-distinct : goal.close_seats-requires-clause-distinct
 close_seats-requires-clause-distinct g c =
-    distinct_opened g.D.Store.Disk.seen g.D.Store.Disk.faults c.args.cluster.now c.args.window c.args.events.now (g.D.Depot.tells c.args.depot.now) (g.D.Depot.held c.args.depot.now) c.args.roles.now c.open_seats.new.seats.items
+    distinct_opened g.D.Store.Disk.seen g.D.Store.Disk.faults c.args.cluster.now c.args.window c.args.events.now
+    (g.D.Depot.tells c.args.depot.now)
+    (g.D.Depot.held c.args.depot.now) c.args.roles.now c.open_seats.new.seats.items
     c.requires.distinct c.open_seats.ensures.opened
 
 pub returns-in-Ok-clause-answered : goal.returns-in-Ok-clause-answered
 returns-in-Ok-clause-answered g c = λ left left_after reads reads_after.
     let disk = g.D.Store.Disk in
     let depot = g.D.Depot in
-    let old = outside left reads (g.L.Link.told c.args.link.now) (g.L.Link.faults c.args.link.now) (g.W.Sink.taken c.args.out.now) (g.W.Sink.faults c.args.out.now)
-    (depot.tells c.args.depot.now) (depot.held c.args.depot.now) (depot.faults c.args.depot.now) in
-    let new = outside left_after reads_after (g.L.Link.told c.run_seats.new.link) (g.L.Link.faults c.run_seats.new.link) (g.W.Sink.taken c.run_seats.new.out) (g.W.Sink.faults c.run_seats.new.out)
-    (depot.tells c.run_seats.new.depot) (depot.held c.run_seats.new.depot) (depot.faults c.run_seats.new.depot) in
+    let old = outside_read g.L.Link g.D.Depot g.W.Sink left reads c.args.link.now c.args.depot.now c.args.out.now in
+    let new = outside_read g.L.Link g.D.Depot g.W.Sink left_after reads_after c.run_seats.new.link
+    c.run_seats.new.depot c.run_seats.new.out in
     let run = c.run_seats.ensures.ran in
-    subst (λ s. HostAnswered c.args.roles.now c.args.tend c.args.cluster.now c.args.window c.args.events.now c.args.turns old new s) (sym run.2)
-    (host_ran disk.seen disk.may_leave disk.moment disk.left_since disk.faults c.args.tend c.args.cluster.now c.args.window c.args.events.now c.args.turns c.args.roles.now old new
-    (g.L.Link.told c.bind_all.new.link) (g.L.Link.faults c.bind_all.new.link) (depot.held c.open_seats.new.depot) (depot.faults c.open_seats.new.depot) c.open_seats.new.seats.items run.0 run.1
-    c.requires.distinct c.open_seats.ensures.opened c.in-Ok.ensures.all (c.bind_all.ensures.all c.if-not-bind_all.false) (c.bind_all.ensures.still c.if-not-bind_all.false) (λ role. c.in-Ok.ensures.others role (ok_is_err tt (open_stop.StoreFault role)))
+    subst (λ s. HostAnswered c.args.roles.now c.args.tend c.args.cluster.now c.args.window c.args.events.now
+    c.args.turns old new s) (sym run.2)
+    (host_ran disk.seen disk.may_leave disk.moment disk.left_since disk.faults c.args.tend c.args.cluster.now
+    c.args.window c.args.events.now c.args.turns c.args.roles.now old new
+    (g.L.Link.told c.bind_all.new.link) (g.L.Link.faults c.bind_all.new.link) (depot.held c.open_seats.new.depot)
+    (depot.faults c.open_seats.new.depot) c.open_seats.new.seats.items run.0 run.1
+    c.requires.distinct c.open_seats.ensures.opened c.in-Ok.ensures.all
+    (c.bind_all.ensures.all c.if-not-bind_all.false) (c.bind_all.ensures.still c.if-not-bind_all.false)
+    (λ role. c.in-Ok.ensures.others role (ok_is_err tt (open_stop.StoreFault role)))
     (λ me none. (c.open_seats.ensures.apart me none).0) (c.run_seats.ensures.told ∙ c.open_seats.ensures.told) run.3
-    (subst (λ t. GivesBack disk.seen disk.faults run.0 t (depot.held c.open_seats.new.depot) (depot.held c.run_seats.new.depot) (depot.faults c.open_seats.new.depot) (depot.faults c.run_seats.new.depot))
+    (subst (λ t. GivesBack disk.seen disk.faults run.0 t (depot.held c.open_seats.new.depot)
+    (depot.held c.run_seats.new.depot) (depot.faults c.open_seats.new.depot) (depot.faults c.run_seats.new.depot))
     c.open_seats.ensures.told run.4))
 
 pub returns-in-Err-clause-answered : goal.returns-in-Err-clause-answered
 returns-in-Err-clause-answered g c = λ left left_after reads reads_after.
     let disk = g.D.Store.Disk in
     let depot = g.D.Depot in
-    let old = outside left reads (g.L.Link.told c.args.link.now) (g.L.Link.faults c.args.link.now) (g.W.Sink.taken c.args.out.now) (g.W.Sink.faults c.args.out.now)
-    (depot.tells c.args.depot.now) (depot.held c.args.depot.now) (depot.faults c.args.depot.now) in
-    let new = outside left_after reads_after (g.L.Link.told c.bind_all.new.link) (g.L.Link.faults c.bind_all.new.link) (g.W.Sink.taken c.args.out.now) (g.W.Sink.faults c.args.out.now)
-    (depot.tells c.close_seats.new.depot) (depot.held c.close_seats.new.depot) (depot.faults c.close_seats.new.depot) in
+    let old = outside_read g.L.Link g.D.Depot g.W.Sink left reads c.args.link.now c.args.depot.now c.args.out.now in
+    let new = outside_read g.L.Link g.D.Depot g.W.Sink left_after reads_after c.bind_all.new.link
+    c.close_seats.new.depot c.args.out.now in
     let opening = c.open_seats.ensures in
     let close = c.close_seats.ensures in
-    let back = subst (λ t. GivesBack disk.seen disk.faults c.open_seats.new.seats.items t (depot.held c.open_seats.new.depot) (depot.held c.close_seats.new.depot) (depot.faults c.open_seats.new.depot) (depot.faults c.close_seats.new.depot))
-    opening.told (record { holds = close.held; others = close.others; failed = close.failed; still = close.still; others_still = close.others_still; later = close.later }) in
-    let stays = opened_stays disk.seen disk.may_leave disk.moment disk.left_since disk.faults c.args.cluster.now c.args.window c.args.events.now (depot.tells c.args.depot.now) (depot.held c.args.depot.now)
-    (depot.held c.open_seats.new.depot) (depot.held c.close_seats.new.depot) (depot.faults c.open_seats.new.depot) (depot.faults c.close_seats.new.depot) c.args.roles.now c.open_seats.new.seats.items
+    let back = subst (λ t. GivesBack disk.seen disk.faults c.open_seats.new.seats.items t
+    (depot.held c.open_seats.new.depot) (depot.held c.close_seats.new.depot) (depot.faults c.open_seats.new.depot)
+    (depot.faults c.close_seats.new.depot))
+    opening.told close.back in
+    let stays = opened_stays disk.seen disk.may_leave disk.moment disk.left_since disk.faults c.args.cluster.now
+    c.args.window c.args.events.now (depot.tells c.args.depot.now) (depot.held c.args.depot.now)
+    (depot.held c.open_seats.new.depot) (depot.held c.close_seats.new.depot) (depot.faults c.open_seats.new.depot)
+    (depot.faults c.close_seats.new.depot) c.args.roles.now c.open_seats.new.seats.items
     c.requires.distinct opening.opened back opening.held in
-    let stands = opened_still disk.seen disk.may_leave disk.moment disk.left_since disk.faults c.args.cluster.now c.args.window c.args.events.now (depot.tells c.args.depot.now) (depot.held c.args.depot.now)
-    (depot.held c.open_seats.new.depot) (depot.held c.close_seats.new.depot) (depot.faults c.open_seats.new.depot) (depot.faults c.close_seats.new.depot) c.args.roles.now c.open_seats.new.seats.items
+    let stands = opened_still disk.seen disk.may_leave disk.moment disk.left_since disk.faults c.args.cluster.now
+    c.args.window c.args.events.now (depot.tells c.args.depot.now) (depot.held c.args.depot.now)
+    (depot.held c.open_seats.new.depot) (depot.held c.close_seats.new.depot) (depot.faults c.open_seats.new.depot)
+    (depot.faults c.close_seats.new.depot) c.args.roles.now c.open_seats.new.seats.items
     opening.opened back in
-    let apart = opened_unhosted disk.seen disk.may_leave disk.moment disk.left_since disk.faults c.args.cluster.now c.args.window c.args.events.now (depot.tells c.args.depot.now) (depot.held c.args.depot.now)
-    (depot.held c.open_seats.new.depot) (depot.held c.close_seats.new.depot) (depot.faults c.open_seats.new.depot) (depot.faults c.close_seats.new.depot) c.args.roles.now c.open_seats.new.seats.items opening.opened back in
-    let early = host_early c.args.tend c.args.cluster.now c.args.window c.args.events.now c.args.turns c.args.roles.now old new c.bind_all.ensures.part.0 c.bind_all.ensures.part.1 refl stays
-    (λ me none. ((apart me none).0 ∙ (opening.apart me none).0, (apart me none).1 ∙ (opening.apart me none).1)) (close.told ∙ opening.told) in
-    subst (λ s. HostAnswered c.args.roles.now c.args.tend c.args.cluster.now c.args.window c.args.events.now c.args.turns old new s) (sym c.unopened.ensures)
-    (host_unopened c.args.tend c.args.cluster.now c.args.window c.args.events.now c.args.turns c.args.roles.now old new c.in-Err.stop early
-    (λ role e. rises_still (depot.faults c.args.depot.now role) (depot.faults c.open_seats.new.depot role) (depot.faults c.close_seats.new.depot role) (opening.failed role (c.in-Err.is ∙ ap Err e)) (close.later role))
+    let apart = opened_unhosted disk.seen disk.may_leave disk.moment disk.left_since disk.faults c.args.cluster.now
+    c.args.window c.args.events.now (depot.tells c.args.depot.now) (depot.held c.args.depot.now)
+    (depot.held c.open_seats.new.depot) (depot.held c.close_seats.new.depot) (depot.faults c.open_seats.new.depot)
+    (depot.faults c.close_seats.new.depot) c.args.roles.now c.open_seats.new.seats.items opening.opened back in
+    let early = host_early c.args.tend c.args.cluster.now c.args.window c.args.events.now c.args.turns
+    c.args.roles.now old new c.bind_all.ensures.part.0 c.bind_all.ensures.part.1 refl stays
+    (λ me none. ((apart me none).0 ∙ (opening.apart me none).0, (apart me none).1 ∙ (opening.apart me none).1))
+    (close.told ∙ opening.told) in
+    subst (λ s. HostAnswered c.args.roles.now c.args.tend c.args.cluster.now c.args.window c.args.events.now
+    c.args.turns old new s) (sym c.unopened.ensures)
+    (host_unopened c.args.tend c.args.cluster.now c.args.window c.args.events.now c.args.turns c.args.roles.now old
+    new c.in-Err.stop early
+    (λ role e. rises_still (depot.faults c.args.depot.now role) (depot.faults c.open_seats.new.depot role)
+    (depot.faults c.close_seats.new.depot role) (opening.failed role (c.in-Err.is ∙ ap Err e))
+    (close.back.later role))
     (λ role at e t. opening.bad role at (c.in-Err.is ∙ ap Err e) t)
-    (λ role no. stands role ∙ opening.others role (λ e. no (same_stop c.in-Err.stop (open_stop.StoreFault role) (sym c.in-Err.is ∙ e)))) refl (c.bind_all.ensures.still c.if-not-bind_all.false))
+    (λ role no. stands role ∙ opening.others role
+    (λ e. no (same_stop c.in-Err.stop (open_stop.StoreFault role) (sym c.in-Err.is ∙ e)))) refl
+    (c.bind_all.ensures.still c.if-not-bind_all.false))

@@ -1,20 +1,25 @@
 use Rattle.std.proofs.Common.{refl, sym, subst}
 use Rattle.cx_node.specs.Serving.{Says, outside}
-use Rattle.cx_node.proofs.Answering.{answered_so, completes_so, err_is, refused_so, refused_tells_bad, says_heard, tells_bad_so}
+use Rattle.cx_node.proofs.Answering.{answered_so, completes_so, err_is, refused_so, refused_tells_bad, says_heard}
+use Rattle.cx_node.proofs.Answering.{tells_bad_so}
 use Rattle.cx_node.proofs.serving.serve.Goals as goal
 
 pub returns-in-Ok-clause-answered : goal.returns-in-Ok-clause-answered
 returns-in-Ok-clause-answered g c =
     let depot = g.D.Depot in
     let heard = c.in-Ok.ensures in
-    let old = outside (g.S.Source.left c.args.input.now) (g.S.Source.faults c.args.input.now) (g.L.Link.told c.args.link.now) (g.L.Link.faults c.args.link.now) (g.W.Sink.taken c.args.out.now) (g.W.Sink.faults c.args.out.now)
-    (depot.tells c.args.depot.now) (depot.held c.args.depot.now) (depot.faults c.args.depot.now) in
-    let new = outside (g.S.Source.left c.listen.new.source) (g.S.Source.faults c.listen.new.source) (g.L.Link.told c.host.new.link) (g.L.Link.faults c.host.new.link) (g.W.Sink.taken c.host.new.out) (g.W.Sink.faults c.host.new.out)
-    (depot.tells c.host.new.depot) (depot.held c.host.new.depot) (depot.faults c.host.new.depot) in
-    let says = subst (λ events. Says c.args.roles.now (g.S.Source.left c.args.input.now) c.in-Ok.cluster events) (sym c.events.ensures)
-    (says_heard c.args.roles.now (g.S.Source.left c.args.input.now) c.in-Ok.cluster c.in-Ok.schedule heard.heard heard.taken heard.named) in
-    answered_so c.args.roles.now c.args.tend c.in-Ok.cluster c.args.window c.events.result.now c.args.turns old new c.host.result says (heard.at_end, heard.all_read)
-    (c.host.ensures.answered (g.S.Source.left c.args.input.now) (g.S.Source.left c.listen.new.source) (g.S.Source.faults c.args.input.now) (g.S.Source.faults c.listen.new.source))
+    let old = outside g.S.Source g.L.Link g.D.Depot g.W.Sink c.args.input.now c.args.link.now c.args.depot.now
+    c.args.out.now in
+    let new = outside g.S.Source g.L.Link g.D.Depot g.W.Sink c.listen.new.source c.host.new.link c.host.new.depot
+    c.host.new.out in
+    let says = subst (λ events. Says c.args.roles.now (g.S.Source.left c.args.input.now) c.in-Ok.cluster events)
+    (sym c.events.ensures)
+    (says_heard c.args.roles.now
+    (g.S.Source.left c.args.input.now) c.in-Ok.cluster c.in-Ok.schedule heard.heard heard.taken heard.named) in
+    answered_so c.args.roles.now c.args.tend c.in-Ok.cluster c.args.window c.events.result.now c.args.turns old new
+    c.host.result says (heard.at_end, heard.all_read)
+    (c.host.ensures.answered (g.S.Source.left c.args.input.now) (g.S.Source.left c.listen.new.source)
+    (g.S.Source.faults c.args.input.now) (g.S.Source.faults c.listen.new.source))
 
 pub returns-in-Ok-clause-complete : goal.returns-in-Ok-clause-complete
 returns-in-Ok-clause-complete g c = completes_so _ _ _ _ _ _ _ (returns-in-Ok-clause-answered g c)
@@ -22,20 +27,37 @@ returns-in-Ok-clause-complete g c = completes_so _ _ _ _ _ _ _ (returns-in-Ok-cl
 pub returns-in-Ok-clause-tells_bad : goal.returns-in-Ok-clause-tells_bad
 returns-in-Ok-clause-tells_bad g c =
     let heard = c.in-Ok.ensures in
-    let says = subst (λ events. Says c.args.roles.now (g.S.Source.left c.args.input.now) c.in-Ok.cluster events) (sym c.events.ensures)
-    (says_heard c.args.roles.now (g.S.Source.left c.args.input.now) c.in-Ok.cluster c.in-Ok.schedule heard.heard heard.taken heard.named) in
-    tells_bad_so c.args.roles.now c.args.tend c.in-Ok.cluster c.args.window c.events.result.now c.args.turns _ _ c.host.result says
-    (c.host.ensures.answered (g.S.Source.left c.args.input.now) (g.S.Source.left c.listen.new.source) (g.S.Source.faults c.args.input.now) (g.S.Source.faults c.listen.new.source))
+    let says = subst (λ events. Says c.args.roles.now (g.S.Source.left c.args.input.now) c.in-Ok.cluster events)
+    (sym c.events.ensures)
+    (says_heard c.args.roles.now
+    (g.S.Source.left c.args.input.now) c.in-Ok.cluster c.in-Ok.schedule heard.heard heard.taken heard.named) in
+    tells_bad_so c.args.roles.now c.args.tend c.in-Ok.cluster c.args.window c.events.result.now c.args.turns _ _
+    c.host.result says
+    (c.host.ensures.answered (g.S.Source.left c.args.input.now) (g.S.Source.left c.listen.new.source)
+    (g.S.Source.faults c.args.input.now) (g.S.Source.faults c.listen.new.source))
 
 pub returns-in-Err-clause-answered : goal.returns-in-Err-clause-answered
 returns-in-Err-clause-answered g c =
     let heard = c.in-Err.ensures in
-    refused_so c.args.roles.now c.args.tend c.args.window c.args.turns _ _ c.in-Err.refusal c.refused.result c.refused.ensures
-    (record { link = refl; links = refl; out = refl; writes = refl; tells = refl; held = λ me. refl; stores = λ me. refl })
-    (λ e. heard.bad_words (err_is e)) (λ line e. heard.bad_input line (err_is e)) (λ e. heard.read_fault (err_is e)) heard.read_failed
+    refused_so c.args.roles.now c.args.tend c.args.window c.args.turns _ _ c.in-Err.refusal c.refused.result
+    c.refused.ensures
+    (record {
+      link = refl;
+      links = refl;
+      out = refl;
+      writes = refl;
+      tells = refl;
+      held = λ me. refl;
+      stores = λ me.
+          refl;
+    })
+    (λ e. heard.bad_words (err_is e)) (λ line e. heard.bad_input line (err_is e))
+    (λ e. heard.read_fault (err_is e)) heard.read_failed
 
 pub returns-in-Err-clause-complete : goal.returns-in-Err-clause-complete
 returns-in-Err-clause-complete g c = completes_so _ _ _ _ _ _ _ (returns-in-Err-clause-answered g c)
 
 pub returns-in-Err-clause-tells_bad : goal.returns-in-Err-clause-tells_bad
-returns-in-Err-clause-tells_bad g c = refused_tells_bad c.args.roles.now c.args.tend c.args.window c.args.turns _ _ c.in-Err.refusal c.refused.result c.refused.ensures (returns-in-Err-clause-answered g c)
+returns-in-Err-clause-tells_bad g c =
+    refused_tells_bad c.args.roles.now c.args.tend c.args.window c.args.turns _ _ c.in-Err.refusal c.refused.result
+    c.refused.ensures (returns-in-Err-clause-answered g c)

@@ -6,7 +6,12 @@ pub returns-in_default : goal.returns-in_default
 returns-in_default g c =
     let bytes = take c.in-Got.count c.take.new.buffer in
     record {
-      told = (Some bytes, c.in-Got.ensures.told.1, none_read bytes c.in-Err.fault c.in_default.not-NoMemory c.in-Err.ensures.exact);
+      told = (
+        Some bytes,
+        c.in-Got.ensures.told.1,
+        none_read bytes c.in-Err.fault c.in_default.not-NoMemory
+            c.in-Err.ensures.exact,
+      );
       fault = search rules;
       no_fault = search rules;
       no_write = search rules;

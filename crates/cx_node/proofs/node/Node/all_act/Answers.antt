@@ -2,8 +2,7 @@ use Rattle.std.proofs.Common.{◌≡◌, ◌<◌, [], Ok, Err, length, arith, ru
 use Rattle.std.proofs.lemmas.List.{length-map}
 use Rattle.std.proofs.lemmas.Result.{err_from_is_err_and}
 use Rattle.cx_base.specs.declared.cluster.Cluster.{Cluster}
-use Rattle.cx_node.specs.Acts.{Acts, failures}
-use Rattle.cx_node.specs.Doing.{scene}
+use Rattle.cx_node.specs.Acts.{Acts, failed, scene_of}
 use Rattle.cx_node.specs.Guest.{hosted_in, hosted_of}
 use Rattle.cx_node.specs.Run.{does_at, first_do}
 use Rattle.cx_node.proofs.Actions.{acts_nothing, blames_then, no_blame}
@@ -13,8 +12,10 @@ use Rattle.cx_node.proofs.node.Node.all_act.Goals as goal
 pub loop-place-init : goal.loop-place-init
 loop-place-init g c =
     record {
-      acts = acts_nothing g.K.Keeper.append_gives c.args.self.now.cluster (scene c.args.self.now.guests (g.L.Link.told c.args.link.now) (g.W.Sink.taken c.args.out.now)) c.requires.ready;
-      blames = no_blame (failures (g.L.Link.faults c.args.link.now) (g.W.Sink.faults c.args.out.now));
+      acts =
+          acts_nothing g.K.Keeper.append_gives c.args.self.now.cluster
+          (scene_of g.L.Link g.W.Sink c.args.self.now c.args.link.now c.args.out.now) c.requires.ready;
+      blames = no_blame (failed g.L.Link g.W.Sink c.args.link.now c.args.out.now);
       cluster = refl;
       count = search rules;
     }
@@ -23,11 +24,15 @@ pub loop-place-preserved : goal.loop-place-preserved
 loop-place-preserved g c =
     let l = c.loop-place in
     let hs = hosted_in c.args.self.now.guests in
-    let before = (scene l.self.guests (g.L.Link.told l.link) (g.W.Sink.taken l.out)) in
-    let now = (scene c.act.new.self.guests (g.L.Link.told c.act.new.link) (g.W.Sink.taken c.act.new.out)) in
+    let before = scene_of g.L.Link g.W.Sink l.self l.link l.out in
+    let now = scene_of g.L.Link g.W.Sink c.act.new.self c.act.new.link c.act.new.out in
     record {
-      acts = next_done g.K.Keeper.append_gives c.args.self.now.cluster c.args.what.now hs l.place (scene c.args.self.now.guests (g.L.Link.told c.args.link.now) (g.W.Sink.taken c.args.out.now)) before now l.invariant.acts
-          (subst (λ (cl : Cluster). Acts g.K.Keeper.append_gives cl [] (does_at l.place c.args.what.now (hosted_in l.self.guests)) (Ok tt) before now) l.invariant.cluster c.in_ok-act.ensures.acts);
+      acts =
+          next_done g.K.Keeper.append_gives c.args.self.now.cluster c.args.what.now hs l.place
+          (scene_of g.L.Link g.W.Sink c.args.self.now c.args.link.now c.args.out.now) before now l.invariant.acts
+          (subst (λ (cl : Cluster). Acts g.K.Keeper.append_gives cl []
+          (does_at l.place c.args.what.now (hosted_in l.self.guests))
+          (Ok tt) before now) l.invariant.cluster c.in_ok-act.ensures.acts);
       blames = blames_then (Ok tt) _ _ _ l.invariant.blames c.in_ok-act.ensures.blames;
       cluster = c.in_ok-act.ensures.cluster ∙ l.invariant.cluster;
       count = l.invariant.count;
@@ -37,18 +42,36 @@ pub returns-in_err-act-clause-acts : goal.returns-in_err-act-clause-acts
 returns-in_err-act-clause-acts g c =
     let l = c.loop-place in
     let hs = hosted_in c.args.self.now.guests in
-    let before = (scene l.self.guests (g.L.Link.told l.link) (g.W.Sink.taken l.out)) in
-    let now = (scene c.act.new.self.guests (g.L.Link.told c.act.new.link) (g.W.Sink.taken c.act.new.out)) in
+    let before = scene_of g.L.Link g.W.Sink l.self l.link l.out in
+    let now = scene_of g.L.Link g.W.Sink c.act.new.self c.act.new.link c.act.new.out in
     let p = err_from_is_err_and c.from_residual.result c.from_residual.ensures.1 in
     let is : c.from_residual.result ≡ Err c.in_err-act.field-0.0 = p.1 ∙ ap Err p.2 in
-    let more : l.place < length hs = omega (arith, c.loop-place-test.true, l.invariant.count, length-map c.args.self.now.guests (hosted_of {K = g.row.K.Denot})) in
+    let more : l.place < length hs = omega (
+      arith,
+      c.loop-place-test.true,
+      l.invariant.count,
+      length-map c.args.self.now.guests
+          (hosted_of {K = g.row.K.Denot}),
+    ) in
     rw is
-    (next_stopped g.K.Keeper.append_gives c.args.self.now.cluster c.args.what.now hs l.place c.in_err-act.field-0.0 (scene c.args.self.now.guests (g.L.Link.told c.args.link.now) (g.W.Sink.taken c.args.out.now)) before now more l.invariant.acts
-    (subst (λ (cl : Cluster). Acts g.K.Keeper.append_gives cl [] (does_at l.place c.args.what.now (hosted_in l.self.guests)) (Err c.in_err-act.field-0.0) before now) l.invariant.cluster c.in_err-act.ensures.acts))
+    (next_stopped g.K.Keeper.append_gives c.args.self.now.cluster c.args.what.now hs l.place c.in_err-act.field-0.0
+    (scene_of g.L.Link g.W.Sink c.args.self.now c.args.link.now c.args.out.now) before now more l.invariant.acts
+    (subst (λ (cl : Cluster). Acts g.K.Keeper.append_gives cl []
+    (does_at l.place c.args.what.now (hosted_in l.self.guests))
+    (Err c.in_err-act.field-0.0) before now) l.invariant.cluster c.in_err-act.ensures.acts))
 
 pub returns-clause-acts : goal.returns-clause-acts
 returns-clause-acts g c =
     let l = c.loop-place in
     let hs = hosted_in c.args.self.now.guests in
-    let all : l.place ≡ length hs = omega (arith, c.loop-place-test.false, l.auto.place-end, l.invariant.count, length-map c.args.self.now.guests (hosted_of {K = g.row.K.Denot})) in
-    subst (λ k. Acts g.K.Keeper.append_gives c.args.self.now.cluster [] (first_do k c.args.what.now hs) (Ok tt) (scene c.args.self.now.guests (g.L.Link.told c.args.link.now) (g.W.Sink.taken c.args.out.now)) (scene l.self.guests (g.L.Link.told l.link) (g.W.Sink.taken l.out))) all l.invariant.acts
+    let all : l.place ≡ length hs = omega (
+      arith,
+      c.loop-place-test.false,
+      l.auto.place-end,
+      l.invariant.count,
+      length-map c.args.self.now.guests
+          (hosted_of {K = g.row.K.Denot}),
+    ) in
+    subst (λ k. Acts g.K.Keeper.append_gives c.args.self.now.cluster [] (first_do k c.args.what.now hs) (Ok tt)
+    (scene_of g.L.Link g.W.Sink c.args.self.now c.args.link.now c.args.out.now)
+    (scene_of g.L.Link g.W.Sink l.self l.link l.out)) all l.invariant.acts

@@ -6,8 +6,7 @@ use Rattle.cx_base.specs.declared.event.Order.TheVariants as order
 use Rattle.cx_base.specs.declared.role.Kind.TheVariants as kind
 use Rattle.cx_msg.specs.declared.input.Input.TheVariants as input
 use Rattle.cx_node.specs.declared.doing.Doing.TheVariants.{Give}
-use Rattle.cx_node.specs.Acts.{Acts}
-use Rattle.cx_node.specs.Doing.{scene}
+use Rattle.cx_node.specs.Acts.{Acts, scene_of}
 use Rattle.cx_node.specs.Guest.{hosted_in}
 use Rattle.cx_node.specs.Node.{NodeState}
 use Rattle.cx_node.specs.Run.{does_at, grid_of, idle_at, place_of}
@@ -19,13 +18,16 @@ use Rattle.cx_node.proofs.node.Node.lead.Goals as goal
 pub returns-in_default-clause-acts : goal.returns-in_default-clause-acts
 returns-in_default-clause-acts g c =
     let hs = hosted_in c.args.self.now.guests in
-    let found : place_of (role kind.Leader 0) hs ≡ None = ap (λ r. place_of r hs) (sym c.new.ensures) ∙ sym c.find.ensures ∙ c.in_default.is in
-    lead_none g.K.Keeper.append_gives c.args.self.now.cluster (place_of (role kind.Leader 0) hs) (scene c.args.self.now.guests (g.L.Link.told c.args.link.now) (g.W.Sink.taken c.args.out.now)) found c.requires.ready
+    let found : place_of (role kind.Leader 0) hs ≡ None = ap (λ r. place_of r hs) (sym c.new.ensures)
+    ∙ sym c.find.ensures ∙ c.in_default.is in
+    lead_none g.K.Keeper.append_gives c.args.self.now.cluster (place_of (role kind.Leader 0) hs)
+    (scene_of g.L.Link g.W.Sink c.args.self.now c.args.link.now c.args.out.now) found c.requires.ready
 
 pub index-requires : goal.index-requires
 index-requires g c =
     let same = ap (λ (s : NodeState g.row.K.Denot). s.guests) c.self.view_is in
-    let inside : c.in-Some.place < length c.args.self.now.guests = place_within c.new.result c.args.self.now.guests c.in-Some.place (sym c.find.ensures ∙ c.in-Some.is) in
+    let inside : c.in-Some.place < length c.args.self.now.guests = place_within c.new.result c.args.self.now.guests
+    c.in-Some.place (sym c.find.ensures ∙ c.in-Some.is) in
     omega (arith, inside, ap length same, c.self.inside.seats.ok.0)
 
 pub returns-then-not-is_idle_leader-clause-acts : goal.returns-then-not-is_idle_leader-clause-acts
@@ -35,13 +37,19 @@ returns-then-not-is_idle_leader-clause-acts g c =
     let same = ap (λ (s : NodeState g.row.K.Denot). s.guests) c.self.view_is in
     let i = c.in-Some.place in
     let h = c.index.result.now in
-    let found : place_of (role kind.Leader 0) hs ≡ Some i = ap (λ r. place_of r hs) (sym c.new.ensures) ∙ sym c.find.ensures ∙ c.in-Some.is in
+    let found : place_of (role kind.Leader 0) hs ≡ Some i = ap (λ r. place_of r hs) (sym c.new.ensures)
+    ∙ sym c.find.ensures ∙ c.in-Some.is in
     let inside : i < length gs = place_within (role kind.Leader 0) gs i found in
-    let here : slice_get gs i ≡ Some h = slice_get_read gs (length gs) i h refl inside (c.index.ensures ∙ ap (λ xs. get_or xs i h) same) in
-    lead_busy g.K.Keeper.append_gives c.args.self.now.cluster (place_of (role kind.Leader 0) hs) i (scene c.args.self.now.guests (g.L.Link.told c.args.link.now) (g.W.Sink.taken c.args.out.now)) found (ap idle_at (hosted_at gs i h here) ∙ sym c.is_idle_leader.ensures ∙ c.if-not-is_idle_leader.true) c.requires.ready
+    let here : slice_get gs i ≡ Some h = slice_get_read gs (length gs) i h refl inside
+    (c.index.ensures ∙ ap (λ xs. get_or xs i h) same) in
+    lead_busy g.K.Keeper.append_gives c.args.self.now.cluster (place_of (role kind.Leader 0) hs) i
+    (scene_of g.L.Link g.W.Sink c.args.self.now c.args.link.now c.args.out.now) found
+    (ap idle_at (hosted_at gs i h here) ∙ sym c.is_idle_leader.ensures
+    ∙ c.if-not-is_idle_leader.true) c.requires.ready
 
 pub act-requires-clause-place : goal.act-requires-clause-place
-act-requires-clause-place g c = place_within c.new.result c.args.self.now.guests c.in-Some.place (sym c.find.ensures ∙ c.in-Some.is)
+act-requires-clause-place g c =
+    place_within c.new.result c.args.self.now.guests c.in-Some.place (sym c.find.ensures ∙ c.in-Some.is)
 
 pub returns-clause-acts : goal.returns-clause-acts
 returns-clause-acts g c =
@@ -51,8 +59,17 @@ returns-clause-acts g c =
     let same_cluster = ap (λ (s : NodeState g.row.K.Denot). s.cluster) c.self.view_is in
     let i = c.in-Some.place in
     let h = c.index.result.now in
-    let found : place_of (role kind.Leader 0) hs ≡ Some i = ap (λ r. place_of r hs) (sym c.new.ensures) ∙ sym c.find.ensures ∙ c.in-Some.is in
+    let found : place_of (role kind.Leader 0) hs ≡ Some i = ap (λ r. place_of r hs) (sym c.new.ensures)
+    ∙ sym c.find.ensures ∙ c.in-Some.is in
     let inside : i < length gs = place_within (role kind.Leader 0) gs i found in
-    let here : slice_get gs i ≡ Some h = slice_get_read gs (length gs) i h refl inside (c.index.ensures ∙ ap (λ xs. get_or xs i h) same) in
-    lead_idle g.K.Keeper.append_gives c.args.self.now.cluster (place_of (role kind.Leader 0) hs) i c.act.result (scene c.args.self.now.guests (g.L.Link.told c.args.link.now) (g.W.Sink.taken c.args.out.now)) (scene c.act.new.self.guests (g.L.Link.told c.act.new.link) (g.W.Sink.taken c.act.new.out)) found (ap idle_at (hosted_at gs i h here) ∙ sym c.is_idle_leader.ensures ∙ c.if-not-is_idle_leader.false)
-    (subst (λ (s : Shape). Acts g.K.Keeper.append_gives c.args.self.now.cluster [] (does_at i (Give (input.Order (order.Lead s))) hs) c.act.result (scene c.args.self.now.guests (g.L.Link.told c.args.link.now) (g.W.Sink.taken c.args.out.now)) (scene c.act.new.self.guests (g.L.Link.told c.act.new.link) (g.W.Sink.taken c.act.new.out))) (c.first_grid.ensures ∙ ap grid_of same_cluster) c.act.ensures.acts)
+    let here : slice_get gs i ≡ Some h = slice_get_read gs (length gs) i h refl inside
+    (c.index.ensures ∙ ap (λ xs. get_or xs i h) same) in
+    lead_idle g.K.Keeper.append_gives c.args.self.now.cluster (place_of (role kind.Leader 0) hs) i c.act.result
+    (scene_of g.L.Link g.W.Sink c.args.self.now c.args.link.now c.args.out.now)
+    (scene_of g.L.Link g.W.Sink c.act.new.self c.act.new.link c.act.new.out) found
+    (ap idle_at (hosted_at gs i h here) ∙ sym c.is_idle_leader.ensures ∙ c.if-not-is_idle_leader.false)
+    (subst (λ (s : Shape). Acts g.K.Keeper.append_gives c.args.self.now.cluster []
+    (does_at i (Give (input.Order (order.Lead s))) hs) c.act.result
+    (scene_of g.L.Link g.W.Sink c.args.self.now c.args.link.now c.args.out.now)
+    (scene_of g.L.Link g.W.Sink c.act.new.self c.act.new.link c.act.new.out))
+    (c.first_grid.ensures ∙ ap grid_of same_cluster) c.act.ensures.acts)

@@ -1,12 +1,17 @@
 use Rattle.std.proofs.Common.{sym, ◌∙◌}
-use Rattle.cx_node.specs.Doing.{scene}
+use Rattle.cx_node.specs.Acts.{scene_of}
 use Rattle.cx_node.proofs.Parts.{tick_due, tick_none}
 use Rattle.cx_node.proofs.node.Node.tick.Goals as goal
 
 pub returns-then-is_tick_turn-clause-acts : goal.returns-then-is_tick_turn-clause-acts
 returns-then-is_tick_turn-clause-acts g c =
-    tick_due g.K.Keeper.append_gives c.args.self.now.cluster c.args.n c.all_act.result (scene c.args.self.now.guests (g.L.Link.told c.args.link.now) (g.W.Sink.taken c.args.out.now)) (scene c.all_act.new.self.guests (g.L.Link.told c.all_act.new.link) (g.W.Sink.taken c.all_act.new.out)) (sym c.is_tick_turn.ensures ∙ c.if-is_tick_turn.true) c.all_act.ensures.acts
+    tick_due g.K.Keeper.append_gives c.args.self.now.cluster c.args.n c.all_act.result
+    (scene_of g.L.Link g.W.Sink c.args.self.now c.args.link.now c.args.out.now)
+    (scene_of g.L.Link g.W.Sink c.all_act.new.self c.all_act.new.link c.all_act.new.out)
+    (sym c.is_tick_turn.ensures ∙ c.if-is_tick_turn.true) c.all_act.ensures.acts
 
 pub returns-clause-acts : goal.returns-clause-acts
 returns-clause-acts g c =
-    tick_none g.K.Keeper.append_gives c.args.self.now.cluster c.args.n (scene c.args.self.now.guests (g.L.Link.told c.args.link.now) (g.W.Sink.taken c.args.out.now)) (sym c.is_tick_turn.ensures ∙ c.if-is_tick_turn.false) c.requires.ready
+    tick_none g.K.Keeper.append_gives c.args.self.now.cluster c.args.n
+    (scene_of g.L.Link g.W.Sink c.args.self.now c.args.link.now c.args.out.now)
+    (sym c.is_tick_turn.ensures ∙ c.if-is_tick_turn.false) c.requires.ready

@@ -1,0 +1,39 @@
+-- The result of a part of a tended turn: what its roles did, and what is counted.
+use Rattle.std.specs.Prelude.{◌≡◌, ℕ, Bool, List, [], Option, Result, OnOk, slice_get, if◌then◌else◌}
+use Rattle.cx_base.specs.declared.cluster.Cluster.{Cluster}
+use Rattle.cx_role.specs.Role.{Appending}
+use Rattle.cx_msg.specs.declared.input.Input.TheVariants as input
+use Rattle.cx_node.specs.declared.doing.Doing.TheVariants.{Give}
+use Rattle.cx_node.specs.declared.node.Stop.{Stop}
+use Rattle.cx_node.specs.Acts.{Acts}
+use Rattle.cx_node.specs.Doing.{Scene}
+use Rattle.cx_node.specs.Guest.{hosted_in}
+use Rattle.cx_node.specs.Hosted.{Hosted}
+use Rattle.cx_node.specs.Run.{Moved, does_at, stays}
+use Rattle.cx_node.specs.Tending.{Care, Tended, first_leader, is_so, leader_tended, without_care}
+use Rattle.cx_node.specs.Tends.{TendsOnce, tended}
+
+-- what the roles did in a part without a take, by what was counted before it
+abbrev pub ActsTended : {K : Type 0} → Appending K → Cluster → (Tended → Moved Tended) → Result (Unit {0}) Stop → Care
+    → Scene K → Scene K → Type 0
+ActsTended gives c part result before old new =
+    Acts gives c [] (without_care (part (tended before (hosted_in old.guests)))) result old new
+
+-- what is counted after it
+abbrev pub Counts : (Tended → Moved Tended) → Result (Unit {0}) Stop → Care → Care → List Hosted → Type 0
+Counts part result before after hs = OnOk result (after ≡ (part (tended before hs)).next.care)
+
+-- a turn, by what its take gave: what the roles did, and what is counted after it
+abbrev pub ActsTurn : {K : Type 0} → Appending K → Cluster → (Option (List ℕ) → Tended → Moved Tended)
+    → Result (Unit {0}) Stop → Care → Care → Scene K → Scene K → Type 0
+ActsTurn gives c turn result before after old new =
+    TendsOnce gives c (λ what. turn what (tended before (hosted_in old.guests))) result old new after
+
+-- the leader's part of a beat
+abbrev pub leader_part : Cluster → Tended → Moved Tended
+leader_part c t = leader_tended c (first_leader t.hosted) t
+
+-- the role at a place ticks, if there is one of which this is so
+abbrev pub ticks_if : (ℕ → Hosted → Bool) → ℕ → List Hosted → Moved (List Hosted)
+ticks_if test i hs =
+    if is_so (test i) (slice_get hs i) then does_at i (Give input.Tick) hs else stays hs
