@@ -281,15 +281,27 @@ def floors():
         yield record_entry(rec)
 
 
+def renewed():
+    """The records of a list that begins anew, six of each."""
+    pairs = lambda n: tuple((key(), text()) for _ in range(n))
+    notes = lambda n: tuple((seq(), at(), reply()) for _ in range(n))
+    bases = [R.Base(0, 0, 0, 0), R.Base(SLOTS, SLOTS, U32, 255)] + [R.Base(mark(), mark(), pick.randint(0, 300), pick.randint(0, 64)) for _ in range(4)]
+    maps = [R.Pairs(((word(32), word(64)),)), R.Pairs(pairs(40))] + [R.Pairs(pairs(pick.choice([1, 2, 3]))) for _ in range(4)]
+    tables = [R.Notes(0, 0, notes(1)), R.Notes(U16, U64, notes(64))] + [R.Notes(index(), pick.choice([0, 7, U64]), notes(pick.choice([1, 2]))) for _ in range(4)]
+    tails = [R.Tail((NOOP,)), R.Tail((NOOP,) * 32), R.Tail((FULL, NOOP))] + [R.Tail(tuple(value() for _ in range(pick.choice([1, 2])))) for _ in range(3)]
+    for rec in [*bases, *maps, *tables, *tails]:
+        yield record_entry(rec)
+
+
 print("""\
 //! Bytes of datagrams and records, as another implementation of the format writes them: tools/vectors.py prints this file.
 
-/// Datagrams of all 29 kinds, eight of each, then records of all seven tags, six of each, and then ten datagrams and two records
-/// whose commands tell floors, in hexadecimal. A semicolon ends an entry. A mark `_` stands where a basic field of the body begins,
-/// as the other implementation says where it meets a cut.
+/// Datagrams of all 29 kinds, eight of each, then records of the first seven tags, six of each, then ten datagrams and two records
+/// whose commands tell floors, and then records of the last four tags, six of each, in hexadecimal. A semicolon ends an entry. A
+/// mark `_` stands where a basic field of the body begins, as the other implementation says where it meets a cut.
 pub const ENTRIES: &str = "\
 """)
-for entry in [*datagrams(), *records(), *floors()]:
+for entry in [*datagrams(), *records(), *floors(), *renewed()]:
     entry += ";"
     for i in range(0, len(entry), WIDTH):
         print(entry[i:i + WIDTH])

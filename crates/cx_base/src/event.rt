@@ -10,14 +10,15 @@ use crate::role::RoleId;
 use crate::why::Why;
 use std::alloc::Global;
 
-/// Whether a role crashes inside a step's append, and whether the record is then kept.
+/// Whether a role crashes while its store is changed by a step, and whether the change is then kept. A change is a record
+/// put behind the others, or a renewed list in the place of all.
 #[derive(Clone, Copy, Debug, PartialEq, Eq)]
 pub enum Cut {
     /// The step is made whole.
     Whole,
-    /// The role crashes, and the record is lost.
+    /// The role crashes, and the change is lost.
     Torn,
-    /// The role crashes, and the record is kept.
+    /// The role crashes, and the change is kept.
     Kept,
 }
 
@@ -60,6 +61,11 @@ pub enum Event {
     Order {
         leader: u16,
         order: Order,
+        cut: Cut,
+    },
+    /// A replica forgets the values that no other replica will ask it for.
+    Snap {
+        replica: u16,
         cut: Cut,
     },
     /// A role stops and forgets its volatile part.

@@ -26,7 +26,9 @@ mod status;
 mod why;
 
 pub use cluster::Cluster;
-pub use command::{Answered, Command, Commands, Floor, Op, Pair, Placed, Reply, Value, Values};
+pub use command::{
+    Answered, Command, Commands, Floor, Note, Op, Pair, Placed, Reply, Value, Values,
+};
 pub use count::count_of;
 pub use event::{Cut, Event, Happened, Order};
 pub use faults::Faults;
@@ -36,9 +38,9 @@ pub use greatest::Greatest;
 pub use grid::Grid;
 pub use grid_fault::GridFault;
 pub use limits::{
-    ACCEPTORS, BATCH, CLIENTS, ENTRIES, IDS, KEY_LENGTH, MAX_DATAGRAM_LENGTH, MAX_F,
-    MAX_HEADER_LENGTH, MAX_LINE_LENGTH, MAX_LINES, MAX_RECORD_LENGTH, MAX_SENDS, MEMBERS,
-    OUTSTANDING, PROXIES, READS, ROLES, ROUNDS, SLOTS, TEXT_LENGTH, WINDOW, WINDOW_LENGTH,
+    ACCEPTORS, BATCH, CLIENTS, ENTRIES, IDS, KEY_LENGTH, KEYS, MAX_DATAGRAM_LENGTH, MAX_F,
+    MAX_HEADER_LENGTH, MAX_LINE_LENGTH, MAX_LINES, MAX_RECORD_LENGTH, MAX_SENDS, MEMBERS, NOTES,
+    OUTSTANDING, PAIRS, PROXIES, READS, ROLES, ROUNDS, SLOTS, TEXT_LENGTH, WINDOW, WINDOW_LENGTH,
 };
 pub use memory::{Duplicate, NoMemory};
 pub use name::{Key, Name, Text, is_name_byte};

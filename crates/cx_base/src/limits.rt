@@ -52,6 +52,9 @@ pub const ENTRIES: usize = 17;
 /// that are held for a client are bounded.
 pub const OUTSTANDING: u64 = 64;
 
+/// The most numbers that are noted of a client, as the length of a list.
+pub const NOTES: usize = OUTSTANDING as usize;
+
 /// The most commands of a batch, which is the value of one slot: the values of a whole window fit one datagram.
 pub const BATCH: usize = 8;
 
@@ -72,6 +75,12 @@ pub const MAX_DATAGRAM_LENGTH: usize = 32_768;
 
 /// The most bytes of a record in a journal, where a greater length is damage.
 pub const MAX_RECORD_LENGTH: usize = 32_768;
+
+/// The most pairs of a replica's map in one record: their count is one byte, and they fit a record.
+pub const PAIRS: usize = 255;
+
+/// A replica whose map has this many keys or more makes no snapshot, which counts them in four bytes.
+pub const KEYS: u64 = 1 << 32;
 
 /// The most datagrams that a step sends: one for each slot of the window to each member of a grid.
 pub const MAX_SENDS: usize = 512;

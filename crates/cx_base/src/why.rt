@@ -56,7 +56,7 @@ pub enum Why {
     Informed,
     /// The watermark is sent to the grid.
     Informing,
-    /// The role crashed in its append, and the record is kept.
+    /// The role crashed while its store was changed, and the change is kept.
     Kept,
     /// A later round is recorded.
     Later,
@@ -90,13 +90,15 @@ pub enum Why {
     Same,
     /// The request went out.
     Sent,
+    /// The replica forgot values, and its list was renewed.
+    Snapped,
     /// The request may not be made any more.
     Stale,
     /// A round or a read began.
     Started,
     /// It is nothing for this role.
     Stranger,
-    /// The role crashed in its append, and the record is lost.
+    /// The role crashed while its store was changed, and the change is lost.
     Torn,
     /// Nobody waits for it.
     Unasked,
@@ -160,6 +162,7 @@ impl Why {
             Why::Retired => "retired",
             Why::Same => "same",
             Why::Sent => "sent",
+            Why::Snapped => "snapped",
             Why::Stale => "stale",
             Why::Started => "started",
             Why::Stranger => "stranger",

@@ -21,7 +21,7 @@ use Rattle.cx_field.specs.declared.parts.Entry.{Entry}
 use Rattle.cx_field.specs.declared.parts.NackReason.{NackReason}
 use Rattle.cx_field.specs.declared.parts.NackReason.TheVariants as nack
 use Rattle.cx_field.specs.declared.parts.Vote.{Vote}
-use Rattle.cx_field.specs.Fields.{slot, mark, at, seq, round_fields, round, round0, member, grid, name_byte, name, floor_below, told_shape, floor_cases, told_cases, told_op, told_floor, meant_floor, make_command, command_parts, command_with, command, commands_with, commands, value_shape, value_cases, value_with, value, reply_len, reply_shape, reply_cases, reply, values, last_passes, in_window, entry, entries, vote_with, votes_with, votes, answered, answers, found_shape, found_cases, found, reason_shape, reason_cases, reason, token}
+use Rattle.cx_field.specs.Fields.{slot, mark, at, seq, round_fields, round, round0, member, grid, name_byte, name, floor_below, told_shape, floor_cases, told_cases, told_op, told_floor, meant_floor, make_command, command_parts, command_with, command, commands_with, commands, value_shape, value_cases, value_with, value, reply_len, reply_shape, reply_cases, reply, values, last_passes, in_window, entry, entries, vote_with, votes_with, votes, answered, answers, pair, pairs, note, notes, found_shape, found_cases, found, reason_shape, reason_cases, reason, token}
 
 pub slot-exact : IsExact slot
 unfolding slot
@@ -292,6 +292,24 @@ answered-exact = shaped-exact {A = ℕ × (ℕ × (ℕ × Reply))} (λ x. record
 pub answers-exact : IsExact answers
 unfolding answers
 answers-exact = counted-exact (only (λ n. nat_le 1 n && nat_le n 8) u8) (λ _. answered) (only-exact (λ n. nat_le 1 n && nat_le n 8) u8 u8-exact) (λ _. answered-exact)
+
+pair-exact : IsExact pair
+unfolding pair
+pair-exact = shaped-exact {A = List ℕ × List ℕ} (λ x. record { key = x.0; text = x.1 }) (λ p. (p.key, p.text)) (name 32 ▷ name 64)
+    (▷-exact (name 32) (name 64) (name-exact 32) (name-exact 64)) (λ x _. refl) (λ p. refl)
+
+pub pairs-exact : IsExact pairs
+unfolding pairs
+pairs-exact = counted-exact (only (λ n. nat_le 1 n && nat_le n 255) u8) (λ _. pair) (only-exact (λ n. nat_le 1 n && nat_le n 255) u8 u8-exact) (λ _. pair-exact)
+
+note-exact : IsExact note
+unfolding note
+note-exact = shaped-exact {A = ℕ × (ℕ × Reply)} (λ x. record { seq = x.0; at = x.1.0; reply = x.1.1 }) (λ n. (n.seq, (n.at, n.reply))) (seq ▷ (at ▷ reply))
+    (▷-exact seq (at ▷ reply) seq-exact (▷-exact at reply at-exact reply-exact)) (λ x _. refl) (λ n. refl)
+
+pub notes-exact : IsExact notes
+unfolding notes
+notes-exact = counted-exact (only (λ n. nat_le 1 n && nat_le n 64) u8) (λ _. note) (only-exact (λ n. nat_le 1 n && nat_le n 64) u8 u8-exact) (λ _. note-exact)
 
 found-small : (x : Option (List ℕ)) → (found_shape x).tag < 256
 found-small None = lit< tt

@@ -7,7 +7,7 @@ use Rattle.std.proofs.lemmas.List.Folds.{list_all-append}
 use Rattle.cx_wire.specs.Format.{Format, each_fits}
 use Rattle.cx_wire.proofs.Laws.{both}
 use Rattle.cx_field.specs.Fields.{last_passes}
-use Rattle.cx_field.specs.Ranges.{rises}
+use Rattle.cx_base.specs.Lists.{rises}
 
 -- what comes before a value comes before those that the value comes before
 pub record PassesOn {A : Type 0} (before : A → A → Bool) : Type 0 where

@@ -15,7 +15,7 @@ use Rattle.cx_base.specs.declared.command.Reply.TheVariants as replies
 use Rattle.cx_wire.specs.Format.{u8, u16, u32, u64, only, whole, then_by, ◌▷◌, times}
 use Rattle.cx_wire.proofs.Laws.{both}
 use Rattle.cx_wire.proofs.Sizes.{IsShort, u8-short, u16-short, u32-short, u64-short, weaker, only-short, whole-short, then_by-short, ▷-short, shaped-short, times-short, counted-short, tagged-short}
-use Rattle.cx_field.specs.Fields.{slot, mark, seq, at, round_fields, round, round0, member, grid, name_byte, name, floor_below, told_shape, told_cases, told_op, make_command, command_parts, command_with, command, commands_with, commands, value_shape, value_cases, value_with, value, reply_len, reply_shape, reply_cases, reply, last_passes, in_window, entry, entries, vote_with, votes_with, votes, answered, answers, found_shape, found_cases, found, reason_shape, reason_cases, reason, token}
+use Rattle.cx_field.specs.Fields.{slot, mark, seq, at, round_fields, round, round0, member, grid, name_byte, name, floor_below, told_shape, told_cases, told_op, make_command, command_parts, command_with, command, commands_with, commands, value_shape, value_cases, value_with, value, reply_len, reply_shape, reply_cases, reply, last_passes, in_window, entry, entries, vote_with, votes_with, votes, answered, answers, pair, pairs, note, notes, found_shape, found_cases, found, reason_shape, reason_cases, reason, token}
 use Rattle.cx_field.specs.declared.parts.Entry.{Entry}
 use Rattle.cx_field.specs.declared.parts.NackReason.{NackReason}
 use Rattle.cx_field.specs.declared.parts.NackReason.TheVariants as nack
@@ -174,6 +174,23 @@ answered-short = shaped-short {A = ℕ × (ℕ × (ℕ × Reply))} (λ x. record
 pub answers-short : IsShort answers 673
 unfolding answers
 answers-short = counted-short (only (λ n. nat_le 1 n && nat_le n 8) u8) (λ _. answered) 1 8 84 (only-short (λ n. nat_le 1 n && nat_le n 8) u8 1 u8-short) (λ n h. from_one n 8 h) (λ _. answered-short)
+
+pair-short : IsShort pair 98
+unfolding pair
+pair-short = shaped-short {A = List ℕ × List ℕ} (λ x. record { key = x.0; text = x.1 }) (λ p. (p.key, p.text)) (name 32 ▷ name 64) 98 key_text-short
+
+pub pairs-short : IsShort pairs 24991
+unfolding pairs
+pairs-short = counted-short (only (λ n. nat_le 1 n && nat_le n 255) u8) (λ _. pair) 1 255 98 (only-short (λ n. nat_le 1 n && nat_le n 255) u8 1 u8-short) (λ n h. from_one n 255 h) (λ _. pair-short)
+
+note-short : IsShort note 82
+unfolding note
+note-short = shaped-short {A = ℕ × (ℕ × Reply)} (λ x. record { seq = x.0; at = x.1.0; reply = x.1.1 }) (λ n. (n.seq, (n.at, n.reply))) (seq ▷ (at ▷ reply)) 82
+    (▷-short seq (at ▷ reply) 8 74 seq-short (▷-short at reply 8 66 at-short reply-short))
+
+pub notes-short : IsShort notes 5249
+unfolding notes
+notes-short = counted-short (only (λ n. nat_le 1 n && nat_le n 64) u8) (λ _. note) 1 64 82 (only-short (λ n. nat_le 1 n && nat_le n 64) u8 1 u8-short) (λ n h. from_one n 64 h) (λ _. note-short)
 
 found-sizes : (x : Option (List ℕ)) → (found_shape x).fits ≡ true → length (found_shape x).bytes ≤ 65
 found-sizes None h = omega arith

@@ -16,6 +16,8 @@ use Rattle.cx_base.specs.declared.command.Value.TheVariants.{Noop, Batch}
 use Rattle.cx_base.specs.declared.command.Reply.{Reply}
 use Rattle.cx_base.specs.declared.command.Reply.TheVariants.{Okay, Was, Absent, Len, Full}
 use Rattle.cx_base.specs.declared.command.Answered.{Answered}
+use Rattle.cx_base.specs.declared.command.Note.{Note}
+use Rattle.cx_base.specs.declared.command.Pair.{Pair}
 use Rattle.cx_field.specs.declared.parts.Entry.{Entry}
 use Rattle.cx_field.specs.declared.parts.NackReason.{NackReason}
 use Rattle.cx_field.specs.declared.parts.NackReason.TheVariants as nack
@@ -226,6 +228,22 @@ answered = shaped (λ x. record { client = x.0; seq = x.1.0; at = x.1.1.0; reply
 -- one to eight answers
 unfoldable pub answers : Format (List Answered)
 answers = counted (only (λ n. nat_le 1 n && nat_le n 8) u8) (λ _. answered)
+
+-- a pair of the map: its key and its text
+unfoldable pub pair : Format Pair
+pair = shaped (λ x. record { key = x.0; text = x.1 }) (λ p. (p.key, p.text)) (name 32 ▷ name 64)
+
+-- one to 255 pairs
+unfoldable pub pairs : Format (List Pair)
+pairs = counted (only (λ n. nat_le 1 n && nat_le n 255) u8) (λ _. pair)
+
+-- what is noted of a client's number: the number, one more than its command's slot, and the reply
+unfoldable pub note : Format Note
+note = shaped (λ x. record { seq = x.0; at = x.1.0; reply = x.1.1 }) (λ n. (n.seq, (n.at, n.reply))) (seq ▷ at ▷ reply)
+
+-- one to 64 notes
+unfoldable pub notes : Format (List Note)
+notes = counted (only (λ n. nat_le 1 n && nat_le n 64) u8) (λ _. note)
 
 -- what a read found: 0 nothing, 1 a text
 abbrev pub found_shape : Option (List ℕ) → Shape

@@ -1,6 +1,6 @@
 -- The ranges of parts that types do not give, in plain form.
-use Rattle.std.specs.Prelude.{ℕ, Bool, true, ◌&&◌, nat_lt, nat_le, List, [], ◌∷◌}
-use Rattle.std.specs.List.{list_all}
+use Rattle.std.specs.Prelude.{ℕ, Bool, true, ◌&&◌, nat_lt, nat_le, List}
+use Rattle.cx_base.specs.Lists.{rises}
 use Rattle.cx_base.specs.Round.{is_before}
 use Rattle.cx_base.specs.declared.command.Op.{Op}
 use Rattle.cx_base.specs.declared.command.Op.TheVariants.{Put, Del, App}
@@ -23,11 +23,6 @@ is_text_len Okay = true
 is_text_len (Was text) = true
 is_text_len Absent = true
 is_text_len Full = true
-
--- whether each value comes before all later ones
-abbrev pub rises : {A : Type 0} → (A → A → Bool) → List A → Bool
-rises comes_before [] = true
-rises comes_before (x ∷ xs) = list_all (λ y. comes_before x y) xs && rises comes_before xs
 
 -- whether an entry's round and grid are in their ranges
 abbrev pub entry_in_range : Entry → Bool

@@ -13,8 +13,11 @@ ghost use Rattle.cx_field.specs.Reading.{Reads, Gives};
 
 use crate::fault::ReadFault;
 use crate::items::{items_from, list_from};
-use crate::lists::{AnsweredItems, CommandItems, EntryItems, MemberItems, ValueItems, VoteItems};
-use crate::parts::{Answers, Entries, LogValues, NackReason, Token, Votes};
+use crate::lists::{
+    AnsweredItems, CommandItems, EntryItems, MemberItems, NoteItems, PairItems, ValueItems,
+    VoteItems,
+};
+use crate::parts::{Answers, Entries, LogValues, NackReason, Notes, Pairs, Token, Votes};
 use crate::reader::Reader;
 use cx_base::{
     Command, Commands, Few, Grid, Key, MEMBERS, Name, OUTSTANDING, Op, Reply, Round, SLOTS, Text,
@@ -399,5 +402,23 @@ pub fn values_from(alloc: Global, reader: &mut Reader<'_>) -> Result<LogValues, 
     ensures { Reads field.values reader.old result reader.new }
 {
     let list = list_from(alloc, &ValueItems, 1, 32, reader)?;
+    Ok(Few::from_vec(list))
+}
+
+/// Pairs of a map: how many in a byte, 1 to 255, and each, a key and a text.
+#[tactic(auto, unfolding(crate::specs::Fields::pairs))]
+pub fn pairs_from(alloc: Global, reader: &mut Reader<'_>) -> Result<Pairs, ReadFault>
+    ensures { Reads field.pairs reader.old result reader.new }
+{
+    let list = list_from(alloc, &PairItems, 1, 255, reader)?;
+    Ok(Few::from_vec(list))
+}
+
+/// Notes of a client: how many in a byte, 1 to 64, and each: a number, one more than its command's slot, and the reply.
+#[tactic(auto, unfolding(crate::specs::Fields::notes))]
+pub fn notes_from(alloc: Global, reader: &mut Reader<'_>) -> Result<Notes, ReadFault>
+    ensures { Reads field.notes reader.old result reader.new }
+{
+    let list = list_from(alloc, &NoteItems, 1, 64, reader)?;
     Ok(Few::from_vec(list))
 }

@@ -6,15 +6,16 @@ ghost use Rattle.cx_field.specs.Fields as field;
 
 use crate::fault::ReadFault;
 use crate::fields::{
-    at_from, command_from, grid_from, reply_from, round_from, seq_from, slot_from, value_from,
+    at_from, command_from, grid_from, name_from, reply_from, round_from, seq_from, slot_from,
+    value_from,
 };
 use crate::items::Items;
 use crate::parts::{Entry, Vote};
 use crate::put::{
-    put_at, put_command, put_grid, put_reply, put_round, put_seq, put_slot, put_value,
+    put_at, put_command, put_grid, put_name, put_reply, put_round, put_seq, put_slot, put_value,
 };
 use crate::reader::Reader;
-use cx_base::{Answered, Command, NoMemory, Value, WINDOW};
+use cx_base::{Answered, Command, NoMemory, Note, Pair, Value, WINDOW};
 use cx_wire::put_u16;
 use std::alloc::Global;
 
@@ -196,6 +197,66 @@ impl Items for AnsweredItems {
         put_seq(out, answered.seq)?;
         put_at(out, answered.at)?;
         put_reply(out, &answered.reply)
+    }
+}
+
+/// Pairs of a map, one like the other.
+pub struct PairItems;
+
+impl Items for PairItems {
+    type Item = Pair;
+
+    ghost format = { λ _ _. field.pair };
+
+    ghost most = { 98 };
+
+    #[tactic(auto, unfolding(crate::specs::Fields::pair))]
+    fn next_from(
+        &self,
+        _alloc: Global,
+        _before: &[Pair],
+        reader: &mut Reader<'_>,
+    ) -> Result<Pair, ReadFault> {
+        let key = name_from(reader)?;
+        let text = name_from(reader)?;
+        Ok(Pair { key, text })
+    }
+
+    #[tactic(auto, unfolding(crate::specs::Fields::pair))]
+    fn put_next(&self, pair: &Pair, out: &mut Vec<u8>) -> Result<(), NoMemory> {
+        put_name(out, &pair.key)?;
+        put_name(out, &pair.text)
+    }
+}
+
+/// Notes of a client, one like the other.
+pub struct NoteItems;
+
+impl Items for NoteItems {
+    type Item = Note;
+
+    ghost format = { λ _ _. field.note };
+
+    ghost most = { 82 };
+
+    #[tactic(auto, unfolding(crate::specs::Fields::note))]
+    fn next_from(
+        &self,
+        _alloc: Global,
+        _before: &[Note],
+        reader: &mut Reader<'_>,
+    ) -> Result<Note, ReadFault> {
+        let seq = seq_from(reader)?;
+        let at = at_from(reader)?;
+        let reply = reply_from(reader)?;
+        Ok(Note { seq, at, reply })
+    }
+
+    #[tactic(auto, unfolding(crate::specs::Fields::note))]
+    fn put_next(&self, note: &Note, out: &mut Vec<u8>) -> Result<(), NoMemory> {
+        put_seq(out, note.seq)?;
+        put_at(out, note.at)?;
+        put_reply(out, &note.reply)
     }
 }
 

@@ -1,7 +1,8 @@
 //! What is in messages and records, beside the types of cx_base.
 
 use cx_base::{
-    Answered, BATCH, Duplicate, ENTRIES, Few, Grid, NoMemory, Round, Value, WINDOW_LENGTH,
+    Answered, BATCH, Duplicate, ENTRIES, Few, Grid, NOTES, NoMemory, Note, PAIRS, Pair, Round,
+    Value, WINDOW_LENGTH,
 };
 use std::alloc::Global;
 
@@ -71,3 +72,9 @@ pub type Answers = Few<Answered, 1, BATCH>;
 
 /// Values of slots that follow one another, one to 32.
 pub type LogValues = Few<Value, 1, WINDOW_LENGTH>;
+
+/// Pairs of a map, one to 255.
+pub type Pairs = Few<Pair, 1, PAIRS>;
+
+/// What is noted of a client's numbers, one to 64 of them.
+pub type Notes = Few<Note, 1, NOTES>;

@@ -7,8 +7,11 @@ ghost use Rattle.cx_field.specs.Fields.{told_floor};
 ghost use Rattle.cx_wire.specs.Format.{Appends, ◌▷◌};
 
 use crate::items::put_items;
-use crate::lists::{AnsweredItems, CommandItems, EntryItems, MemberItems, ValueItems, VoteItems};
-use crate::parts::{Answers, Entries, LogValues, NackReason, Token, Votes};
+use crate::lists::{
+    AnsweredItems, CommandItems, EntryItems, MemberItems, NoteItems, PairItems, ValueItems,
+    VoteItems,
+};
+use crate::parts::{Answers, Entries, LogValues, NackReason, Notes, Pairs, Token, Votes};
 use cx_base::{Command, Commands, Grid, Key, Name, NoMemory, Op, Reply, Round, Text, Value};
 use cx_wire::{put_u8, put_u16, put_u32, put_u64};
 
@@ -271,4 +274,24 @@ pub fn put_values(out: &mut Vec<u8>, values: &LogValues) -> Result<(), NoMemory>
     let list = values.as_slice();
     put_u8(out, list.len() as u8)?;
     put_items(&ValueItems, list, out)
+}
+
+/// Appends pairs of a map, at most 24,991 bytes.
+#[tactic(auto, unfolding(crate::specs::Fields::pairs))]
+pub fn put_pairs(out: &mut Vec<u8>, pairs: &Pairs) -> Result<(), NoMemory>
+    ensures { OnOk result (Appends field.pairs pairs.now 24991 out.old.items out.new.items) }
+{
+    let list = pairs.as_slice();
+    put_u8(out, list.len() as u8)?;
+    put_items(&PairItems, list, out)
+}
+
+/// Appends notes of a client, at most 5,249 bytes.
+#[tactic(auto, unfolding(crate::specs::Fields::notes))]
+pub fn put_notes(out: &mut Vec<u8>, notes: &Notes) -> Result<(), NoMemory>
+    ensures { OnOk result (Appends field.notes notes.now 5249 out.old.items out.new.items) }
+{
+    let list = notes.as_slice();
+    put_u8(out, list.len() as u8)?;
+    put_items(&NoteItems, list, out)
 }

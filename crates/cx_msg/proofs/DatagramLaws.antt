@@ -11,7 +11,8 @@ use Rattle.cx_wire.specs.Format.{Miss, u8, u16, ◌▷◌, by_tag}
 use Rattle.cx_wire.proofs.Laws.{IsBytes, IsExact, u8-exact, u16-exact, ▷-exact, shaped-exact, by_tag-takes, both, ok_is, tag_fits}
 use Rattle.cx_msg.specs.Messages.{body_shape, body_with, cases_with, tells_floors, version_of}
 use Rattle.cx_msg.specs.Letter.{Letter, is_kind, senders, receivers, is_listed, magic, header, header_of, fits, spelling}
-use Rattle.cx_msg.specs.Decoding.{finished, after_header, with_header, decoded, Decodes}
+use Rattle.cx_msg.specs.Decoding.{finished, after_header, with_header, decoded}
+use Rattle.cx_msg.specs.Decodes.{Decodes}
 use Rattle.cx_msg.specs.declared.message.Msg.{Msg}
 use Rattle.cx_msg.specs.declared.message.Msg.TheVariants.{Leads, MatchA, MatchNack, Phase1A, Nack, Phase2B, Chosen, ChosenIn, Held, Fetch, Inform, Informed, GarbageA, GarbageB, ReadReq, MatchRead, MatchReadAck, PreRead, PreReadAck, Read, Phase2A, Submit, Batch, MatchB, Phase1B, Propose, Results, Answer, ReadAnswer}
 use Rattle.cx_msg.specs.declared.header.Header.{Header}

@@ -5,9 +5,9 @@ use Rattle.cx_base.specs.Role.{role, code_of, kind_of}
 use Rattle.cx_base.specs.declared.role.Kind.{Kind}
 use Rattle.cx_base.specs.declared.role.Kind.TheVariants.{Client, Batcher, Leader, Proxy, Acceptor, Matchmaker, Replica, Unbatcher, Reader}
 use Rattle.cx_base.specs.declared.role.RoleId.{RoleId}
-use Rattle.cx_wire.specs.Format.{u16}
+use Rattle.cx_wire.specs.Format.{u8, u16, u32, u64}
 use Rattle.cx_wire.proofs.Laws.{both}
-use Rattle.cx_field.specs.Fields.{slot, mark, at, seq, round, round0, grid, name, command, commands, value, reply, in_window, entries, votes, answers, found, reason, token, values}
+use Rattle.cx_field.specs.Fields.{slot, mark, at, seq, round, round0, grid, name, command, commands, value, reply, in_window, entries, votes, answers, found, reason, token, values, pairs, notes}
 use Rattle.cx_msg.specs.Messages.{body_shape, answer, match_b, match_nack, match_read_ack, nack, phase1b, phase2a, pre_read, pre_read_ack, propose, read_answer, read_key, read_req, results, round_slot, slot_value}
 use Rattle.cx_msg.specs.Letter.{Letter, letter, senders, receivers, is_listed, fits}
 use Rattle.cx_msg.specs.LetterParts.{PartsFit}
@@ -195,6 +195,10 @@ RecordPartsFit (kept.Match r g) = IsTrue (round.fits r) × IsTrue (grid.fits g)
 RecordPartsFit (kept.Garbage r g) = IsTrue (round.fits r) × IsTrue (grid.fits g)
 RecordPartsFit (kept.Round r g) = IsTrue (round.fits r) × IsTrue (grid.fits g)
 RecordPartsFit (kept.Log vs) = IsTrue (values.fits vs)
+RecordPartsFit (kept.Base f h p c) = IsTrue (mark.fits f) × IsTrue (mark.fits h) × IsTrue (u32.fits p) × IsTrue (u8.fits c)
+RecordPartsFit (kept.Pairs ps) = IsTrue (pairs.fits ps)
+RecordPartsFit (kept.Notes c f ns) = IsTrue (u16.fits c) × IsTrue (u64.fits f) × IsTrue (notes.fits ns)
+RecordPartsFit (kept.Tail vs) = IsTrue (values.fits vs)
 
 pub record_parts : (r : Record) → IsTrue (record_fits r) → RecordPartsFit r
 record_parts (kept.Promise r) h = h
@@ -208,3 +212,14 @@ record_parts (kept.Match r g) h = both (round.fits r) (grid.fits g) h
 record_parts (kept.Garbage r g) h = both (round.fits r) (grid.fits g) h
 record_parts (kept.Round r g) h = both (round.fits r) (grid.fits g) h
 record_parts (kept.Log vs) h = h
+record_parts (kept.Base f g p c) h =
+    let t = both (mark.fits f) (mark.fits g && (u32.fits p && u8.fits c)) h in
+    let q = both (mark.fits g) (u32.fits p && u8.fits c) t.1 in
+    let r = both (u32.fits p) (u8.fits c) q.1 in
+    (t.0, q.0, r.0, r.1)
+record_parts (kept.Pairs ps) h = h
+record_parts (kept.Notes c f ns) h =
+    let t = both (u16.fits c) (u64.fits f && notes.fits ns) h in
+    let q = both (u64.fits f) (notes.fits ns) t.1 in
+    (t.0, q.0, q.1)
+record_parts (kept.Tail vs) h = h

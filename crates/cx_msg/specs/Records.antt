@@ -3,8 +3,9 @@ use Rattle.std.specs.Prelude.{◌≡◌, ℕ, ◌-◌, Bool, ◌&&◌, not, nat_
 use Rattle.cx_base.specs.Grid.{Shape as GridShape}
 use Rattle.cx_base.specs.declared.round.Round.{Round}
 use Rattle.cx_base.specs.declared.command.Value.{Value}
-use Rattle.cx_wire.specs.Format.{Format, Miss, u8, ◌▷◌, by_tag, Shape, shape, Case, case, tagged}
-use Rattle.cx_field.specs.Fields.{slot, mark, round, grid, value, values}
+use Rattle.cx_base.specs.declared.command.Note.{Note}
+use Rattle.cx_wire.specs.Format.{Format, Miss, u8, u16, u32, u64, ◌▷◌, by_tag, Shape, shape, Case, case, tagged}
+use Rattle.cx_field.specs.Fields.{slot, mark, round, grid, value, values, pairs, notes}
 use Rattle.cx_msg.specs.declared.kept.Record.{Record}
 use Rattle.cx_msg.specs.declared.kept.Record.TheVariants as kept
 use Rattle.cx_msg.specs.declared.fault.WireFault.{WireFault}
@@ -22,6 +23,14 @@ round_mark = round ▷ mark
 abbrev pub round_grid : Format (Round × GridShape)
 round_grid = round ▷ grid
 
+-- the first slot and the number of slots of a list that begins anew, and how many pairs and clients follow
+abbrev pub base : Format (ℕ × (ℕ × (ℕ × ℕ)))
+base = mark ▷ mark ▷ u32 ▷ u8
+
+-- a client, its floor, and its notes
+abbrev pub client_notes : Format (ℕ × (ℕ × List Note))
+client_notes = u16 ▷ u64 ▷ notes
+
 -- a record's tag and its fields
 abbrev pub record_shape : Record → Shape
 record_shape (kept.Promise r) = shape 1 round r
@@ -31,6 +40,10 @@ record_shape (kept.Match r g) = shape 4 round_grid (r, g)
 record_shape (kept.Garbage r g) = shape 5 round_grid (r, g)
 record_shape (kept.Round r g) = shape 6 round_grid (r, g)
 record_shape (kept.Log vs) = shape 7 values vs
+record_shape (kept.Base f h p c) = shape 8 base (f, (h, (p, c)))
+record_shape (kept.Pairs ps) = shape 9 pairs ps
+record_shape (kept.Notes c f ns) = shape 10 client_notes (c, (f, ns))
+record_shape (kept.Tail vs) = shape 11 values vs
 
 -- how each tag's fields are read
 unfoldable pub record_cases : List (Case Record)
@@ -41,7 +54,11 @@ record_cases =
     case 4 round_grid (λ x. kept.Match x.0 x.1) ∷
     case 5 round_grid (λ x. kept.Garbage x.0 x.1) ∷
     case 6 round_grid (λ x. kept.Round x.0 x.1) ∷
-    case 7 values (λ x. kept.Log x) ∷ []
+    case 7 values (λ x. kept.Log x) ∷
+    case 8 base (λ x. kept.Base x.0 x.1.0 x.1.1.0 x.1.1.1) ∷
+    case 9 pairs (λ x. kept.Pairs x) ∷
+    case 10 client_notes (λ x. kept.Notes x.0 x.1.0 x.1.1) ∷
+    case 11 values (λ x. kept.Tail x) ∷ []
 
 -- a record: its tag in one byte, and its fields
 unfoldable pub kept_record : Format Record
@@ -57,7 +74,7 @@ spelling r = kept_record.spell r
 
 -- whether a tag is one
 abbrev pub is_tag : ℕ → Bool
-is_tag tag = nat_le 1 tag && nat_le tag 7
+is_tag tag = nat_le 1 tag && nat_le tag 11
 
 -- the record, once its fields are read, of this many bytes in all
 unfoldable pub ended : ℕ → ℕ → Result (Record × List ℕ) Miss → Result Record WireFault
@@ -74,12 +91,6 @@ with_tag all (Ok (tag, body)) =
 -- the record that bytes spell, or the first test that they fail
 abbrev pub recorded : List ℕ → Result Record WireFault
 recorded bytes = with_tag (length bytes) (u8.read bytes)
-
--- what was answered is this, unless memory ran out
-abbrev pub Decodes : Result Record WireFault → Result Record WireFault → Type 0
-Decodes (Ok r) is = is ≡ Ok r
-Decodes (Err faults.NoMemory) is = Unit {0}
-Decodes (Err e) is = is ≡ Err e
 
 -- Where the first bytes of a record break at a bad field, of `said` bytes of which `have` are there: a field that is only cut, and
 -- would end within what is said, breaks where the bytes end; any other at its first byte.

@@ -38,7 +38,7 @@ pub fn break_of_part(alloc: Global, bytes: &[u8], said: usize) -> Result<usize, 
         Err(ReadFault::Bad { .. } | ReadFault::Cut { .. }) => return Ok(have),
         Err(ReadFault::NoMemory) => return Err(NoMemory),
     };
-    if tag < 1 || tag > 7 {
+    if tag < 1 || tag > 11 {
         return Ok(0);
     }
     match fields_from(tag, alloc, &mut reader) {

@@ -3,7 +3,8 @@
 ghost use Rattle.std.specs.Prelude.{◌≡◌, ◌==◌, ◌≤◌, ◌++◌, ℕ, List, [], IfOk, IfErr, IsTrue, length};
 ghost use Rattle.cx_msg.specs.Letter.{Letter, spelling, fits};
 ghost use Rattle.cx_msg.specs.Parts.{DecodesParts};
-ghost use Rattle.cx_msg.specs.Decoding.{decoded, Decodes, finished, after_header};
+ghost use Rattle.cx_msg.specs.Decoding.{decoded, finished, after_header};
+ghost use Rattle.cx_msg.specs.Decodes.{Decodes};
 ghost use Rattle.cx_msg.specs.Messages.{cases_with};
 ghost use Rattle.cx_msg.specs.Places.{LiesIn};
 ghost use Rattle.cx_wire.specs.Format.{by_tag};

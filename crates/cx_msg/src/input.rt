@@ -19,19 +19,40 @@ pub enum Input {
 /// What is done to a role.
 #[derive(Drop)]
 pub enum Act {
-    /// It is given this, and may crash inside its append.
+    /// It is given this, and may crash while its store is changed.
     Give { input: Input, cut: Cut },
+    /// It forgets what no other role will ask it for, and may crash while its store is changed.
+    Snap { cut: Cut },
     /// It stops, and forgets its volatile part.
     Stop,
     /// It is opened from what it kept.
     Wake,
 }
 
-/// A record of the history of kept records, with its role.
+/// A change of a role's store: a record behind the others, or, in the place of all, the list that forgets the values of the
+/// slots below this one.
+#[derive(Drop)]
+pub enum Written {
+    Record { what: Record },
+    Snap { first: u64 },
+}
+
+impl Duplicate for Written {
+    fn copy(&self, alloc: Global) -> Result<Self, NoMemory> {
+        match self {
+            Written::Record { what } => Ok(Written::Record {
+                what: what.copy(alloc)?,
+            }),
+            Written::Snap { first } => Ok(Written::Snap { first: *first }),
+        }
+    }
+}
+
+/// An entry of the history of what was kept: a change, and whose store it changed.
 #[derive(Drop)]
 pub struct KeptRecord {
     pub role: RoleId,
-    pub what: Record,
+    pub what: Written,
 }
 
 impl Duplicate for KeptRecord {

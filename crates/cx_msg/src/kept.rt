@@ -1,7 +1,7 @@
 //! Records that roles keep.
 
 use cx_base::{Duplicate, Grid, NoMemory, Round, Value};
-use cx_field::LogValues;
+use cx_field::{LogValues, Notes, Pairs};
 use std::alloc::Global;
 
 /// What a role keeps. A stored record's fields are in their ranges, which whoever stores it owes: rounds are real ones,
@@ -43,6 +43,28 @@ pub enum Record {
     Log {
         values: LogValues,
     },
+    /// A replica's list begins anew: the first slot whose value it has, how many slots are held, at most 2^40, and how many
+    /// pairs and clients follow. What follows it is `Pairs`, `Notes` and `Tail`, in this order.
+    Base {
+        first: u64,
+        held: u64,
+        pairs: u32,
+        clients: u8,
+    },
+    /// Pairs of the map, their keys rising.
+    Pairs {
+        pairs: Pairs,
+    },
+    /// What is noted of a client: the greatest floor that it told, and the answers to its numbers above it.
+    Notes {
+        client: u16,
+        floor: u64,
+        notes: Notes,
+    },
+    /// Values from the first slot on, which were executed before.
+    Tail {
+        values: LogValues,
+    },
 }
 
 impl Duplicate for Record {
@@ -77,6 +99,32 @@ impl Duplicate for Record {
                 grid: *grid,
             }),
             Record::Log { values } => Ok(Record::Log {
+                values: values.copy(alloc)?,
+            }),
+            Record::Base {
+                first,
+                held,
+                pairs,
+                clients,
+            } => Ok(Record::Base {
+                first: *first,
+                held: *held,
+                pairs: *pairs,
+                clients: *clients,
+            }),
+            Record::Pairs { pairs } => Ok(Record::Pairs {
+                pairs: pairs.copy(alloc)?,
+            }),
+            Record::Notes {
+                client,
+                floor,
+                notes,
+            } => Ok(Record::Notes {
+                client: *client,
+                floor: *floor,
+                notes: notes.copy(alloc)?,
+            }),
+            Record::Tail { values } => Ok(Record::Tail {
                 values: values.copy(alloc)?,
             }),
         }

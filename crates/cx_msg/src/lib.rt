@@ -31,7 +31,7 @@ pub use decoding::{decode, one_spelling};
 pub use encoding::{body_into, encode_into};
 pub use fault::WireFault;
 pub use floors::tells_floors;
-pub use input::{Act, Input, KeptRecord};
+pub use input::{Act, Input, KeptRecord, Written};
 pub use kept::Record;
 pub use letters::{
     answer, batch, chosen, chosen_in, fetch, fetched, garbage_a, garbage_b, held, inform, informed,

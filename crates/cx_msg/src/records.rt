@@ -4,6 +4,7 @@ ghost use Rattle.std.specs.Prelude.{◌≡◌, ◌≤◌, ◌+◌, ◌++◌, IfO
 ghost use Rattle.cx_wire.specs.Format as wire;
 ghost use Rattle.cx_wire.specs.Format.{Appends};
 ghost use Rattle.cx_msg.specs.Places.{LiesIn};
+ghost use Rattle.cx_msg.specs.Decodes.{Decodes};
 ghost use Rattle.cx_msg.specs.Records as records;
 ghost use Rattle.cx_field.specs.Reading.{Gives};
 ghost use Rattle.cx_msg.specs.declared.kept.Record.{Record as Kept};
@@ -12,10 +13,11 @@ use crate::fault::WireFault;
 use crate::kept::Record;
 use cx_base::{NoMemory, Round, Value};
 use cx_field::{
-    ReadFault, Reader, grid_from, mark_from, put_grid, put_mark, put_round, put_slot, put_value,
-    put_values, round_from, slot_from, value_from, values_from,
+    Notes, ReadFault, Reader, grid_from, mark_from, notes_from, pairs_from, put_grid, put_mark,
+    put_notes, put_pairs, put_round, put_slot, put_value, put_values, round_from, slot_from,
+    value_from, values_from,
 };
-use cx_wire::put_u8;
+use cx_wire::{put_u8, put_u16, put_u32, put_u64};
 use std::alloc::Global;
 
 #[tactic(auto, unfolding(crate::specs::Records::record_cases, cx_field::specs::Fields::value))]
@@ -65,6 +67,34 @@ pub(crate) fn fields_from(
         7 => Ok(Record::Log {
             values: values_from(alloc, reader)?,
         }),
+        8 => {
+            let first = mark_from(reader)?;
+            let held = mark_from(reader)?;
+            let pairs = reader.u32()?;
+            let clients = reader.u8()?;
+            Ok(Record::Base {
+                first,
+                held,
+                pairs,
+                clients,
+            })
+        }
+        9 => Ok(Record::Pairs {
+            pairs: pairs_from(alloc, reader)?,
+        }),
+        10 => {
+            let client = reader.u16()?;
+            let floor = reader.u64()?;
+            let notes = notes_from(alloc, reader)?;
+            Ok(Record::Notes {
+                client,
+                floor,
+                notes,
+            })
+        }
+        11 => Ok(Record::Tail {
+            values: values_from(alloc, reader)?,
+        }),
         _ => Err(ReadFault::Bad {
             left: reader.left(),
         }),
@@ -73,7 +103,7 @@ pub(crate) fn fields_from(
 
 #[tactic(auto, unfolding(crate::specs::Records::ended, crate::specs::Records::with_tag))]
 fn read(alloc: Global, bytes: &[u8]) -> Result<Record, WireFault>
-    ensures { records.Decodes result (records.recorded bytes.now) }
+    ensures { Decodes result (records.recorded bytes.now) }
 {
     let mut reader = Reader::new(bytes);
     let tag = match reader.u8() {
@@ -83,7 +113,7 @@ fn read(alloc: Global, bytes: &[u8]) -> Result<Record, WireFault>
         }
         Err(ReadFault::NoMemory) => return Err(WireFault::NoMemory),
     };
-    if tag < 1 || tag > 7 {
+    if tag < 1 || tag > 11 {
         return Err(WireFault::Kind(tag));
     }
     match fields_from(tag, alloc, &mut reader) {
@@ -107,16 +137,16 @@ fn read(alloc: Global, bytes: &[u8]) -> Result<Record, WireFault>
 }
 
 /// The record that the bytes spell, all of the bytes; or the first test that they fail, in this order: no byte (`Short`), the
-/// tag, 1 to 7 (`Kind`), the fields in their order (`Field` at the first byte of the first bad one), and bytes after the
+/// tag, 1 to 11 (`Kind`), the fields in their order (`Field` at the first byte of the first bad one), and bytes after the
 /// last field (`Trailing`). The format is this project's own; it has no version, and commands may tell their floors.
 pub fn record_from(alloc: Global, bytes: &[u8]) -> Result<Record, WireFault>
     // What is read is spelled so, and has a spelling.
     ensures found { IfOk result (λ r. (bytes.now ≡ records.spelling r) × IsTrue (records.fits r)) }
     // What is spelled so is read, unless memory runs out.
     ensures only { (r : Kept) → IsTrue (records.fits r) → bytes.now ≡ records.spelling r
-        → records.Decodes result (Ok r) }
+        → Decodes result (Ok r) }
     // Which fault it is.
-    ensures exact { records.Decodes result (records.recorded bytes.now) }
+    ensures exact { Decodes result (records.recorded bytes.now) }
     // Where it lies.
     ensures place { IfErr result (λ fault. LiesIn 1 bytes.now fault) }
 {
@@ -136,6 +166,34 @@ fn put_vote(
     put_slot(out, slot)?;
     put_mark(out, cw)?;
     put_value(out, value)
+}
+
+fn put_base(
+    out: &mut Vec<u8>,
+    first: u64,
+    held: u64,
+    pairs: u32,
+    clients: u8,
+) -> Result<(), NoMemory>
+    ensures { OnOk result (Appends records.base (first, (held, (pairs, clients))) 21 out.old.items out.new.items) }
+{
+    put_mark(out, first)?;
+    put_mark(out, held)?;
+    put_u32(out, pairs)?;
+    put_u8(out, clients)
+}
+
+fn put_client_notes(
+    out: &mut Vec<u8>,
+    client: u16,
+    floor: u64,
+    notes: &Notes,
+) -> Result<(), NoMemory>
+    ensures { OnOk result (Appends records.client_notes (client, (floor, notes.now)) 5259 out.old.items out.new.items) }
+{
+    put_u16(out, client)?;
+    put_u64(out, floor)?;
+    put_notes(out, notes)
 }
 
 #[tactic(auto, unfolding(crate::specs::Records::kept_record))]
@@ -178,6 +236,31 @@ fn put_record(out: &mut Vec<u8>, kept: &Record) -> Result<(), NoMemory>
         }
         Record::Log { values } => {
             put_u8(out, 7)?;
+            put_values(out, values)
+        }
+        Record::Base {
+            first,
+            held,
+            pairs,
+            clients,
+        } => {
+            put_u8(out, 8)?;
+            put_base(out, *first, *held, *pairs, *clients)
+        }
+        Record::Pairs { pairs } => {
+            put_u8(out, 9)?;
+            put_pairs(out, pairs)
+        }
+        Record::Notes {
+            client,
+            floor,
+            notes,
+        } => {
+            put_u8(out, 10)?;
+            put_client_notes(out, *client, *floor, notes)
+        }
+        Record::Tail { values } => {
+            put_u8(out, 11)?;
             put_values(out, values)
         }
     }

@@ -2,7 +2,7 @@
 
 use crate::vectors::ENTRIES;
 use cx_base::{Duplicate, Kind, RoleId};
-use cx_msg::{KeptRecord, WireFault, decode, encode_into, record_from, record_into};
+use cx_msg::{KeptRecord, WireFault, Written, decode, encode_into, record_from, record_into};
 use std::alloc::Global;
 use std::test::Fail;
 
@@ -64,8 +64,11 @@ fn datagram_again(alloc: Global, bytes: &[u8], out: &mut Vec<u8>) -> Result<(), 
 fn record_again(alloc: Global, bytes: &[u8], out: &mut Vec<u8>) -> Result<(), Fail> {
     let what = record_from(alloc, bytes)?;
     let role = RoleId::new(Kind::Leader, 0);
+    let what = Written::Record { what };
     let kept = KeptRecord { role, what }.copy(alloc)?;
-    record_into(alloc, &kept.what, out)?;
+    if let Written::Record { what } = &kept.what {
+        record_into(alloc, what, out)?;
+    }
     Ok(())
 }
 
@@ -178,6 +181,6 @@ fn another_implementation(rt: HostRuntime) -> Result<(), Fail> {
         assert!(rt; changes_are_refused(alloc, &bytes)?, "entry {count}");
         count = count.saturating_add(1);
     }
-    assert_eq!(rt; count, 286);
+    assert_eq!(rt; count, 310);
     Ok(())
 }

@@ -1,5 +1,6 @@
 use Rattle.std.proofs.Common.{ap, subst, ◌∙◌, arith}
-use Rattle.cx_msg.specs.Records.{recorded, Decodes}
+use Rattle.cx_msg.specs.Records.{recorded}
+use Rattle.cx_msg.specs.Decodes.{Decodes}
 use Rattle.cx_msg.proofs.RecordLaws.{is_found, recorded-again}
 use Rattle.cx_msg.proofs.PlaceLaws.{record_faults_lie}
 use Rattle.cx_msg.proofs.records.record_from.Goals as goal
