@@ -1,17 +1,16 @@
 -- What a break further on says of the whole.
-use Rattle.std.proofs.Common.{◌≡◌, ℕ, List, [], Option, Result, Err, ◌∙◌, ap}
-use Rattle.cx_base.specs.declared.role.Kind.{Kind}
+use Rattle.std.proofs.Common.{◌≡◌, ℕ, List, [], Result, ◌∙◌, ap}
 use Rattle.cx_msg.specs.declared.kept.Record.{Record}
-use Rattle.cx_journal.specs.Image.{Image, image, with_first}
-use Rattle.cx_journal.specs.Found.{Breaks, IsRead, IsStopAt}
+use Rattle.cx_journal.specs.Image.{Image, with_first}
+use Rattle.cx_journal.specs.Found.{Breaks, IsStopAt}
 use Rattle.cx_journal.specs.declared.split.Stop.{Stop}
 use Rattle.cx_journal.specs.declared.split.Stop.TheVariants as stop
 use Rattle.cx_journal.proofs.Reading.{with_all, with_all-Err}
 
-pub read_stop : (k : Option Kind) (bytes : List ℕ) (records : List Record) (at : ℕ) (read : Result Record ℕ) (more : Image) (s : Stop)
-    → image k bytes ≡ with_all records (with_first at read more) → IsStopAt at read s → IsRead k bytes (Err s)
-read_stop k bytes records at read more (stop.Break place) is stops = is ∙ ap (with_all records) (stops more) ∙ with_all-Err records place
-read_stop k bytes records at read more stop.NoMemory is stops = tt
+pub read_stops : (whole : Image) (records : List Record) (at : ℕ) (read : Result Record ℕ) (more : Image) (s : Stop)
+    → whole ≡ with_all records (with_first at read more) → IsStopAt at read s → Breaks whole s
+read_stops whole records at read more (stop.Break place) is stops = is ∙ ap (with_all records) (stops more) ∙ with_all-Err records place
+read_stops whole records at read more stop.NoMemory is stops = tt
 
 -- what stops after records that were read stops the whole
 pub breaks_so : (records : List Record) (whole more : Image) (s : Stop) → whole ≡ with_all records more → Breaks more s → Breaks whole s

@@ -1,10 +1,11 @@
 -- What was read of the bytes of a journal.
-use Rattle.std.specs.Prelude.{◌≡◌, ℕ, true, List, length, Option, Result, Ok, Err}
+use Rattle.std.specs.Prelude.{◌≡◌, ℕ, ◌+◌, true, List, length, drop, Option, Result, Ok, Err}
+use Rattle.std.specs.List.{slice_get}
 use Rattle.cx_base.specs.declared.role.Kind.{Kind}
 use Rattle.cx_msg.specs.declared.kept.Record.{Record}
 use Rattle.cx_journal.specs.Payload.{payloads, all_kept_by}
 use Rattle.cx_journal.specs.Journal.{frames, gates_from, StandsFor}
-use Rattle.cx_journal.specs.Image.{Image, image, with_first, IsBreak}
+use Rattle.cx_journal.specs.Image.{Image, image, image_from, with_first, IsBreak}
 use Rattle.cx_journal.specs.declared.image.Found.{Found}
 use Rattle.cx_journal.specs.declared.split.Stop.{Stop}
 use Rattle.cx_journal.specs.declared.split.Stop.TheVariants as stop
@@ -18,6 +19,13 @@ pub record IsFound (k : Option Kind) (bytes : List ℕ) (found : Found) : Type 0
   pub gates : found.gates.items ≡ gates_from 0 (payloads found.records.items)
   pub gate : found.gate ≡ length (frames (payloads found.records.items))
 
+-- the same from a place on
+pub record IsFoundFrom (k : Option Kind) (start : ℕ) (bytes : List ℕ) (found : Found) : Type 0 where
+  pub stands : StandsFor (payloads found.records.items) (drop start bytes)
+  pub fit : all_kept_by k found.records.items ≡ true
+  pub gates : found.gates.items ≡ gates_from start (payloads found.records.items)
+  pub gate : found.gate ≡ start + length (frames (payloads found.records.items))
+
 -- an image breaks there, unless memory ran out
 abbrev pub Breaks : Image → Stop → Type 0
 Breaks image (stop.Break at) = image ≡ Err at
@@ -27,6 +35,17 @@ Breaks image stop.NoMemory = Unit {0}
 abbrev pub IsRead : Option Kind → List ℕ → Result Found Stop → Type 0
 IsRead k bytes (Ok found) = image k bytes ≡ Ok found.records.items
 IsRead k bytes (Err s) = Breaks (image k bytes) s
+
+-- the same of what stands from a place on
+abbrev pub IsReadFrom : Option Kind → ℕ → List ℕ → Result Found Stop → Type 0
+IsReadFrom k start bytes (Ok found) = image_from k start bytes ≡ Ok found.records.items
+IsReadFrom k start bytes (Err s) = Breaks (image_from k start bytes) s
+
+-- the fault is the break of an image of these bytes, or of the outside
+abbrev pub IsFaultIn : Image → List ℕ → OpenFault → Type 0
+IsFaultIn image bytes (fault.NotJournal at byte) = (image ≡ Err at) × (byte ≡ slice_get bytes at)
+IsFaultIn image bytes fault.Failed = Unit {0}
+IsFaultIn image bytes fault.NoMemory = Unit {0}
 
 -- where a payload that begins at a place stops being a record
 abbrev pub IsStopAt : ℕ → Result Record ℕ → Stop → Type 0

@@ -41,6 +41,10 @@ image_at k (suc n) at (gate ∷ rest) = if gate == 1 then framed k (at + 1) rest
 abbrev pub image : Option Kind → List ℕ → Image
 image k bytes = if nat_lt 1 (length bytes) then image_at k (length bytes) 0 bytes else Ok []
 
+-- the image of what stands from a place on
+abbrev pub image_from : Option Kind → ℕ → List ℕ → Image
+image_from k start bytes = image_at k (length bytes) start (drop start bytes)
+
 -- the first break is there, and this is the byte, none past the end
 pub record IsBreak (k : Option Kind) (bytes : List ℕ) (at : ℕ) (byte : Option ℕ) : Type 0 where
   pub place : image k bytes ≡ Err at

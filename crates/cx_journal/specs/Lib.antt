@@ -1,6 +1,11 @@
 pub mod Appends
+pub mod Blank
 pub mod Found
+pub mod Generation
 pub mod Image
 pub mod Journal
+pub mod Pair
 pub mod Payload
 pub mod State
+pub mod Twin
+pub mod TwinChanges

@@ -29,7 +29,7 @@ pub(crate) fn write_synced<D: Disk>(disk: &mut D, at: u64, bytes: &[u8]) -> Resu
 }
 
 /// What comes after the gate of a record: its length, its bytes, and a closed gate.
-fn body_of(alloc: Global, what: &Record) -> Result<Vec<u8>, NoMemory>
+pub(crate) fn body_of(alloc: Global, what: &Record) -> Result<Vec<u8>, NoMemory>
     ensures body { IfOk result (λ v. v.items ≡ body (spelling what.now)) }
     ensures most { IfOk result (λ _. length (spelling what.now) ≤ 30018) }
 {

@@ -1,8 +1,8 @@
 //! The records in the bytes of a journal.
 ghost use Rattle.std.specs.Prelude.{◌≡◌, ◌+◌, ◌<◌, ◌≤◌, ◌^◌, [], ◌∷◌, ◌++◌, length, true, Ok, Err, IfOk, OnOk, IfErr, MatchResult};
 ghost use Rattle.cx_keeper.specs.declared.keeper.OpenFault.TheVariants as fault;
-ghost use Rattle.cx_journal.specs.Found.{IsRead, IsStopAt, IsFound, IsFaultOf};
-ghost use Rattle.cx_journal.specs.Image.{image};
+ghost use Rattle.cx_journal.specs.Found.{IsRead, IsReadFrom, IsStopAt, IsFound, IsFoundFrom, IsFaultOf, IsFaultIn};
+ghost use Rattle.cx_journal.specs.Image.{image, image_from};
 ghost use Rattle.cx_msg.specs.Records.{spelling};
 ghost use Rattle.cx_journal.specs.Payload.{payload_read, is_kept_by};
 
@@ -60,17 +60,17 @@ fn push_gate(gates: &mut Vec<u64>, gate: u64) -> Result<(), NoMemory>
     Ok(())
 }
 
-/// The records of at least two bytes.
-fn records_in(alloc: Global, kind: Option<Kind>, bytes: &[u8]) -> Result<Found, Stop>
-    requires least { 2 ≤ length bytes.now }
+/// The records of the bytes from a place on.
+fn records_in(alloc: Global, kind: Option<Kind>, bytes: &[u8], start: usize) -> Result<Found, Stop>
+    requires start { start ≤ length bytes.now }
     requires most { length bytes.now < 2 ^ 63 }
-    ensures image { IsRead kind bytes.now result }
-    ensures found { IfOk result (λ f. IsFound kind bytes.now f) }
+    ensures image { IsReadFrom kind start bytes.now result }
+    ensures found { IfOk result (λ f. IsFoundFrom kind start bytes.now f) }
 {
     let mut records = Vec::new(alloc);
     let mut gates = Vec::new(alloc);
-    let mut left = bytes;
-    let mut at = 0;
+    let mut left = &bytes[start..];
+    let mut at = start;
     'reading: loop {
         match first_record(alloc, kind, left, at) {
             Ok(None) => {
@@ -100,6 +100,16 @@ fn records_in(alloc: Global, kind: Option<Kind>, bytes: &[u8]) -> Result<Found, 
     }
 }
 
+/// The records of at least two bytes.
+fn plain_records(alloc: Global, kind: Option<Kind>, bytes: &[u8]) -> Result<Found, Stop>
+    requires least { 2 ≤ length bytes.now }
+    requires most { length bytes.now < 2 ^ 63 }
+    ensures image { IsRead kind bytes.now result }
+    ensures found { IfOk result (λ f. IsFound kind bytes.now f) }
+{
+    records_in(alloc, kind, bytes, 0)
+}
+
 /// No records, and the closed gate at the start.
 pub(crate) fn first_gate(alloc: Global) -> Result<Found, NoMemory>
     ensures none { IfOk result (λ f. f.records.items ≡ []) }
@@ -127,7 +137,30 @@ pub(crate) fn found_in(alloc: Global, kind: Option<Kind>, bytes: &[u8]) -> Resul
     ensures broken { IfErr result (IsFaultOf kind bytes.now) }
     ensures cause { result ≡ Err fault.Failed → ⊥ }
 {
-    match records_in(alloc, kind, bytes) {
+    match plain_records(alloc, kind, bytes) {
+        Ok(found) => Ok(found),
+        Err(Stop::Break(at)) => Err(OpenFault::NotJournal {
+            at: at as u64,
+            byte: bytes.get(at).copied(),
+        }),
+        Err(Stop::NoMemory) => Err(OpenFault::NoMemory),
+    }
+}
+
+/// The same of the bytes after the first two, which are a generation's. A place counts from the first byte.
+pub(crate) fn found_after(
+    alloc: Global,
+    kind: Option<Kind>,
+    bytes: &[u8],
+) -> Result<Found, OpenFault>
+    requires least { 2 ≤ length bytes.now }
+    requires most { length bytes.now < 2 ^ 63 }
+    ensures found { IfOk result (λ f. IsFoundFrom kind 2 bytes.now f) }
+    ensures image { IfOk result (λ f. image_from kind 2 bytes.now ≡ Ok f.records.items) }
+    ensures broken { IfErr result (IsFaultIn (image_from kind 2 bytes.now) bytes.now) }
+    ensures cause { result ≡ Err fault.Failed → ⊥ }
+{
+    match records_in(alloc, kind, bytes, 2) {
         Ok(found) => Ok(found),
         Err(Stop::Break(at)) => Err(OpenFault::NotJournal {
             at: at as u64,

@@ -16,14 +16,14 @@ use cx_disk::{Disk, Failed};
 use cx_keeper::OpenFault;
 use std::alloc::Global;
 
-fn zeros(alloc: Global, len: usize) -> Result<Vec<u8>, NoMemory>
+pub(crate) fn zeros(alloc: Global, len: usize) -> Result<Vec<u8>, NoMemory>
     ensures { IfOk result (λ v. length v.items ≡ len) }
 {
     Ok(vec![in alloc; 0u8; len]?)
 }
 
 /// Reads the whole disk into a vector of its length.
-fn fill<D: Disk>(disk: &mut D, bytes: &mut Vec<u8>) -> Result<(), Failed>
+pub(crate) fn fill<D: Disk>(disk: &mut D, bytes: &mut Vec<u8>) -> Result<(), Failed>
     requires { length bytes.old.items ≡ D.size disk.old }
     ensures bytes { (file : List ℕ) → D.seen disk.old ≡ Some file → OnOk result (bytes.new.items ≡ file) }
     ensures length { length bytes.new.items ≡ length bytes.old.items }

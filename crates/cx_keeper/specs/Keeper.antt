@@ -1,4 +1,4 @@
--- What an append does to the list of records and to the count of faults.
+-- What a change does to the list of records and to the count of faults.
 use Rattle.std.specs.Prelude.{◌≡◌, ◌⊎◌, ◌≤◌, ℕ, Bool, true, List, [], ◌∷◌, ◌++◌, Result, Ok, Err}
 use Rattle.std.specs.List.{list_all}
 use Rattle.cx_base.specs.Faults.{Rises}
@@ -11,13 +11,27 @@ use Rattle.cx_keeper.specs.declared.keeper.KeepFault.TheVariants.{Failed, NoMemo
 abbrev pub all_fit : List Record → Bool
 all_fit records = list_all (λ (r : Record). fits r) records
 
--- Ok: the list and the record, where what is kept is known. Failed, exactly where the count of faults rose: the list, or the
--- list and the record. Out of memory: the list.
-pub record IsAppend {K : Type 0} (tells : K → Bool) (kept : K → List Record) (faults : K → ℕ) (old : K) (r : Record) (answer : Result (Unit {0}) KeepFault) (new : K) : Type 0 where
-  pub ok : answer ≡ Ok tt → tells old ≡ true → kept new ≡ kept old ++ r ∷ []
-  pub failed : answer ≡ Err Failed → (kept new ≡ kept old) ⊎ (kept new ≡ kept old ++ r ∷ [])
+-- what a keeper is asked to do with its list: to put a record at the end, or these records in the place of all
+pub data Change : Type 0 where
+  Append : Record → Change
+  Renewal : List Record → Change
+
+-- the list after a change
+abbrev pub list_after : List Record → Change → List Record
+list_after list (Append r) = list ++ r ∷ []
+list_after list (Renewal records) = records
+
+-- Ok: the list after the change, where what is kept is known. Failed, exactly where the count of faults rose: the list, or the
+-- list after the change. Out of memory: the list.
+pub record IsChange {K : Type 0} (tells : K → Bool) (kept : K → List Record) (faults : K → ℕ) (old : K) (change : Change) (answer : Result (Unit {0}) KeepFault) (new : K) : Type 0 where
+  pub ok : answer ≡ Ok tt → tells old ≡ true → kept new ≡ list_after (kept old) change
+  pub failed : answer ≡ Err Failed → (kept new ≡ kept old) ⊎ (kept new ≡ list_after (kept old) change)
   pub cause : answer ≡ Err Failed → Rises (faults old) (faults new)
   pub no_memory : answer ≡ Err NoMemory → kept new ≡ kept old
   pub told : tells new ≡ tells old
   pub still : (answer ≡ Err Failed → ⊥) → faults new ≡ faults old
   pub later : faults old ≤ faults new
+
+-- the same of an append
+abbrev pub IsAppend : {K : Type 0} → (K → Bool) → (K → List Record) → (K → ℕ) → K → Record → Result (Unit {0}) KeepFault → K → Type 0
+IsAppend tells kept faults old r answer new = IsChange tells kept faults old (Append r) answer new

@@ -7,7 +7,7 @@ ghost use Rattle.cx_msg.specs.Records.{fits};
 ghost use Rattle.cx_keeper.specs.declared.keeper.KeepFault.{KeepFault};
 ghost use Rattle.cx_keeper.specs.declared.keeper.KeepFault.TheVariants as fault;
 ghost use Rattle.cx_keeper.specs.declared.keeper.OpenFault.TheVariants as open_fault;
-ghost use Rattle.cx_keeper.specs.Keeper.{IsAppend, all_fit};
+ghost use Rattle.cx_keeper.specs.Keeper.{IsAppend, IsChange, Renewal, all_fit};
 
 use cx_base::NoMemory;
 use cx_msg::Record;
@@ -104,4 +104,21 @@ pub trait Keeper {
 
     ghost append_is: { (old : Self) (r : Record) (answer : Result (Unit {0}) KeepFault) (new : Self)
         → append_gives old r answer new → IsAppend tells kept faults old r answer new };
+}
+
+/// A keeper whose list can be put anew. A crash inside a renewal leaves the old list or the new one.
+pub trait Renew: Keeper {
+    /// What a renewal may answer, and leave.
+    ghost renew_gives: { Self → List Record → Result (Unit {0}) KeepFault → Self → Type 0 };
+
+    /// Puts these records in the place of all. Out of memory, nothing changes. After `Failed` the list is the old one or the
+    /// new one, and an append or a renewal may follow as well as `recover`.
+    fn renew(&mut self, records: &[Record]) -> Result<(), KeepFault>
+        requires { IsTrue (all_fit records.now) }
+        ensures gives { renew_gives self.old records.now result self.new }
+        ensures told { Self.Keeper.tells self.new ≡ Self.Keeper.tells self.old };
+
+    ghost renew_is: { (old : Self) (records : List Record) (answer : Result (Unit {0}) KeepFault) (new : Self)
+        → renew_gives old records answer new
+        → IsChange Self.Keeper.tells Self.Keeper.kept Self.Keeper.faults old (Renewal records) answer new };
 }

@@ -2,17 +2,18 @@
 
 ghost use Rattle.std.specs.Prelude.{◌≡◌, ◌≤◌, ◌+◌, [], IfOk, IsTrue, length, drop, option_to_list};
 ghost use Rattle.cx_keeper.specs.Keeper.{all_fit};
-ghost use Rattle.cx_keeper.specs.MemKeeper.{tells_of, kept_of, faults_of, mem_append_gives, mem_append_is};
+ghost use Rattle.cx_keeper.specs.MemKeeper.{tells_of, kept_of, faults_of, mem_append_gives, mem_append_is, mem_renew_gives, mem_renew_is};
 
-use crate::{KeepFault, Keeper, OpenFault, Records};
+use crate::{KeepFault, Keeper, OpenFault, Records, Renew};
 use cx_base::{Cut, Faults, NoMemory};
 use cx_msg::Record;
 use std::alloc::Global;
 use std::marker::Model;
 
-/// Keeps records in memory. An append fails where `cut` says so.
+/// Keeps records in memory. An append or a renewal fails where `cut` says so.
 #[derive(Drop)]
 pub struct MemKeeper {
+    alloc: Global,
     kept: Records,
     cut: Cut,
     faults: Faults,
@@ -31,11 +32,12 @@ impl Model for MemKeeper {
 }
 
 impl MemKeeper {
-    /// No records, and whole appends.
+    /// No records, and whole changes.
     pub fn new(alloc: Global) -> Self
         ensures { result ≡ record { kept = []; cut = Cut.Whole; faults = 0 } }
     {
         MemKeeper {
+            alloc,
             kept: Records::new(alloc),
             cut: Cut::Whole,
             faults: Faults::none(),
@@ -59,7 +61,8 @@ impl MemKeeper {
         self.kept.get(count)
     }
 
-    /// How appends go from here on: `Torn` loses the record and fails, `Kept` keeps it and fails. It takes no memory.
+    /// How appends and renewals go from here on: `Torn` leaves the old list and fails, `Kept` the new one and fails. It takes no
+    /// memory.
     pub fn cut(&mut self, cut: Cut)
         ensures { self.new ≡ record self.old { cut = cut } }
     {
@@ -98,5 +101,30 @@ impl Keeper for MemKeeper {
 
     fn recover(&mut self) -> Result<Vec<Record>, OpenFault> {
         Ok(self.kept.all()?)
+    }
+}
+
+impl Renew for MemKeeper {
+    ghost renew_gives = { mem_renew_gives };
+
+    ghost renew_is = { mem_renew_is };
+
+    fn renew(&mut self, records: &[Record]) -> Result<(), KeepFault> {
+        let renewed = Records::of(self.alloc, records)?;
+        match self.cut {
+            Cut::Whole => {
+                self.kept = renewed;
+                Ok(())
+            }
+            Cut::Torn => {
+                self.faults.add();
+                Err(KeepFault::Failed)
+            }
+            Cut::Kept => {
+                self.kept = renewed;
+                self.faults.add();
+                Err(KeepFault::Failed)
+            }
+        }
     }
 }

@@ -2,6 +2,7 @@
 
 ghost use Rattle.std.specs.Prelude.{◌≡◌, ◌++◌, ◌∷◌, [], IfOk, IsTrue, OnOk, OnErr, length, slice_get};
 ghost use Rattle.cx_msg.specs.Records.{fits};
+ghost use Rattle.cx_keeper.specs.Keeper.{all_fit};
 ghost use Rattle.cx_keeper.specs.Pieces.{ArePieces, IsPiece, IsPut, record_at, records_at};
 
 use cx_base::NoMemory;
@@ -94,6 +95,18 @@ impl Records {
             bytes: Vec::new(alloc),
             pieces: Vec::new(alloc),
         }
+    }
+
+    /// These records.
+    pub fn of(alloc: Global, records: &[Record]) -> Result<Self, NoMemory>
+        requires { IsTrue (all_fit records.now) }
+        ensures { IfOk result (λ made. made ≡ records.now) }
+    {
+        let mut made = Records::new(alloc);
+        for what in records {
+            made.push(what)?;
+        }
+        Ok(made)
     }
 
     /// How many they are. It takes no memory.

@@ -1,4 +1,4 @@
-//! Tests of disks, keepers and journals: calls that fail or stop, and what is read again.
+//! Tests of disks, keepers, journals and twins: calls that fail or stop, and what is read again.
 //!
 //! They need only public calls, so they are here and not in the crates that they test: a crate with tests is proved twice.
 //! Nothing builds on this crate.
@@ -10,3 +10,5 @@ mod disk_tests;
 mod journal_tests;
 #[cfg(test)]
 mod keeper_tests;
+#[cfg(test)]
+mod twin_tests;

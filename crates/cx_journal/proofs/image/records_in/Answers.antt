@@ -1,27 +1,28 @@
-use Rattle.std.proofs.Common.{ℕ, ◌≡◌, ◌+◌, [], ◌∷◌, ◌++◌, length, sym, ◌∙◌, ap, arith}
+use Rattle.std.proofs.Common.{ℕ, ◌≡◌, ◌+◌, ◌-◌, [], ◌∷◌, ◌++◌, length, take, drop, refl, sym, ◌∙◌, ap, arith, length-drop}
+use Rattle.std.proofs.lemmas.List.{take_all}
 use Rattle.cx_journal.specs.Payload.{payloads}
 use Rattle.cx_journal.specs.Image.{image_at, with_first}
 use Rattle.cx_journal.specs.Journal.{frames, gates_from}
 use Rattle.cx_journal.proofs.Crash.{frames-more, length-frames-more}
 use Rattle.cx_journal.proofs.Gates.{gates-push, payloads-push, all_kept-push}
-use Rattle.cx_journal.proofs.Reading.{image-long, with_all, with_all-push, with_all-Ok}
-use Rattle.cx_journal.proofs.Breaks.{read_stop, breaks_so}
+use Rattle.cx_journal.proofs.Reading.{image_at-enough, with_all, with_all-push, with_all-Ok}
+use Rattle.cx_journal.proofs.Breaks.{read_stops, breaks_so}
 use Rattle.cx_journal.proofs.image.records_in.Goals as goal
 
 pub returns-in-Ok-clause-image : goal.returns-in-Ok-clause-image
 returns-in-Ok-clause-image c =
     let found = rw c.in-Ok-None.field-0-is at c.in-Ok-None.ensures.image in
-    image-long _ c.args.bytes.now c.requires.least ∙ c.reading.invariant.so_far ∙ ap (with_all c.reading.records.items) found ∙ with_all-Ok c.reading.records.items
+    c.reading.invariant.so_far ∙ ap (with_all c.reading.records.items) found ∙ with_all-Ok c.reading.records.items
 
 pub returns-in-Err-clause-image : goal.returns-in-Err-clause-image
 returns-in-Err-clause-image c =
-    breaks_so c.reading.records.items _ _ c.in-Err.stop (image-long _ c.args.bytes.now c.requires.least ∙ c.reading.invariant.so_far) c.in-Err.ensures.image
+    breaks_so c.reading.records.items _ _ c.in-Err.stop c.reading.invariant.so_far c.in-Err.ensures.image
 
 pub returns-in-Err-record_at-clause-image : goal.returns-in-Err-record_at-clause-image
 returns-in-Err-record_at-clause-image c =
     let found = rw c.in-Ok-Some.field-0-is at c.in-Ok-Some.ensures.image in
-    read_stop c.args.kind c.args.bytes.now c.reading.records.items (c.reading.at + 5) _ _ c.in-Err-record_at.stop
-    (image-long _ c.args.bytes.now c.requires.least ∙ c.reading.invariant.so_far ∙ ap (with_all c.reading.records.items) found) c.in-Err-record_at.ensures.read
+    read_stops _ c.reading.records.items (c.reading.at + 5) _ _ c.in-Err-record_at.stop
+    (c.reading.invariant.so_far ∙ ap (with_all c.reading.records.items) found) c.in-Err-record_at.ensures.read
 
 pub reading-preserved : goal.reading-preserved
 reading-preserved c =
@@ -35,8 +36,8 @@ reading-preserved c =
     let more = image_at c.args.kind (length after) (c.reading.at + (5 + length payload)) after in
     let pushed : c.push_found.new.records.items ≡ records ++ r ∷ [] = c.in-Ok-push_found.ensures.records in
     let ps : payloads (records ++ r ∷ []) ≡ payloads records ++ payload ∷ [] = payloads-push records r ∙ ap (λ p. payloads records ++ p ∷ []) (sym c.in-Ok-record_at.ensures.spelled) in
-    let place : c.reading.at + (5 + length payload) ≡ length (frames (payloads records ++ payload ∷ [])) = length-frames-more (payloads records) payload c.reading.at c.reading.invariant.gate in
-    let counted : c.reading.at + (5 + length payload) ≡ 0 + length (frames (payloads records ++ payload ∷ [])) = omega (arith, place) in
+    let behind : length (frames (payloads records)) + (5 + length payload) ≡ length (frames (payloads records ++ payload ∷ [])) = length-frames-more (payloads records) payload (length (frames (payloads records))) refl in
+    let place : c.reading.at + (5 + length payload) ≡ c.args.start + length (frames (payloads records ++ payload ∷ [])) = omega (arith, behind, c.reading.invariant.gate) in
     rw (pushed, ps) (record {
       place = omega (arith, lengths, c.reading.invariant.place);
       so_far =
@@ -44,6 +45,20 @@ reading-preserved c =
       spelled = c.reading.invariant.spelled ∙ frames-more (payloads records) payload c.reading.left.now after spelled;
       gate = place;
       gates = ap (λ l. l ++ (c.reading.at + (5 + length payload)) ∷ []) (c.in-Ok-push_found.ensures.gates ∙ c.reading.invariant.gates)
-          ∙ ap (λ (n : ℕ). gates_from 0 (payloads records) ++ n ∷ []) counted ∙ sym (gates-push 0 (payloads records) payload);
+          ∙ ap (λ (n : ℕ). gates_from c.args.start (payloads records) ++ n ∷ []) place ∙ sym (gates-push c.args.start (payloads records) payload);
       fit = all_kept-push c.args.kind records r c.reading.invariant.fit c.in-Ok-record_at.ensures.kept;
+    })
+
+pub reading-init : goal.reading-init
+reading-init c =
+    let bytes = c.args.bytes.now in
+    let all : take (length bytes - c.args.start) (drop c.args.start bytes) ≡ drop c.args.start bytes = take_all (length bytes - c.args.start) (drop c.args.start bytes) (omega (arith, length-drop c.args.start bytes)) in
+    rw (all, c.new-records.ensures.items, c.new-gates.ensures.items) (record {
+      place = omega (arith, length-drop c.args.start bytes, c.requires.start);
+      so_far = image_at-enough c.args.kind (length bytes) (length bytes) (length (drop c.args.start bytes)) c.args.start (drop c.args.start bytes)
+          (omega (arith, length-drop c.args.start bytes)) (omega (arith, length-drop c.args.start bytes)) (omega arith);
+      spelled = refl;
+      gate = omega arith;
+      gates = refl;
+      fit = refl;
     })

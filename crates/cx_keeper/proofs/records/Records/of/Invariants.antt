@@ -1,0 +1,10 @@
+use Rattle.std.proofs.Common.{◌≡◌, ◌++◌, drop}
+use Rattle.std.specs.Prelude.{IsTrue}
+use Rattle.cx_keeper.specs.Keeper.{all_fit}
+use Rattle.cx_keeper.proofs.records.Records.of.Given as goal
+
+abbrev pub invariant-loop-what : goal.invariant-loop-what
+invariant-loop-what l = record {
+  so_far : l.made ++ drop l.what-index l.records ≡ l.records;
+  fit : IsTrue (all_fit (drop l.what-index l.records));
+}
