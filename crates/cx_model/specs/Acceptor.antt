@@ -1,5 +1,5 @@
 -- The acceptor's rows: it promises rounds and votes for values (VLDB 2021, with the chosen watermark of this project).
-use Rattle.std.specs.Prelude.{ℕ, ◌+◌, ◌==◌, Bool, false, not, ◌&&◌, ◌||◌, nat_lt, nat_le, max, filter, if◌then◌else◌, List, [], ◌∷◌, Option, None, Some}
+use Rattle.std.specs.Prelude.{ℕ, ◌+◌, ◌==◌, Bool, false, not, ◌&&◌, ◌||◌, nat_lt, nat_le, max, filter, if◌then◌else◌, List, [], ◌∷◌, Option, None, Some, true}
 use Rattle.cx_base.specs.declared.cluster.Cluster.{Cluster}
 use Rattle.cx_base.specs.declared.command.Value.{Value}
 use Rattle.cx_base.specs.declared.role.RoleId.{RoleId}
@@ -62,10 +62,7 @@ acceptor_after d (kept.Vote i s cw v) =
       top = max d.top (s + 1);
     }
 acceptor_after d (kept.Water i cw) = record d { promise = i; cw = max d.cw cw; votes = votes_from (max d.cw cw) d.votes }
-acceptor_after d (kept.Match i g) = d
-acceptor_after d (kept.Garbage i g) = d
-acceptor_after d (kept.Round i g) = d
-acceptor_after d (kept.Log vs) = d
+acceptor_after d other = d
 
 -- whether the acceptor could have appended this record
 abbrev pub acceptor_fits : Cluster → RoleId → AcceptorDurable → Record → Bool
@@ -73,10 +70,7 @@ acceptor_fits c me d (kept.Promise i) = names_round c i && is_before d.promise i
 acceptor_fits c me d (kept.Vote i s cw v) =
     names_round c i && names_value c v && not (is_before i d.promise) && nat_le d.cw s && in_window cw s && not (is_of i (vote_at s d.votes))
 acceptor_fits c me d (kept.Water i cw) = names_round c i && not (is_before i d.promise) && (is_before d.promise i || nat_lt d.cw cw)
-acceptor_fits c me d (kept.Match i g) = false
-acceptor_fits c me d (kept.Garbage i g) = false
-acceptor_fits c me d (kept.Round i g) = false
-acceptor_fits c me d (kept.Log vs) = false
+acceptor_fits c me d other = false
 
 -- a leader learns that a greater round was promised
 abbrev pub nack_to : RoleId → Round → Round → Letter
@@ -137,6 +131,9 @@ acceptor_rules = record {
   empty = record { promise = no_round; cw = 0; votes = []; top = 0 };
   after = acceptor_after;
   fits = acceptor_fits;
+  whole = λ d. true;
   fresh = λ c. tt;
   row = acceptor_row;
+  snap = λ c me d v. None;
+  renewed = λ d first. [];
 }

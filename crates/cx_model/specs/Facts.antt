@@ -19,6 +19,7 @@ use Rattle.cx_field.specs.declared.parts.Vote.{Vote}
 use Rattle.cx_grid.specs.Quorum.{column_of}
 use Rattle.cx_msg.specs.Letter.{Letter, letter}
 use Rattle.cx_msg.specs.declared.input.KeptRecord.{KeptRecord}
+use Rattle.cx_msg.specs.declared.input.Written.TheVariants as written
 use Rattle.cx_msg.specs.declared.kept.Record.{Record}
 use Rattle.cx_msg.specs.declared.kept.Record.TheVariants as kept
 use Rattle.cx_msg.specs.declared.message.Msg.{Msg}
@@ -155,7 +156,8 @@ pub record RoundFacts (w : World) : Type 0 where
   pub one_grid : (i : Round) (g h : Shape) → IsConfig w.kept i g → IsConfig w.kept i h → g ≡ h
   -- two places in the history with one round are one
   pub once : (m n : ℕ) (who other : RoleId) (i : Round) (g h : Shape)
-      → slice_get w.kept m ≡ Some (record { role = who; what = kept.Round i g }) → slice_get w.kept n ≡ Some (record { role = other; what = kept.Round i h })
+      → slice_get w.kept m ≡ Some (record { role = who; what = written.Record (kept.Round i g) })
+      → slice_get w.kept n ≡ Some (record { role = other; what = written.Record (kept.Round i h) })
       → m ≡ n
   pub one_value : (i : Round) (s : ℕ) (u v : Value) → Carries w i s u → Carries w i s v → u ≡ v
   pub voted : (who : RoleId) (i : Round) (s : ℕ) (v : Value) → HasVoted w.kept who i s v → IsProposed w.sent i s v

@@ -363,12 +363,7 @@ leader_row c me d v (Order order) = order_row c me d v order
 
 abbrev pub leader_after : LeaderDurable → Record → LeaderDurable
 leader_after d (kept.Round i g) = record { own = Some (record { round = i; grid = g }) }
-leader_after d (kept.Promise i) = d
-leader_after d (kept.Vote i s cw v) = d
-leader_after d (kept.Water i cw) = d
-leader_after d (kept.Match i g) = d
-leader_after d (kept.Garbage i g) = d
-leader_after d (kept.Log vs) = d
+leader_after d other = d
 
 -- whether a round follows a leader's last one: a first one above it, or its next
 abbrev pub follows : Round → Round → Bool
@@ -377,12 +372,7 @@ follows own i = (is_before own i && (i.s == 0)) || same_round i (record own { s 
 -- whether the leader could have appended this record
 abbrev pub leader_fits : Cluster → RoleId → LeaderDurable → Record → Bool
 leader_fits c me d (kept.Round i g) = names_round c i && names_grid c g && (i.id == me.index) && follows (round_of d.own) i
-leader_fits c me d (kept.Promise i) = false
-leader_fits c me d (kept.Vote i s cw v) = false
-leader_fits c me d (kept.Water i cw) = false
-leader_fits c me d (kept.Match i g) = false
-leader_fits c me d (kept.Garbage i g) = false
-leader_fits c me d (kept.Log vs) = false
+leader_fits c me d other = false
 
 abbrev pub idle_leader : Cluster → LeaderVolatile
 idle_leader c =
@@ -406,6 +396,9 @@ leader_rules = record {
   empty = record { own = None };
   after = leader_after;
   fits = leader_fits;
+  whole = λ d. true;
   fresh = idle_leader;
   row = leader_row;
+  snap = λ c me d v. None;
+  renewed = λ d first. [];
 }

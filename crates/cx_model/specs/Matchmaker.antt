@@ -1,5 +1,5 @@
 -- The matchmaker's rows: it records which grid each round uses (JSys 2021).
-use Rattle.std.specs.Prelude.{◌-◌, Bool, false, not, ◌&&◌, nat_lt, nat_le, filter, if◌then◌else◌, List, [], ◌∷◌, ◌++◌, length, slice_get, Some}
+use Rattle.std.specs.Prelude.{◌-◌, Bool, false, not, ◌&&◌, nat_lt, nat_le, filter, if◌then◌else◌, List, [], ◌∷◌, ◌++◌, length, slice_get, Some, true, None}
 use Rattle.std.specs.List.{list_all, list_any}
 use Rattle.std.specs.Option.{option_map_or}
 use Rattle.cx_base.specs.declared.cluster.Cluster.{Cluster}
@@ -55,22 +55,14 @@ with_own i g es = if has_round i es then es else entry i g ∷ es
 abbrev pub matchmaker_after : MatchmakerDurable → Record → MatchmakerDurable
 matchmaker_after d (kept.Match i g) = record d { entries = d.entries ++ entry i g ∷ [] }
 matchmaker_after d (kept.Garbage i g) = record { watermark = i; entries = with_own i g (entries_from i d.entries) }
-matchmaker_after d (kept.Promise i) = d
-matchmaker_after d (kept.Vote i s cw v) = d
-matchmaker_after d (kept.Water i cw) = d
-matchmaker_after d (kept.Round i g) = d
-matchmaker_after d (kept.Log vs) = d
+matchmaker_after d other = d
 
 -- whether the matchmaker could have appended this record; it records at most 16 rounds
 abbrev pub matchmaker_fits : Cluster → RoleId → MatchmakerDurable → Record → Bool
 matchmaker_fits c me d (kept.Match i g) =
     names_round c i && names_grid c g && not (is_before i d.watermark) && list_all (λ (e : Entry). is_before e.round i) d.entries && nat_lt (length d.entries) 16
 matchmaker_fits c me d (kept.Garbage i g) = names_round c i && names_grid c g && is_before d.watermark i
-matchmaker_fits c me d (kept.Promise i) = false
-matchmaker_fits c me d (kept.Vote i s cw v) = false
-matchmaker_fits c me d (kept.Water i cw) = false
-matchmaker_fits c me d (kept.Round i g) = false
-matchmaker_fits c me d (kept.Log vs) = false
+matchmaker_fits c me d other = false
 
 abbrev pub match_b_to : RoleId → RoleId → Round → MatchmakerDurable → Letter
 match_b_to me leader i d = letter me leader (msg.MatchB i d.watermark (entries_before i d.entries))
@@ -120,6 +112,9 @@ matchmaker_rules = record {
   empty = record { watermark = no_round; entries = [] };
   after = matchmaker_after;
   fits = matchmaker_fits;
+  whole = λ d. true;
   fresh = λ c. tt;
   row = matchmaker_row;
+  snap = λ c me d v. None;
+  renewed = λ d first. [];
 }

@@ -1,6 +1,6 @@
 -- The reader's rows: it asks enough matchmakers for the live grids, a row of each for its greatest voted slot, and then one replica, which
 -- answers once it holds this many slots (VLDB 2021: quorum reads; over several grids this project's own).
-use Rattle.std.specs.Prelude.{ℕ, ◌==◌, Bool, false, not, ◌&&◌, nat_le, max, map, filter, if◌then◌else◌, List, [], ◌∷◌, ◌++◌, length, Option, None, Some}
+use Rattle.std.specs.Prelude.{ℕ, ◌==◌, Bool, false, not, ◌&&◌, nat_le, max, map, filter, if◌then◌else◌, List, [], ◌∷◌, ◌++◌, length, Option, None, Some, true}
 use Rattle.std.specs.List.{list_any}
 use Rattle.cx_base.specs.declared.cluster.Cluster.{Cluster}
 use Rattle.cx_base.specs.declared.role.RoleId.{RoleId}
@@ -150,6 +150,9 @@ reader_rules = record {
   empty = tt;
   after = λ d r. tt;
   fits = λ c me d r. false;
+  whole = λ d. true;
   fresh = λ c. record { reads = [] };
   row = reader_row;
+  snap = λ c me d v. None;
+  renewed = λ d first. [];
 }

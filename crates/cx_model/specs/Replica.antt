@@ -1,20 +1,23 @@
 -- The replica's rows: it keeps the chosen values in order, executes their commands, and answers commands and reads (VLDB 2021; deferred
 -- reads are this project's own).
-use Rattle.std.specs.Prelude.{ℕ, ◌+◌, ◌%◌, ◌==◌, Bool, false, ◌&&◌, nat_lt, nat_le, map, filter, if◌then◌else◌, List, [], ◌∷◌, ◌++◌, length, slice_get, Option, None, Some}
+use Rattle.std.specs.Prelude.{◌≡◌, ◌≤◌, ℕ, zero, suc, ◌+◌, ◌-◌, ◌%◌, ◌==◌, Bool, true, false, ◌&&◌, ◌||◌, not, nat_lt, nat_le, min, max, map, filter, if◌then◌else◌, List, [], ◌∷◌, ◌++◌, length, take, drop, slice_get, Option, None, Some}
 use Rattle.std.specs.List.{list_all, list_any}
 use Rattle.cx_base.specs.declared.cluster.Cluster.{Cluster}
 use Rattle.cx_base.specs.declared.command.Answered.{Answered}
 use Rattle.cx_base.specs.declared.command.Command.{Command}
+use Rattle.cx_base.specs.declared.command.Floor.{Floor}
+use Rattle.cx_base.specs.declared.command.Note.{Note}
 use Rattle.cx_base.specs.declared.command.Pair.{Pair}
 use Rattle.cx_base.specs.declared.command.Placed.{Placed}
 use Rattle.cx_base.specs.declared.command.Value.{Value}
 use Rattle.cx_base.specs.declared.role.RoleId.{RoleId}
 use Rattle.cx_base.specs.declared.role.Kind.TheVariants.{Client, Leader, Replica, Unbatcher}
 use Rattle.cx_base.specs.declared.why.Why.TheVariants.{Answered as AnsweredWord, Applied, Deferred as DeferredWord, Early, Fetched, Full, Idle, Past, Resent, Same, Stranger, Window}
-use Rattle.cx_base.specs.Fold.{commands_of, map_after, reply_of, text_at}
-use Rattle.cx_base.specs.Lists.{below}
+use Rattle.cx_base.specs.Asked.{floor_fits}
+use Rattle.cx_base.specs.Fold.{commands_of, is_less, map_after, reply_of, text_at}
+use Rattle.cx_base.specs.Lists.{below, rises}
 use Rattle.cx_base.specs.Log.{value_for, ready_values, still_early}
-use Rattle.cx_base.specs.Noted.{Table, new_table, floor_of, is_done, noted_for, with_told, with_answer}
+use Rattle.cx_base.specs.Noted.{Table, new_table, are_rising, floor_of, is_done, noted_for, with_told, with_answer}
 use Rattle.cx_base.specs.Role.{same_role, role}
 use Rattle.cx_msg.specs.Letter.{Letter, letter}
 use Rattle.cx_msg.specs.declared.input.Input.{Input}
@@ -29,19 +32,36 @@ use Rattle.cx_model.specs.Outcome.{Outcome, answered, replied}
 use Rattle.cx_model.specs.Request.{same_read}
 use Rattle.cx_model.specs.Rules.{Rules}
 
--- the chosen values that it kept, in slot order
-pub record ReplicaDurable : Type 0 where
-  pub log : List Value
-
--- the values that came before their turn, and the reads that wait for values, in the order in which they came
-pub record ReplicaVolatile : Type 0 where
-  pub early : List Placed
-  pub deferred : List Deferred
-
 -- what executing leaves: the map, and the client table
 pub record Machine : Type 0 where
   pub map : List Pair
   pub table : Table
+
+-- What a replica's records leave: the chosen values that it has, in slot order, the first of them at slot `first`; what all
+-- values that it kept leave; whether a record was read; and how many pairs, clients and values a renewed list still wants.
+pub record ReplicaDurable : Type 0 where
+  pub first : ℕ
+  pub log : List Value
+  pub machine : Machine
+  pub begun : Bool
+  pub pairs : ℕ
+  pub clients : ℕ
+  pub values : ℕ
+
+-- how many slots it holds
+abbrev pub held : ReplicaDurable → ℕ
+held d = d.first + length d.log
+
+-- whether a renewed list has all that it began to say
+abbrev pub is_whole : ReplicaDurable → Bool
+is_whole d = d.pairs == 0 && d.clients == 0 && d.values == 0
+
+-- The values that came before their turn, and the reads that wait for values, in the order in which they came; and the greatest
+-- slot that the replica before this one asked for.
+pub record ReplicaVolatile : Type 0 where
+  pub early : List Placed
+  pub deferred : List Deferred
+  pub fetched : ℕ
 
 -- a machine with the answers that it gave on the way
 pub record Executed : Type 0 where
@@ -111,13 +131,13 @@ with_early s v early None = early ++ record { slot = s; value = v } ∷ []
 with_early s v early (Some first) = early
 
 -- a read is answered with the key's text in the map that the first n values leave
-abbrev pub read_answer_to : RoleId → List Value → Deferred → Letter
-read_answer_to me log r =
-    letter me (role Client r.token.client) (msg.ReadAnswer r.token.seq (length log) (text_at r.key (machine_of log).map))
+abbrev pub read_answer_to : RoleId → ℕ → Machine → Deferred → Letter
+read_answer_to me n machine r =
+    letter me (role Client r.token.client) (msg.ReadAnswer r.token.seq n (text_at r.key machine.map))
 
--- the answers to the reads that waited for no more than these values
-abbrev pub read_answers : RoleId → List Value → List Deferred → List Letter
-read_answers me log rs = map (read_answer_to me log) (filter (λ (r : Deferred). nat_le r.mark (length log)) rs)
+-- the answers to the reads that waited for no more than n values
+abbrev pub read_answers : RoleId → ℕ → Machine → List Deferred → List Letter
+read_answers me n machine rs = map (read_answer_to me n machine) (filter (λ (r : Deferred). nat_le r.mark n) rs)
 
 abbrev pub still_deferred : ℕ → List Deferred → List Deferred
 still_deferred held rs = filter (λ (r : Deferred). nat_lt held r.mark) rs
@@ -127,26 +147,26 @@ apply c me d v values =
     record {
       why = Applied;
       kept = Some (kept.Log values);
-      volatile = record {
-        early = still_early (length d.log + length values) v.early;
-        deferred = still_deferred (length d.log + length values) v.deferred;
+      volatile = record v {
+        early = still_early (held d + length values) v.early;
+        deferred = still_deferred (held d + length values) v.deferred;
       };
-      sends = results_from c me (length d.log) (machine_of d.log) values ++ read_answers me (d.log ++ values) v.deferred;
+      sends = results_from c me (held d) d.machine values
+          ++ read_answers me (held d + length values) (machine_from (held d) d.machine values) v.deferred;
     }
 
 -- a proxy leader, or another replica, sends a chosen value
 abbrev pub chosen_row : Cluster → RoleId → ReplicaDurable → ReplicaVolatile → ℕ → Value → Outcome ReplicaVolatile
 chosen_row c me d v s value =
-    let held = length d.log in
-    if nat_lt s held then answered Past v
-    else if nat_le (held + 32) s then answered Window v
-    else if nat_lt held s then answered Early (record v { early = with_early s value v.early (value_for s v.early) })
-    else apply c me d v (ready_values held v.early value)
+    if nat_lt s (held d) then answered Past v
+    else if nat_le (held d + 32) s then answered Window v
+    else if nat_lt (held d) s then answered Early (record v { early = with_early s value v.early (value_for s v.early) })
+    else apply c me d v (ready_values (held d) v.early value)
 
 -- a reader asks for a key's text, once this many slots are held; at most 64 reads wait
 abbrev pub read_row : RoleId → ReplicaDurable → ReplicaVolatile → Deferred → Outcome ReplicaVolatile
 read_row me d v r =
-    if nat_le r.mark (length d.log) then replied AnsweredWord v (read_answer_to me d.log r ∷ [])
+    if nat_le r.mark (held d) then replied AnsweredWord v (read_answer_to me (held d) d.machine r ∷ [])
     else if list_any (λ (other : Deferred). same_read r.token other.token) v.deferred then answered Same v
     else if nat_le 64 (length v.deferred) then answered Full v
     else answered DeferredWord (record v { deferred = v.deferred ++ r ∷ [] })
@@ -155,14 +175,24 @@ abbrev pub fetch_found : RoleId → ReplicaVolatile → RoleId → ℕ → Optio
 fetch_found me v from s None = answered Idle v
 fetch_found me v from s (Some value) = replied Fetched v (letter me from (msg.Chosen s value) ∷ [])
 
--- another replica asks for the value of a slot (this project's own)
-abbrev pub fetch_row : RoleId → ReplicaDurable → ReplicaVolatile → RoleId → ℕ → Outcome ReplicaVolatile
-fetch_row me d v from s = fetch_found me v from s (slice_get d.log s)
+-- the replica that asks this one for values
+abbrev pub before : Cluster → RoleId → ℕ
+before c me = (me.index + c.replicas - 1) % c.replicas
+
+-- the replica before this one asked for the value of a slot
+abbrev pub fetched_by : Cluster → RoleId → ReplicaVolatile → RoleId → ℕ → ReplicaVolatile
+fetched_by c me v from s = if from.index == before c me then record v { fetched = max v.fetched s } else v
+
+-- another replica asks for the value of a slot, which may be forgotten (this project's own)
+abbrev pub fetch_row : Cluster → RoleId → ReplicaDurable → ReplicaVolatile → RoleId → ℕ → Outcome ReplicaVolatile
+fetch_row c me d v from s =
+    if nat_lt s d.first then answered Past (fetched_by c me v from s)
+    else fetch_found me (fetched_by c me v from s) from s (slice_get d.log (s - d.first))
 
 abbrev pub replica_takes : Cluster → RoleId → ReplicaDurable → ReplicaVolatile → RoleId → Msg → Outcome ReplicaVolatile
 replica_takes c me d v from (msg.Chosen s value) = chosen_row c me d v s value
 replica_takes c me d v from (msg.Read t n key) = read_row me d v (record { token = t; mark = n; key = key })
-replica_takes c me d v from (msg.Fetch s) = fetch_row me d v from s
+replica_takes c me d v from (msg.Fetch s) = fetch_row c me d v from s
 replica_takes c me d v from other = answered Stranger v
 
 abbrev pub held_to : RoleId → ℕ → ℕ → Letter
@@ -173,7 +203,7 @@ abbrev pub fetch_to : Cluster → RoleId → ℕ → List Letter
 fetch_to c me held = if nat_lt 1 c.replicas then letter me (role Replica ((me.index + 1) % c.replicas)) (msg.Fetch held) ∷ [] else []
 
 abbrev pub replica_tick : Cluster → RoleId → ReplicaDurable → ReplicaVolatile → Outcome ReplicaVolatile
-replica_tick c me d v = replied Resent v (map (held_to me (length d.log)) (below c.leaders) ++ fetch_to c me (length d.log))
+replica_tick c me d v = replied Resent v (map (held_to me (held d)) (below c.leaders) ++ fetch_to c me (held d))
 
 abbrev pub replica_row : Cluster → RoleId → ReplicaDurable → ReplicaVolatile → Input → Outcome ReplicaVolatile
 replica_row c me d v (Take letter) =
@@ -181,31 +211,103 @@ replica_row c me d v (Take letter) =
 replica_row c me d v Tick = replica_tick c me d v
 replica_row c me d v (Order order) = answered Stranger v
 
-abbrev pub replica_after : ReplicaDurable → Record → ReplicaDurable
-replica_after d (kept.Log vs) = record { log = d.log ++ vs }
-replica_after d (kept.Promise i) = d
-replica_after d (kept.Vote i s cw v) = d
-replica_after d (kept.Water i cw) = d
-replica_after d (kept.Match i g) = d
-replica_after d (kept.Garbage i g) = d
-replica_after d (kept.Round i g) = d
+-- the table with a client more, behind the others, its floor, and the answers to its numbers
+abbrev pub answer_of : ℕ → Note → Answered
+answer_of client n = record { client = client; seq = n.seq; at = n.at; reply = n.reply }
 
--- whether the replica could have appended this record; slots end at 2^40
+abbrev pub with_client : ℕ → ℕ → List Note → Table → Table
+with_client client floor notes t =
+    record {
+      floors = t.floors ++ record { client = client; floor = floor } ∷ [];
+      notes = t.notes ++ map (answer_of client) notes;
+    }
+
+-- the durable part after a record
+abbrev pub replica_after : ReplicaDurable → Record → ReplicaDurable
+replica_after d (kept.Log vs) = record d { log = d.log ++ vs; machine = machine_from (held d) d.machine vs; begun = true }
+replica_after d (kept.Base first n pairs clients) =
+    record d { first = first; begun = true; pairs = pairs; clients = clients; values = n - first }
+replica_after d (kept.Pairs ps) =
+    record d { machine = record d.machine { map = d.machine.map ++ ps }; begun = true; pairs = d.pairs - length ps }
+replica_after d (kept.Notes client floor notes) =
+    record d { machine = record d.machine { table = with_client client floor notes d.machine.table }; begun = true; clients = d.clients - 1 }
+replica_after d (kept.Tail vs) = record d { log = d.log ++ vs; begun = true; values = d.values - length vs }
+replica_after d other = d
+
+-- whether the key of a pair comes before that of another
+abbrev pub key_before : Pair → Pair → Bool
+key_before p q = is_less p.key q.key
+
+-- whether notes are those of a client with this floor: their numbers rise, and it may tell the floor with each
+abbrev pub are_notes_above : ℕ → List Note → Bool
+are_notes_above floor notes =
+    rises (λ (n : Note) (later : Note). nat_lt n.seq later.seq) notes && list_all (λ (n : Note). floor_fits n.seq floor) notes
+
+-- Whether the replica could have appended this record, or a renewal have it in this place: slots end at 2^40; a renewed list
+-- begins with its base, and then has all pairs, their keys rising, all clients, rising, and all values, in records that are
+-- filled in order. Values are appended to a whole list alone.
 abbrev pub replica_fits : Cluster → RoleId → ReplicaDurable → Record → Bool
-replica_fits c me d (kept.Log vs) = list_all (λ (v : Value). names_value c v) vs && nat_le (length d.log + length vs) 1099511627776
-replica_fits c me d (kept.Promise i) = false
-replica_fits c me d (kept.Vote i s cw v) = false
-replica_fits c me d (kept.Water i cw) = false
-replica_fits c me d (kept.Match i g) = false
-replica_fits c me d (kept.Garbage i g) = false
-replica_fits c me d (kept.Round i g) = false
+replica_fits c me d (kept.Log vs) =
+    is_whole d && list_all (λ (v : Value). names_value c v) vs && nat_le (held d + length vs) 1099511627776
+replica_fits c me d (kept.Base first n pairs clients) = not d.begun && nat_le first n
+replica_fits c me d (kept.Pairs ps) = length ps == min 255 d.pairs && rises key_before (d.machine.map ++ ps)
+replica_fits c me d (kept.Notes client floor notes) =
+    d.pairs == 0 && nat_lt 0 d.clients && nat_lt client c.clients
+    && are_rising 0 (with_client client floor notes d.machine.table).floors && are_notes_above floor notes
+replica_fits c me d (kept.Tail vs) =
+    d.pairs == 0 && d.clients == 0 && list_all (λ (v : Value). names_value c v) vs && length vs == min 32 d.values
+replica_fits c me d other = false
+
+-- a list in pieces of so many, the last of which may be shorter
+unfoldable pub pieces_of : {A : Type 0} → ℕ → ℕ → List A → List (List A)
+pieces_of zero size xs = []
+pieces_of (suc fuel) size [] = []
+pieces_of (suc fuel) size (x ∷ xs) = take size (x ∷ xs) ∷ pieces_of fuel size (drop size (x ∷ xs))
+
+abbrev pub pieces : {A : Type 0} → ℕ → List A → List (List A)
+pieces size xs = pieces_of (length xs) size xs
+
+abbrev pub note_of : Answered → Note
+note_of a = record { seq = a.seq; at = a.at; reply = a.reply }
+
+-- what is noted of a client
+abbrev pub notes_of : Table → Floor → Record
+notes_of t f = kept.Notes f.client f.floor (map note_of (filter (λ (a : Answered). a.client == f.client) t.notes))
+
+-- the list without the values below a slot: how far it goes, the map, the client table, and the values from that slot on
+abbrev pub replica_renewed : ReplicaDurable → ℕ → List Record
+replica_renewed d first =
+    (kept.Base first (held d) (length d.machine.map) (length d.machine.table.floors) ∷ [])
+    ++ map (λ ps. kept.Pairs ps) (pieces 255 d.machine.map)
+    ++ map (notes_of d.machine.table) d.machine.table.floors
+    ++ map (λ vs. kept.Tail vs) (pieces 32 (drop (first - d.first) d.log))
+
+-- no other replica asks for values below this slot: the only one holds all, else the one before this has asked for it
+abbrev pub snap_mark : Cluster → ReplicaDurable → ReplicaVolatile → ℕ
+snap_mark c d v = if c.replicas == 1 then held d else min (held d) v.fetched
+
+-- below which slot the replica may forget values, if it may: a map of 2^32 keys isn't written anew
+abbrev pub replica_snap : Cluster → RoleId → ReplicaDurable → ReplicaVolatile → Option ℕ
+replica_snap c me d v =
+    if nat_le (snap_mark c d v) d.first || nat_le 4294967296 (length d.machine.map) then None else Some (snap_mark c d v)
 
 abbrev pub replica_rules : Rules ReplicaDurable ReplicaVolatile
 replica_rules = record {
   kind = Replica;
-  empty = record { log = [] };
+  empty = record { first = 0; log = []; machine = new_machine; begun = false; pairs = 0; clients = 0; values = 0 };
   after = replica_after;
   fits = replica_fits;
-  fresh = λ c. record { early = []; deferred = [] };
+  whole = is_whole;
+  fresh = λ c. record { early = []; deferred = []; fetched = 0 };
   row = replica_row;
+  snap = replica_snap;
+  renewed = replica_renewed;
 }
+
+-- A durable part is what these values leave: all of them went through its machine, it has those from its first slot on, and
+-- wants nothing more.
+pub record IsTied (d : ReplicaDurable) (values : List Value) : Type 0 where
+  pub within : d.first ≤ length values
+  pub log : d.log ≡ drop d.first values
+  pub machine : d.machine ≡ machine_of values
+  pub whole : is_whole d ≡ true

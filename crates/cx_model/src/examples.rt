@@ -3,7 +3,7 @@
 //!
 //! The model did not compute what is expected here: it was worked out from the description of the protocol, by hand or by
 //! a program that was written apart. So a wrong row is refused here, before anything else rests on it.
-#![tactic(auto, unfolding(crate::specs::World::step))]
+#![tactic(auto, unfolding(crate::specs::World::step, crate::specs::Replica::pieces_of))]
 
 ghost use Rattle.cx_model.specs.ExamplesAnswersOfOtherRounds.{AnswersOfOtherRounds};
 ghost use Rattle.cx_model.specs.ExamplesChangeAsksNobody.{ChangeAsksNobody};
@@ -35,6 +35,8 @@ ghost use Rattle.cx_model.specs.ExamplesRepeatsChangeNothing.{RepeatsChangeNothi
 ghost use Rattle.cx_model.specs.ExamplesRetireEarlierRounds.{RetireEarlierRounds};
 ghost use Rattle.cx_model.specs.ExamplesRetiredGridIsNotAsked.{RetiredGridIsNotAsked};
 ghost use Rattle.cx_model.specs.ExamplesRowIsNoColumn.{RowIsNoColumn};
+ghost use Rattle.cx_model.specs.ExamplesSnapshotOfOne.{SnapshotOfOne};
+ghost use Rattle.cx_model.specs.ExamplesSnapshotWaits.{SnapshotWaits};
 ghost use Rattle.cx_model.specs.ExamplesStaleRequests.{StaleRequests};
 ghost use Rattle.cx_model.specs.ExamplesTornAppend.{TornAppend};
 ghost use Rattle.cx_model.specs.ExamplesValuesInSlotOrder.{ValuesInSlotOrder};
@@ -233,4 +235,16 @@ pub fn refused_change()
 /// A leader and a replica have a window of 32 slots, a matchmaker records 16 rounds, and the numbers of rounds end.
 pub fn limits()
     ensures { Limits }
+{}
+
+/// The only replica forgets its value, has the map and the answers in its place, and goes on with the next command. If it
+/// crashes inside the renewal its store has the old list or the new one.
+pub fn snapshot_of_one()
+    ensures { SnapshotOfOne }
+{}
+
+/// A replica forgets its value only once the replica before it has told that it goes on behind it. A question for the value
+/// that comes late is not answered.
+pub fn snapshot_waits()
+    ensures { SnapshotWaits }
 {}
