@@ -1,5 +1,5 @@
 -- Each step keeps the windows of all leaders full.
-use Rattle.std.proofs.Common.{◌≡◌, false, ◌⊎◌, List, [], ◌++◌, Option, None, Some, sym, subst, inl, inr, append-nil}
+use Rattle.std.proofs.Common.{◌≡◌, ℕ, false, ◌⊎◌, List, [], ◌∷◌, ◌++◌, Option, None, Some, sym, subst, inl, inr, append-nil}
 use Rattle.cx_base.specs.declared.cluster.Cluster.{Cluster}
 use Rattle.cx_base.specs.declared.event.Event.{Event}
 use Rattle.cx_base.specs.declared.role.Kind.{Kind}
@@ -14,8 +14,8 @@ use Rattle.cx_model.specs.Outcome.{Outcome}
 use Rattle.cx_model.specs.Request.{request}
 use Rattle.cx_model.specs.World.{run}
 use Rattle.cx_inv_run.specs.Laws.{Lands, Laws, anything}
-use Rattle.cx_inv_run.specs.States.{State, Down, Plain, BatcherIn, LeaderIn, ProxyIn, ReplicaIn, ReaderIn, plain, fresh_state, set_state, with_record, durable_of, HoldsIn}
-use Rattle.cx_inv_run.proofs.Histories.{durable_own, durable_other, set_running}
+use Rattle.cx_inv_run.specs.States.{State, Down, Plain, BatcherIn, LeaderIn, ProxyIn, ReplicaIn, ReaderIn, plain, fresh_state, set_state, snap_by, with_record, durable_of, HoldsIn}
+use Rattle.cx_inv_run.proofs.Histories.{by_role, durable_own, durable_other, durable_else, set_running}
 use Rattle.cx_inv_run.proofs.Steps.{always}
 use Rattle.cx_inv_bypass.specs.Full.{FullIn, FullState, Full}
 use Rattle.cx_inv_bypass.proofs.Rows.{still_full, round_after, leader_full}
@@ -42,6 +42,18 @@ kept_more history sent me a (Some r) (BatcherIn v) e h = tt
 kept_more history sent me a (Some r) (ProxyIn v) e h = tt
 kept_more history sent me a (Some r) (ReplicaIn v) e h = tt
 kept_more history sent me a (Some r) (ReaderIn v) e h = tt
+
+-- a renewal of another role's list
+snap_more : (history : List KeptRecord) (sent : List Letter) (me a : RoleId) (first : ℕ) (s : State) → same_role a me ≡ false
+    → FullState history sent a s → FullState (snap_by me first ∷ history) sent a s
+snap_more history sent me a first (LeaderIn v) e h =
+    subst (λ (d : LeaderDurable). FullIn sent (round_of d.own) v.cw v.next v.proposed v.mode) (sym (durable_else leader_rules me a first history e)) h
+snap_more history sent me a first Down e h = tt
+snap_more history sent me a first Plain e h = tt
+snap_more history sent me a first (BatcherIn v) e h = tt
+snap_more history sent me a first (ProxyIn v) e h = tt
+snap_more history sent me a first (ReplicaIn v) e h = tt
+snap_more history sent me a first (ReaderIn v) e h = tt
 
 fresh_full : (history : List KeptRecord) (sent : List Letter) (c : Cluster) (me : RoleId) (k : Kind) → FullState history sent me (fresh_state c k)
 fresh_full history sent c me kind.Client = tt
@@ -104,6 +116,10 @@ full_laws c = record {
   acceptor = λ kept sent states a i known h is given. lands_full kept sent states h (role kind.Acceptor a) plain _ tt;
   matchmaker = λ kept sent states m i known h is given. lands_full kept sent states h (role kind.Matchmaker m) plain _ tt;
   replica = λ kept sent states p v i known h is given. lands_full kept sent states h (role kind.Replica p) ReplicaIn _ tt;
+  snap = λ kept sent states p v first known h is e.
+      let me = role kind.Replica p in
+      by_role (λ a. FullState (snap_by me first ∷ kept) sent a (states a)) me
+      (subst (λ (s : State). FullState (snap_by me first ∷ kept) sent me s) (sym is) tt) (λ a f. snap_more kept sent me a first (states a) f (h a));
   unbatcher = λ kept sent states u i known h is given. lands_full kept sent states h (role kind.Unbatcher u) plain _ tt;
   reader = λ kept sent states r v i known h is given. lands_full kept sent states h (role kind.Reader r) ReaderIn _ tt;
 }

@@ -23,7 +23,7 @@ use Rattle.cx_field.specs.declared.parts.Entry.{Entry}
 use Rattle.cx_field.specs.declared.parts.Token.{Token}
 use Rattle.cx_msg.specs.Letter.{Letter, letter}
 use Rattle.cx_msg.specs.declared.input.Act.{Act}
-use Rattle.cx_msg.specs.declared.input.Act.TheVariants.{Give, Stop, Wake}
+use Rattle.cx_msg.specs.declared.input.Act.TheVariants.{Give, Snap, Stop, Wake}
 use Rattle.cx_msg.specs.declared.input.Input.{Input}
 use Rattle.cx_msg.specs.declared.input.Input.TheVariants as input
 use Rattle.cx_msg.specs.declared.kept.Record.{Record}
@@ -182,6 +182,8 @@ module _ (c : Cluster) (w : World) (is_c : w.cluster ≡ c) (full : HoldsIn Full
     turn_did (Give i cut) (Some v) found word = cut_did l v found i cut _ word
     turn_did Stop None found word = other_word refl word
     turn_did Stop (Some v) found word = other_word refl word
+    turn_did (Snap cut) None found word = other_word refl word
+    turn_did (Snap cut) (Some v) found word = other_word refl word
     turn_did Wake None found word = other_word refl word
     turn_did Wake (Some v) found word = other_word refl word
 
@@ -234,6 +236,7 @@ module _ (c : Cluster) (w : World) (is_c : w.cluster ≡ c) (full : HoldsIn Full
     event_did (event.Tick r) = at_did (Give input.Tick Whole) r
     event_did (event.Order l order cut) = at_did (Give (input.Order order) cut) (role kind.Leader l)
     event_did (event.Crash r) = at_did Stop r
+    event_did (event.Snap replica cut) = at_did (Snap cut) (role kind.Replica replica)
     event_did (event.Restart r) = at_did Wake r
 
   goes_on : (e : Event) (i : Round) → Bypasses w e i → GoesOn w e i

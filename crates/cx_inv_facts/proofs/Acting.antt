@@ -35,24 +35,32 @@ module _ (w : World) (act : Act) (me : RoleId) where
   act_kinds kind.Batcher is =
       by_turn batcher_rules w.cluster me w.kept w.roles.batchers (λ t. SentAs kind.Batcher t.sends) (nothing_sent _ _ kind.Batcher) act
       (λ v i cut e a. of_kind kind.Batcher _ is (batcher_kinds w.cluster me is v i))
+      (λ v first e q. absurd cc)
   act_kinds kind.Leader is =
       by_turn leader_rules w.cluster me w.kept w.roles.leaders (λ t. SentAs kind.Leader t.sends) (nothing_sent _ _ kind.Leader) act
       (λ v i cut e a. of_kind kind.Leader _ is (leader_kinds w.cluster me is (durable_part leader_rules me w.kept) v i))
+      (λ v first e q. absurd cc)
   act_kinds kind.Proxy is =
       by_turn proxy_rules w.cluster me w.kept w.roles.proxies (λ t. SentAs kind.Proxy t.sends) (nothing_sent _ _ kind.Proxy) act
       (λ v i cut e a. of_kind kind.Proxy _ is (proxy_kinds w.cluster me is v i))
+      (λ v first e q. absurd cc)
   act_kinds kind.Acceptor is =
       by_turn acceptor_rules w.cluster me w.kept w.roles.acceptors (λ t. SentAs kind.Acceptor t.sends) (nothing_sent _ _ kind.Acceptor) act
       (λ v i cut e a. of_kind kind.Acceptor _ is (acceptor_kinds w.cluster me is (durable_part acceptor_rules me w.kept) i))
+      (λ v first e q. absurd cc)
   act_kinds kind.Matchmaker is =
       by_turn matchmaker_rules w.cluster me w.kept w.roles.matchmakers (λ t. SentAs kind.Matchmaker t.sends) (nothing_sent _ _ kind.Matchmaker) act
       (λ v i cut e a. of_kind kind.Matchmaker _ is (matchmaker_kinds w.cluster me is (durable_part matchmaker_rules me w.kept) i))
+      (λ v first e q. absurd cc)
   act_kinds kind.Replica is =
       by_turn replica_rules w.cluster me w.kept w.roles.replicas (λ t. SentAs kind.Replica t.sends) (nothing_sent _ _ kind.Replica) act
       (λ v i cut e a. of_kind kind.Replica _ is (replica_kinds w.cluster me is (durable_part replica_rules me w.kept) v i))
+      (λ v first e q d m. absurd m)
   act_kinds kind.Unbatcher is =
       by_turn unbatcher_rules w.cluster me w.kept w.roles.unbatchers (λ t. SentAs kind.Unbatcher t.sends) (nothing_sent _ _ kind.Unbatcher) act
       (λ v i cut e a. of_kind kind.Unbatcher _ is (unbatcher_kinds w.cluster me is i))
+      (λ v first e q. absurd cc)
   act_kinds kind.Reader is =
       by_turn reader_rules w.cluster me w.kept w.roles.readers (λ t. SentAs kind.Reader t.sends) (nothing_sent _ _ kind.Reader) act
       (λ v i cut e a. of_kind kind.Reader _ is (reader_kinds w.cluster me is v i))
+      (λ v first e q. absurd cc)

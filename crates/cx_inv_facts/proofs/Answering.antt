@@ -31,7 +31,7 @@ use Rattle.cx_model.specs.Request.{request}
 use Rattle.cx_model.specs.World.{run}
 use Rattle.cx_inv_run.specs.Kinds.{IsSender, OfKind}
 use Rattle.cx_inv_run.specs.Laws.{Lands, Laws}
-use Rattle.cx_inv_run.specs.States.{State, BatcherIn, LeaderIn, ProxyIn, ReplicaIn, ReaderIn, plain, entry_by, with_record, durable_of, HoldsIn}
+use Rattle.cx_inv_run.specs.States.{State, BatcherIn, LeaderIn, ProxyIn, ReplicaIn, ReaderIn, plain, entry_by, snap_by, with_record, durable_of, HoldsIn}
 use Rattle.cx_inv_run.proofs.Histories.{kept_longer}
 use Rattle.cx_inv_run.proofs.Members.{Member-both, Member-one, filter-Member}
 use Rattle.cx_inv_run.proofs.Rounds.{before_cases, before-both, same_round-true}
@@ -211,6 +211,8 @@ answer_laws c = record {
   replica = λ history sent states p v i facts h is given.
       calm history sent states h (role kind.Replica p) ReplicaIn _ tt
       (replica_kinds c (role kind.Replica p) refl (durable_of replica_rules (role kind.Replica p) history) v i);
+  snap = λ history sent states p v first facts h is e d m.
+      says_more history (snap_by (role kind.Replica p) first ∷ history) (λ k n. inr n) d.from d.msg (h d m);
   unbatcher = λ history sent states u i facts h is given.
       calm history sent states h (role kind.Unbatcher u) plain _ tt (unbatcher_kinds c (role kind.Unbatcher u) refl i);
   reader = λ history sent states r v i facts h is given.

@@ -32,10 +32,11 @@ use Rattle.cx_model.specs.Replica.{replica_rules}
 use Rattle.cx_model.specs.Request.{request}
 use Rattle.cx_inv_run.specs.Kinds.{IsSender, IsKept, OfKind}
 use Rattle.cx_inv_run.specs.Laws.{Lands, Laws}
-use Rattle.cx_inv_run.specs.States.{State, Down, BatcherIn, LeaderIn, ProxyIn, ReplicaIn, ReaderIn, plain, fresh_state, set_state, entry_by, with_record, durable_of, Given}
+use Rattle.cx_inv_run.specs.States.{State, Down, BatcherIn, LeaderIn, ProxyIn, ReplicaIn, ReaderIn, plain, fresh_state, set_state, entry_by, snap_by, with_record, durable_of, Given}
 use Rattle.cx_inv_run.proofs.Histories.{durable_own, durable_other, set_running, kept_longer}
 use Rattle.cx_inv_run.proofs.Members.{Member-first, Member-one}
 use Rattle.cx_inv_run.proofs.Rounds.{before-itself}
+use Rattle.cx_inv_run.proofs.Snaps.{snap_same}
 use Rattle.cx_inv_run.proofs.Senders.{batcher_kinds, leader_kinds, proxy_kinds, acceptor_kinds, matchmaker_kinds, replica_kinds, unbatcher_kinds, reader_kinds}
 use Rattle.cx_inv_match.specs.Facts.{InState}
 use Rattle.cx_inv_match.specs.Words.{IsChosenIn}
@@ -237,6 +238,16 @@ module _ (i : Round) (cw end : ℕ) where
       replica = λ history sent states p v j known h at given.
           calm history sent states (h known.has) (role kind.Replica p) ReplicaIn _ (λ q. cc)
           (replica_kinds c (role kind.Replica p) refl (durable_of replica_rules (role kind.Replica p) history) v j) tt;
+      snap = λ history sent states p v first known h at e has.
+          let longer = snap_by (role kind.Replica p) first ∷ history in
+          let x = h known.has in
+          record {
+            low = x.low;
+            retiring = λ y. column_more history longer sent sent (λ k m. inr m) (λ d m. m) (x.retiring y);
+            running = λ a.
+                state_more history longer sent sent (λ k m. inr m) (λ d m. m) a ((snap_same history known.kinds.keepers p first).leaders a) (states a)
+                (x.running a);
+          };
       unbatcher = λ history sent states u j known h at given.
           calm history sent states (h known.has) (role kind.Unbatcher u) plain _ (λ p. cc) (unbatcher_kinds c (role kind.Unbatcher u) refl j) tt;
       reader = λ history sent states r v j known h at given.

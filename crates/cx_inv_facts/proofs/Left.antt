@@ -59,6 +59,7 @@ request_proposes (event.Deliver number cut) j s v x = x.4
 request_proposes (event.Tick r) j s v x = x.4
 request_proposes (event.Order leader order cut) j s v x = x.4
 request_proposes (event.Crash r) j s v x = x.4
+request_proposes (event.Snap replica cut) j s v x = x.4
 request_proposes (event.Restart r) j s v x = x.4
 
 module _ (past : List KeptRecord) (told : List Letter) where
@@ -118,6 +119,7 @@ module _ (past : List KeptRecord) (told : List Letter) where
     replica = λ history sent states p v i known h at given.
         calm history sent states h (role kind.Replica p) ReplicaIn _ (λ q. cc)
         (replica_kinds c (role kind.Replica p) refl (durable_of replica_rules (role kind.Replica p) history) v i);
+    snap = λ history sent states p v first known h at e j s u l x. h j s u l x;
     unbatcher = λ history sent states u i known h at given.
         calm history sent states h (role kind.Unbatcher u) plain _ (λ p. cc) (unbatcher_kinds c (role kind.Unbatcher u) refl i);
     reader = λ history sent states r v i known h at given.

@@ -1,5 +1,5 @@
 -- Each step leaves what a role notes with the datagram that it came in; so it is in every run, and datagrams and records are in this order.
-use Rattle.std.proofs.Common.{◌≡◌, ℕ, true, false, List, [], ◌++◌, reverse, Option, None, Some, ap, sym, subst, refl, inl, inr}
+use Rattle.std.proofs.Common.{◌≡◌, ℕ, true, false, List, [], ◌∷◌, ◌++◌, reverse, Option, None, Some, ap, sym, subst, refl, inl, inr}
 use Rattle.cx_base.specs.declared.cluster.Cluster.{Cluster}
 use Rattle.cx_base.specs.declared.event.Event.{Event}
 use Rattle.cx_base.specs.declared.role.Kind.{Kind}
@@ -22,11 +22,12 @@ use Rattle.cx_model.specs.Proxy.{ProxyVolatile, proxy_row}
 use Rattle.cx_model.specs.Request.{request}
 use Rattle.cx_model.specs.World.{World, run, records_of}
 use Rattle.cx_inv_run.specs.Laws.{Lands, Laws}
-use Rattle.cx_inv_run.specs.States.{State, Down, BatcherIn, LeaderIn, ProxyIn, ReplicaIn, ReaderIn, plain, state_found, fresh_state, set_state, with_record, durable_of, Given, HoldsIn}
+use Rattle.cx_inv_run.specs.States.{State, Down, BatcherIn, LeaderIn, ProxyIn, ReplicaIn, ReaderIn, plain, state_found, fresh_state, set_state, snap_by, with_record, durable_of, Given, HoldsIn}
 use Rattle.cx_inv_run.proofs.Histories.{durable_by_time, durable_other, set_running}
 use Rattle.cx_inv_run.proofs.KindLaws.{kinds_hold}
 use Rattle.cx_inv_run.proofs.Members.{Member-first, any-Member}
 use Rattle.cx_inv_run.proofs.Rounds.{same_round-true}
+use Rattle.cx_inv_run.proofs.Snaps.{snap_same}
 use Rattle.cx_inv_run.proofs.Steps.{always}
 use Rattle.cx_inv_match.specs.Facts.{Facts, InState}
 use Rattle.cx_inv_vote.proofs.Steps.{facts_hold}
@@ -166,6 +167,9 @@ module _ (c : Cluster) where
     acceptor = λ history sent states a j known h at given. landed history sent states h (role kind.Acceptor a) plain _ tt;
     matchmaker = λ history sent states m j known h at given. landed history sent states h (role kind.Matchmaker m) plain _ tt;
     replica = λ history sent states p v j known h at given. landed history sent states h (role kind.Replica p) ReplicaIn _ tt;
+    snap = λ history sent states p v first known h at e me.
+        state_more sent sent (λ d m. m) me history (snap_by (role kind.Replica p) first ∷ history)
+        ((snap_same history known.kinds.keepers p first).leaders me) (states me) (h me);
     unbatcher = λ history sent states u j known h at given. landed history sent states h (role kind.Unbatcher u) plain _ tt;
     reader = λ history sent states r v j known h at given. landed history sent states h (role kind.Reader r) ReaderIn _ tt;
   }

@@ -7,6 +7,8 @@ use Rattle.cx_base.specs.declared.role.RoleId.{RoleId}
 use Rattle.cx_base.specs.Role.{role}
 use Rattle.cx_msg.specs.Letter.{Letter}
 use Rattle.cx_msg.specs.declared.input.KeptRecord.{KeptRecord}
+use Rattle.cx_msg.specs.declared.input.Written.{Written}
+use Rattle.cx_msg.specs.declared.input.Written.TheVariants as written
 use Rattle.cx_msg.specs.declared.kept.Record.{Record}
 use Rattle.cx_model.specs.Member.{Member}
 use Rattle.cx_model.specs.Outcome.{Outcome}
@@ -19,13 +21,17 @@ use Rattle.cx_inv_run.proofs.Steps.{always}
 use Rattle.cx_inv_match.specs.Facts.{Facts}
 use Rattle.cx_inv_vote.proofs.Steps.{facts_hold}
 use Rattle.cx_model.specs.Replica.{replica_rules}
-use Rattle.cx_inv_facts.specs.Order.{Each, LaterOfOne, Ordered}
+use Rattle.cx_inv_facts.specs.Order.{Each, IsLaterChange, LaterOfOne, Ordered}
 use Rattle.cx_inv_facts.proofs.LeaderRows.{leader_next}
 use Rattle.cx_inv_facts.proofs.Next.{IsNext, AllNext, KeepsNoRounds, is_later, no_rounds, acceptor_next, matchmaker_next}
 
 module _ (history : List KeptRecord) (sent : List Letter) (states : RoleId → State) (h : Ordered history sent states) (me : RoleId) where
   one_more : (r : Record) → IsNext history me r → Each LaterOfOne (entry_by me r ∷ history)
-  one_more r next = (λ k m e. is_later history me r next k.what (subst (λ (a : RoleId). Member (entry_by a k.what) history) e m), h)
+  one_more r next = (λ k m e. later k.what (subst (λ (a : RoleId). Member {X = KeptRecord} (record { role = a; what = k.what }) history) e m), h)
+    where
+      later : (w : Written) → Member {X = KeptRecord} (record { role = me; what = w }) history → IsLaterChange (written.Record r) w
+      later (written.Record s) m = is_later history me r next s m
+      later (written.Snap first) m = tt
 
   in_order : {V : Type 0} (make : V → State) (o : Outcome V) (r : Option Record) → o.kept ≡ r → AllNext history me r
       → Lands Ordered history sent states me make o
@@ -65,6 +71,7 @@ ordered_laws c = record {
   replica = λ history sent states p v i facts h is given.
       calm history sent states h (role kind.Replica p) ReplicaIn _ tt
       (replica_kinds c (role kind.Replica p) refl (durable_of replica_rules (role kind.Replica p) history) v i);
+  snap = λ history sent states p v first facts h is e. (λ k m f. tt, h);
   unbatcher = λ history sent states u i facts h is given.
       calm history sent states h (role kind.Unbatcher u) plain _ tt (unbatcher_kinds c (role kind.Unbatcher u) refl i);
   reader = λ history sent states r v i facts h is given.

@@ -1,4 +1,13 @@
 -- Each step keeps the facts on watermarks, so they hold in every run.
+use Rattle.std.proofs.Common.{ap}
+use Rattle.cx_model.specs.Promises.{ForgottenIsKept, OfEveryRun}
+use Rattle.cx_model.specs.Replica.{ReplicaDurable, before, replica_rules}
+use Rattle.cx_inv_run.specs.Ties.{Ties}
+use Rattle.cx_inv_run.proofs.Histories.{durable_by_time, log_by_time}
+use Rattle.cx_inv_run.proofs.Steps.{always}
+use Rattle.cx_inv_run.proofs.TieLaws.{ties_hold, tied_in}
+use Rattle.cx_inv_held.proofs.Keep.{low_snap}
+use Rattle.cx_inv_held.proofs.Stores.{lists_hold, stores_hold}
 use Rattle.std.specs.Prelude.{◌≡◌, ◌⊎◌, ℕ, map, List, [], ◌∷◌, length, slice_get, Some, refl}
 use Rattle.std.proofs.Common.{zero, suc, sym, subst, inl, inr, arith}
 use Rattle.cx_base.specs.declared.cluster.Cluster.{Cluster}
@@ -14,14 +23,13 @@ use Rattle.cx_model.specs.Leader.{leader_rules}
 use Rattle.cx_model.specs.Matchmaker.{matchmaker_rules}
 use Rattle.cx_model.specs.Request.{request}
 use Rattle.cx_model.specs.World.{run}
-use Rattle.cx_inv_run.specs.Laws.{Laws, anything}
+use Rattle.cx_inv_run.specs.Laws.{Laws}
 use Rattle.cx_inv_run.specs.States.{State, Down, BatcherIn, LeaderIn, ProxyIn, ReplicaIn, ReaderIn, plain, fresh_state, durable_of, HoldsIn}
 use Rattle.cx_inv_run.proofs.Quorums.{length-below}
 use Rattle.cx_inv_run.proofs.Senders.{batcher_kinds, matchmaker_kinds, unbatcher_kinds, reader_kinds}
-use Rattle.cx_inv_run.proofs.Steps.{run_keeps, along_anything, all_allowed}
 use Rattle.cx_inv_vote.proofs.Agree.{kept_is_chosen}
 use Rattle.cx_inv_held.specs.Held.{LowState, LowFacts}
-use Rattle.cx_inv_held.specs.Laws.{WatermarksHold, KeptWatermarks}
+use Rattle.cx_inv_held.specs.Laws.{WatermarksHold, KeptWatermarks, SafeSnapshots}
 use Rattle.cx_inv_held.proofs.Acceptors.{acceptor_stored, acceptor_low}
 use Rattle.cx_inv_held.proofs.Calm.{calm_low}
 use Rattle.cx_inv_held.proofs.Chosen.{chosen_below}
@@ -63,10 +71,10 @@ start_state : (c : Cluster) (k : Kind) (s : State) → (s ≡ Down) ⊎ (s ≡ f
 start_state c k s (inl e) = subst (λ (x : State). LowState c [] x) (sym e) tt
 start_state c k s (inr e) = subst (λ (x : State). LowState c [] x) (sym e) (fresh_low c [] k)
 
-low_laws : (c : Cluster) → Laws c (λ e. Unit {0}) anything (LowFacts c)
+low_laws : (c : Cluster) → Laws c (λ e. Unit {0}) Ties (LowFacts c)
 low_laws c = record {
   same = λ kept sent states others same h. record { records = h.records; says = h.says; running = λ a. subst (λ (s : State). LowState c kept s) (same a) (h.running a) };
-  start = λ states starts. record { records = λ k m. absurd m; says = λ d m. absurd m; running = λ a. start_state c a.kind (states a) (starts a) };
+  start = λ states starts. record { records = λ who r m. absurd m; says = λ d m. absurd m; running = λ a. start_state c a.kind (states a) (starts a) };
   stop = λ kept sent states me h. low_with c kept sent states h me Down tt;
   wake = λ kept sent states me h down. low_with c kept sent states h me (fresh_state c me.kind) (fresh_low c kept me.kind);
   ask = λ kept sent states e allowed known h. record { records = h.records; says = both_low c kept sent (request e) h.says (request_low c kept e); running = h.running };
@@ -85,7 +93,8 @@ low_laws c = record {
   matchmaker = λ kept sent states m i known h is given.
       low_lands c kept sent states h (role kind.Matchmaker m) plain _
       (calm_low c kept plain (role kind.Matchmaker m) _ tt tt (matchmaker_kinds c (role kind.Matchmaker m) refl (durable_of matchmaker_rules (role kind.Matchmaker m) kept) i));
-  replica = λ kept sent states p v i known h is given. low_lands c kept sent states h (role kind.Replica p) ReplicaIn _ (replica_low c kept p v i);
+  replica = λ kept sent states p v i known h is given. low_lands c kept sent states h (role kind.Replica p) ReplicaIn _ (replica_low c kept sent states known p v i);
+  snap = λ kept sent states p v first known h is e. low_snap c kept sent states h p first;
   unbatcher = λ kept sent states u i known h is given.
       low_lands c kept sent states h (role kind.Unbatcher u) plain _ (calm_low c kept plain (role kind.Unbatcher u) _ tt tt (unbatcher_kinds c (role kind.Unbatcher u) refl i));
   reader = λ kept sent states r v i known h is given.
@@ -94,13 +103,24 @@ low_laws c = record {
 
 -- the facts hold in every run
 pub low_facts : (c : Cluster) (es : List Event) → HoldsIn (LowFacts c) (run c es)
-low_facts c es = run_keeps c (λ e. Unit {0}) anything (LowFacts c) (low_laws c) es (along_anything (run c []) es) (all_allowed (run c []) es)
+low_facts c es = always c Ties (LowFacts c) (low_laws c) (ties_hold c) es
 
 pub watermarks_hold : WatermarksHold
-watermarks_hold c es = watermark_facts c (run c es) (low_facts c es) (kept_is_chosen c es)
+watermarks_hold c es = watermark_facts c (run c es) (low_facts c es) (lists_hold low_facts c es) (kept_is_chosen c es)
 
 pub kept_watermarks : KeptWatermarks
 kept_watermarks = record {
-  chosen_below = λ c es who what cw m e s l. chosen_below c (run c es) (watermarks_hold c es) cw s ((watermarks_hold c es).records who what cw m e) l;
+  chosen_below = λ c es who what cw m e s l. chosen_below c (run c es) (lists_hold low_facts c es) (watermarks_hold c es) cw s ((watermarks_hold c es).records who what cw m e) l;
   held = λ c es who what cw m e. (watermarks_hold c es).records who what cw m e;
 }
+
+-- the replica before has kept all that a replica forgot
+forgotten_is_kept : OfEveryRun ForgottenIsKept
+forgotten_is_kept c es p within =
+    let stores = stores_hold low_facts c es in
+    let same = ap (λ (d : ReplicaDurable). d.first) (durable_by_time replica_rules (role kind.Replica p) (run c es).kept) in
+    let log = ap (λ l. length l) (log_by_time (before c (role kind.Replica p)) (run c es).kept) in
+    omega (arith, stores.forgotten p within, same, log)
+
+pub safe_snapshots : SafeSnapshots
+safe_snapshots = record { nothing_is_lost = λ c es p within. tied_in c es p; forgotten_is_kept = forgotten_is_kept }

@@ -1,75 +1,67 @@
 -- What is said of the list stays so when a record is kept; and what a row gives lands.
-use Rattle.std.proofs.Common.{◌≡◌, ℕ, List, [], ◌∷◌, ◌++◌, take, length, inl, inr, ap, sym, subst, ◌∙◌, ⊎_elim, refl, arith, append-nil}
+use Rattle.std.proofs.Common.{◌≡◌, ◌⊎◌, ℕ, true, false, List, [], ◌∷◌, ◌++◌, take, length, inl, inr, ap, sym, subst, ◌∙◌, ⊎_elim, arith, append-nil}
 use Rattle.std.specs.Prelude.{Option, None, Some}
+use Rattle.std.proofs.lemmas.Bool.{cases_Bool}
 use Rattle.std.proofs.lemmas.List.{length-append, take-append-le}
 use Rattle.cx_base.specs.declared.command.Reply.{Reply}
-use Rattle.cx_base.specs.declared.command.Value.{Value}
 use Rattle.cx_base.specs.declared.role.Kind.TheVariants as kind
 use Rattle.cx_base.specs.declared.role.RoleId.{RoleId}
 use Rattle.cx_base.specs.Fold.{fold, text_at}
-use Rattle.cx_base.specs.Role.{role}
+use Rattle.cx_base.specs.Role.{role, same_role}
 use Rattle.cx_field.specs.declared.parts.Token.{Token}
 use Rattle.cx_msg.specs.Letter.{Letter}
 use Rattle.cx_msg.specs.declared.input.KeptRecord.{KeptRecord}
+use Rattle.cx_msg.specs.declared.input.Written.TheVariants as written
 use Rattle.cx_msg.specs.declared.kept.Record.{Record}
-use Rattle.cx_msg.specs.declared.kept.Record.TheVariants as kept
 use Rattle.cx_msg.specs.declared.message.Msg.{Msg}
 use Rattle.cx_msg.specs.declared.message.Msg.TheVariants as msg
 use Rattle.cx_model.specs.CommandList.{IsRight}
 use Rattle.cx_model.specs.Member.{Member, Begins}
 use Rattle.cx_model.specs.Outcome.{Outcome}
 use Rattle.cx_model.specs.Reader.{token}
-use Rattle.cx_model.specs.Replica.{ReplicaDurable, replica_rules, replica_after}
+use Rattle.cx_model.specs.World.{values_in}
 use Rattle.cx_inv_run.specs.Laws.{Lands}
-use Rattle.cx_inv_run.specs.States.{State, Down, set_state, entry_by, with_record, durable_of}
-use Rattle.cx_inv_run.proofs.Histories.{by_role, durable_own, durable_other, set_running}
+use Rattle.cx_inv_run.specs.States.{State, Down, set_state, entry_by, snap_by, with_record, log_in}
+use Rattle.cx_inv_run.proofs.Histories.{log_other, log_own, log_snap, same_role-true, set_running}
 use Rattle.cx_inv_run.proofs.Members.{Member-cases}
-use Rattle.cx_inv_list.specs.Told.{Requests, log_in, IsNoted, IsTold, ListSays, ListKeeps, InList, ListFacts, MayKeep, IsListed}
+use Rattle.cx_inv_list.specs.Told.{Requests, IsNoted, IsTold, ListSays, ListKeeps, InList, ListFacts, MayKeep, IsListed}
 use Rattle.cx_inv_list.proofs.Right.{grown_right}
 
 -- a replica's values only grow
 
-after_begins : (d : ReplicaDurable) (r : Record) → Begins d.log (replica_after d r).log
-after_begins d (kept.Log vs) = (vs, refl)
-after_begins d (kept.Promise i) = ([], sym (append-nil d.log))
-after_begins d (kept.Vote i s cw v) = ([], sym (append-nil d.log))
-after_begins d (kept.Water i cw) = ([], sym (append-nil d.log))
-after_begins d (kept.Match i g) = ([], sym (append-nil d.log))
-after_begins d (kept.Garbage i g) = ([], sym (append-nil d.log))
-after_begins d (kept.Round i g) = ([], sym (append-nil d.log))
-
-abbrev log_by : List KeptRecord → RoleId → List Value
-log_by history a = (durable_of replica_rules a history).log
-
 pub log_grows : (me : RoleId) (r : Record) (history : List KeptRecord) (p : ℕ) → Begins (log_in history p) (log_in (entry_by me r ∷ history) p)
-log_grows me r history p =
-    by_role (λ a. Begins (log_by history a) (log_by (entry_by me r ∷ history) a)) me
-    (subst (λ (d : ReplicaDurable). Begins (log_by history me) d.log) (sym (durable_own replica_rules me r history)) (after_begins (durable_of replica_rules me history) r))
-    (λ a e. subst (λ (d : ReplicaDurable). Begins (log_by history a) d.log) (sym (durable_other replica_rules me a r history e)) ([], sym (append-nil (log_by history a))))
-    (role kind.Replica p)
+log_grows me r history p = go (cases_Bool (same_role (role kind.Replica p) me))
+  where
+    go : (same_role (role kind.Replica p) me ≡ true) ⊎ (same_role (role kind.Replica p) me ≡ false) → Begins (log_in history p) (log_in (entry_by me r ∷ history) p)
+    go (inl t) =
+        subst (λ a. Begins (log_in history p) (log_in (entry_by a r ∷ history) p)) (same_role-true (role kind.Replica p) me t)
+        (values_in (written.Record r), log_own p r history)
+    go (inr f) = ([], log_other me p r history f ∙ sym (append-nil (log_in history p)))
 
-module _ (q : Requests) (history : List KeptRecord) (me : RoleId) (r : Record) where
-  still_right : (p client seq at : ℕ) (reply : Reply) → IsRight (log_in history p) client seq at reply → IsRight (log_in (entry_by me r ∷ history) p) client seq at reply
+-- so what is said by them stays so
+
+module _ (q : Requests) (history longer : List KeptRecord) (grows : (p : ℕ) → Begins (log_in history p) (log_in longer p)) where
+  still_right : (p client seq at : ℕ) (reply : Reply) → IsRight (log_in history p) client seq at reply → IsRight (log_in longer p) client seq at reply
   still_right p client seq at reply h =
-      let more = log_grows me r history p in
+      let more = grows p in
       subst (λ vs. IsRight vs client seq at reply) (sym more.1) (grown_right (log_in history p) more.0 client seq at reply h)
 
-  still_noted : (client seq at : ℕ) (reply : Reply) → IsNoted history client seq at reply → IsNoted (entry_by me r ∷ history) client seq at reply
+  still_noted : (client seq at : ℕ) (reply : Reply) → IsNoted history client seq at reply → IsNoted longer client seq at reply
   still_noted client seq at reply (p, h) = (p, still_right p client seq at reply h)
 
-  still_told : (p : ℕ) (t : Token) (n : ℕ) (found : Option (List ℕ)) → IsTold q history p t n found → IsTold q (entry_by me r ∷ history) p t n found
+  still_told : (p : ℕ) (t : Token) (n : ℕ) (found : Option (List ℕ)) → IsTold q history p t n found → IsTold q longer p t n found
   still_told p t n found h =
-      let more = log_grows me r history p in
+      let more = grows p in
       let l = h.within in
-      let longer : length (log_in (entry_by me r ∷ history) p) ≡ length (log_in history p ++ more.0) = ap length more.1 in
+      let sum : length (log_in longer p) ≡ length (log_in history p ++ more.0) = ap length more.1 in
       record {
         key = h.key;
         wanted = h.wanted;
-        within = omega (arith, longer, length-append (log_in history p) more.0, l);
+        within = omega (arith, sum, length-append (log_in history p) more.0, l);
         found_is = h.found_is ∙ ap (λ vs. text_at h.key (fold vs)) (sym (ap (λ vs. take n vs) more.1 ∙ take-append-le n (log_in history p) more.0 l));
       }
 
-  still_says : (from to : RoleId) (m : Msg) → ListSays q history from to m → ListSays q (entry_by me r ∷ history) from to m
+  pub still_says : (from to : RoleId) (m : Msg) → ListSays q history from to m → ListSays q longer from to m
   still_says from to (msg.Submit k) h = h
   still_says from to (msg.Batch ks) h = h
   still_says from to (msg.Phase1B i cw votes) h = h
@@ -85,7 +77,7 @@ module _ (q : Requests) (history : List KeptRecord) (me : RoleId) (r : Record) w
 with_says : (q : Requests) (history : List KeptRecord) (me : RoleId) (o : Option Record) (from to : RoleId) (m : Msg)
     → ListSays q history from to m → ListSays q (with_record me o history) from to m
 with_says q history me None from to m h = h
-with_says q history me (Some r) from to m h = still_says q history me r from to m h
+with_says q history me (Some r) from to m h = still_says q history (entry_by me r ∷ history) (log_grows me r history) from to m h
 
 with_keeps : (q : Requests) (history : List KeptRecord) (me : RoleId) (o : Option Record) → MayKeep q o → ((k : KeptRecord) → Member k history → ListKeeps q k.what)
     → (k : KeptRecord) → Member k (with_record me o history) → ListKeeps q k.what
@@ -112,3 +104,16 @@ listed_lands q history sent states facts me make o h = record {
       subst (λ ds. ListFacts q (entry_by me r ∷ history) ds (set_state me Down states)) (append-nil sent)
       (list_after q history sent states facts me (Some r) [] Down (subst (λ k. MayKeep q k) e h.keeps) (λ d m. absurd m) tt);
 }
+
+-- a replica forgets values
+pub list_snapped : (q : Requests) (history : List KeptRecord) (sent : List Letter) (states : RoleId → State) → ListFacts q history sent states
+    → (me : RoleId) (first : ℕ) → ListFacts q (snap_by me first ∷ history) sent states
+list_snapped q history sent states facts me first = record {
+  keeps = kept_one;
+  says = λ d m. still_says q history (snap_by me first ∷ history) (λ p. ([], log_snap me p first history ∙ sym (append-nil (log_in history p)))) d.from d.to d.msg (facts.says d m);
+  running = facts.running;
+}
+  where
+    kept_one : (k : KeptRecord) → Member k (snap_by me first ∷ history) → ListKeeps q k.what
+    kept_one k (inl e) = subst (λ (x : KeptRecord). ListKeeps q x.what) (sym e) tt
+    kept_one k (inr m) = facts.keeps k m

@@ -15,16 +15,19 @@ use Rattle.cx_msg.specs.Letter.{Letter, letter}
 use Rattle.cx_msg.specs.declared.input.Input.{Input}
 use Rattle.cx_msg.specs.declared.input.Input.TheVariants.{Take, Tick, Order}
 use Rattle.cx_msg.specs.declared.input.KeptRecord.{KeptRecord}
+use Rattle.cx_msg.specs.declared.input.Written.{Written}
+use Rattle.cx_msg.specs.declared.input.Written.TheVariants as written
 use Rattle.cx_msg.specs.declared.kept.Record.{Record}
 use Rattle.cx_msg.specs.declared.kept.Record.TheVariants as kept
 use Rattle.cx_msg.specs.declared.message.Msg.{Msg}
 use Rattle.cx_msg.specs.declared.message.Msg.TheVariants as msg
-use Rattle.cx_model.specs.Acceptor.{AcceptorDurable, acceptor_rules, acceptor_after, acceptor_row, acceptor_takes, with_vote, votes_from, vote_at, is_of}
+use Rattle.cx_model.specs.Acceptor.{AcceptorDurable, acceptor_rules, acceptor_row, acceptor_takes, with_vote, votes_from, vote_at, is_of}
 use Rattle.cx_model.specs.Batcher.{BatcherVolatile, batcher_row, batcher_takes, send_batch}
 use Rattle.cx_model.specs.Matchmaker.{MatchmakerDurable, has_round, matchmaker_row, matchmaker_takes}
 use Rattle.cx_model.specs.Member.{Member}
 use Rattle.cx_model.specs.Names.{names}
 use Rattle.cx_model.specs.Outcome.{Outcome, answered, replied, either_way}
+use Rattle.cx_model.specs.Rules.{written_after}
 use Rattle.cx_model.specs.Unbatcher.{answer_to, unbatcher_row, unbatcher_takes}
 use Rattle.cx_inv_run.specs.States.{State, BatcherIn, plain, Given, entry_by, durable_of}
 use Rattle.cx_inv_run.proofs.Members.{Member-both, Member-one, Member-map, Member-filter}
@@ -84,16 +87,13 @@ with_vote-cases u v (w ∷ us) m =
 from_asked : (q : Requests) (low : ℕ) (votes : List Vote) → AreVotesAsked q votes → AreVotesAsked q (votes_from low votes)
 from_asked q low votes h u m = h u (Member-filter (λ (v : Vote). nat_le low v.slot) u votes m).0
 
-after_asked : (q : Requests) (d : AcceptorDurable) (r : Record) → ListKeeps q r → AreVotesAsked q d.votes → AreVotesAsked q (acceptor_after d r).votes
-after_asked q d (kept.Vote i s cw v) k h =
+after_asked : (q : Requests) (d : AcceptorDurable) (w : Written) → ListKeeps q w → AreVotesAsked q d.votes → AreVotesAsked q (written_after acceptor_rules d w).votes
+after_asked q d (written.Record (kept.Vote i s cw v)) k h =
     λ u m. ⊎_elim (λ e. subst (λ (x : Vote). AreAsked q (commands_of x.value)) (sym e) k) (from_asked q (max d.cw cw) d.votes h u)
     (with_vote-cases u (record { round = i; slot = s; value = v }) (votes_from (max d.cw cw) d.votes) m)
-after_asked q d (kept.Water i cw) k h = from_asked q (max d.cw cw) d.votes h
-after_asked q d (kept.Promise i) k h = h
-after_asked q d (kept.Match i g) k h = h
-after_asked q d (kept.Garbage i g) k h = h
-after_asked q d (kept.Round i g) k h = h
-after_asked q d (kept.Log vs) k h = h
+after_asked q d (written.Record (kept.Water i cw)) k h = from_asked q (max d.cw cw) d.votes h
+after_asked q d (written.Record other) k h = h
+after_asked q d (written.Snap first) k h = λ u m. absurd m
 
 -- what an acceptor remembers was asked for, since what it kept was
 pub votes_asked : (q : Requests) (history : List KeptRecord) (a : RoleId) → ((k : KeptRecord) → Member k history → ListKeeps q k.what)
@@ -101,7 +101,7 @@ pub votes_asked : (q : Requests) (history : List KeptRecord) (a : RoleId) → ((
 unfolding durable_of
 votes_asked q [] a h = λ u m. absurd m
 votes_asked q (k ∷ history) a h =
-    either_way (λ (d : AcceptorDurable). AreVotesAsked q d.votes) (same_role a k.role) (acceptor_after (durable_of acceptor_rules a history) k.what) (durable_of acceptor_rules a history)
+    either_way (λ (d : AcceptorDurable). AreVotesAsked q d.votes) (same_role a k.role) (written_after acceptor_rules (durable_of acceptor_rules a history) k.what) (durable_of acceptor_rules a history)
     (after_asked q (durable_of acceptor_rules a history) k.what (h k (inl refl)) (votes_asked q history a (λ x m. h x (inr m))))
     (votes_asked q history a (λ x m. h x (inr m)))
 
@@ -110,7 +110,7 @@ module _ (q : Requests) (c : Cluster) (history : List KeptRecord) (me : RoleId) 
   plain_one : (w : Why) (to : RoleId) (m : Msg) → ListSays q history me to m → IsListed q history me plain (replied w tt (letter me to m ∷ []))
   plain_one w to m h = listed_replied plain w tt (letter me to m ∷ []) tt (one_send q history me to m h)
 
-  keep_one : (w : Why) (r : Record) (to : RoleId) (m : Msg) → ListKeeps q r → ListSays q (entry_by me r ∷ history) me to m
+  keep_one : (w : Why) (r : Record) (to : RoleId) (m : Msg) → ListKeeps q (written.Record r) → ListSays q (entry_by me r ∷ history) me to m
       → IsListed q history me plain (record { why = w; kept = Some r; volatile = tt; sends = letter me to m ∷ [] })
   keep_one w r to m k h = record { state = tt; keeps = k; sends = one_send q (entry_by me r ∷ history) me to m h }
 

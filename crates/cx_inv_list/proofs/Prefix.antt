@@ -10,7 +10,8 @@ use Rattle.cx_base.specs.Log.{before_following}
 use Rattle.cx_base.specs.Role.{role}
 use Rattle.cx_grid.specs.Quorum.{member_at}
 use Rattle.cx_msg.specs.declared.input.KeptRecord.{KeptRecord}
-use Rattle.cx_msg.specs.declared.kept.Record.{Record}
+use Rattle.cx_msg.specs.declared.input.Written.{Written}
+use Rattle.cx_msg.specs.declared.input.Written.TheVariants as written
 use Rattle.cx_msg.specs.declared.kept.Record.TheVariants as kept
 use Rattle.cx_model.specs.Chosen.{is_chosen, chosen_vote, first_chosen, chosen_at, prefix_from, chosen_prefix}
 use Rattle.cx_model.specs.Member.{Member, Begins}
@@ -21,8 +22,8 @@ use Rattle.cx_inv_list.proofs.Right.{get_there}
 use Rattle.cx_inv_vote.proofs.Chosen.{chosen-true, true-chosen}
 
 -- a vote for a value in a slot, in some round with some watermark
-abbrev pub IsVoteFor : ℕ → Value → Record → Type 0
-IsVoteFor s v what = (i : Round) × (cw : ℕ) × (what ≡ kept.Vote i s cw v)
+abbrev pub IsVoteFor : ℕ → Value → Written → Type 0
+IsVoteFor s v what = (i : Round) × (cw : ℕ) × (what ≡ written.Record (kept.Vote i s cw v))
 
 abbrev HasVoteFor : List KeptRecord → ℕ → Value → Type 0
 HasVoteFor history s v = (k : KeptRecord) × Member k history × IsVoteFor s v k.what
@@ -39,17 +40,12 @@ chosen_voted history s v h =
 -- the first chosen value of a slot
 
 module _ (history : List KeptRecord) (s : ℕ) where
-  vote_true : (v : Value) (what : Record) (later : Option Value) → chosen_vote history s what later ≡ Some v → (is_chosen history s v ≡ true) ⊎ (later ≡ Some v)
-  vote_true v (kept.Vote j t cw u) later h =
+  vote_true : (v : Value) (what : Written) (later : Option Value) → chosen_vote history s what later ≡ Some v → (is_chosen history s v ≡ true) ⊎ (later ≡ Some v)
+  vote_true v (written.Record (kept.Vote j t cw u)) later h =
       by_test (λ o. o ≡ Some v → (is_chosen history s v ≡ true) ⊎ (later ≡ Some v)) ((t == s) && is_chosen history s u) (Some u) later
       (λ e q. inl (subst (λ x. is_chosen history s x ≡ true) (same_Some u v q) (and_parts (t == s) (is_chosen history s u) e).1))
       (λ e q. inr q) h
-  vote_true v (kept.Promise i) later h = inr h
-  vote_true v (kept.Water i cw) later h = inr h
-  vote_true v (kept.Match i g) later h = inr h
-  vote_true v (kept.Garbage i g) later h = inr h
-  vote_true v (kept.Round i g) later h = inr h
-  vote_true v (kept.Log vs) later h = inr h
+  vote_true v other later h = inr h
 
   first_true : (v : Value) (ks : List KeptRecord) → first_chosen history s ks ≡ Some v → is_chosen history s v ≡ true
   first_true v [] h = cc
@@ -58,16 +54,11 @@ module _ (history : List KeptRecord) (s : ℕ) where
   abbrev IsSome : Option Value → Type 0
   IsSome o = (u : Value) × (o ≡ Some u)
 
-  later_some : (what : Record) (later : Option Value) → IsSome later → IsSome (chosen_vote history s what later)
-  later_some (kept.Vote j t cw u) later h = by_test IsSome ((t == s) && is_chosen history s u) (Some u) later (λ e. (u, refl)) (λ e. h)
-  later_some (kept.Promise i) later h = h
-  later_some (kept.Water i cw) later h = h
-  later_some (kept.Match i g) later h = h
-  later_some (kept.Garbage i g) later h = h
-  later_some (kept.Round i g) later h = h
-  later_some (kept.Log vs) later h = h
+  later_some : (what : Written) (later : Option Value) → IsSome later → IsSome (chosen_vote history s what later)
+  later_some (written.Record (kept.Vote j t cw u)) later h = by_test IsSome ((t == s) && is_chosen history s u) (Some u) later (λ e. (u, refl)) (λ e. h)
+  later_some other later h = h
 
-  vote_some : (i : Round) (cw : ℕ) (v : Value) (later : Option Value) → is_chosen history s v ≡ true → IsSome (chosen_vote history s (kept.Vote i s cw v) later)
+  vote_some : (i : Round) (cw : ℕ) (v : Value) (later : Option Value) → is_chosen history s v ≡ true → IsSome (chosen_vote history s (written.Record (kept.Vote i s cw v)) later)
   vote_some i cw v later h =
       by_test IsSome ((s == s) && is_chosen history s v) (Some v) later (λ e. (v, refl))
       (λ e. absurd (both_ways ((s == s) && is_chosen history s v) e (and_from (s == s) (is_chosen history s v) (eq-eqb s s refl) h)))
@@ -87,14 +78,14 @@ module _ (history : List KeptRecord) (s : ℕ) where
 
 -- a slot that has a vote has a record of its own
 
-abbrev is_at : ℕ → Record → Bool
-is_at s (kept.Vote j t cw v) = t == s
+abbrev is_at : ℕ → Written → Bool
+is_at s (written.Record (kept.Vote j t cw v)) = t == s
 is_at s other = false
 
-at_true : (s : ℕ) (v : Value) (what : Record) → IsVoteFor s v what → is_at s what ≡ true
+at_true : (s : ℕ) (v : Value) (what : Written) → IsVoteFor s v what → is_at s what ≡ true
 at_true s v what is = subst (λ x. is_at s x ≡ true) (sym is.2) (eq-eqb s s refl)
 
-at_other : (s t : ℕ) (v : Value) (what : Record) → (s ≡ t → ⊥) → IsVoteFor s v what → is_at t what ≡ false
+at_other : (s t : ℕ) (v : Value) (what : Written) → (s ≡ t → ⊥) → IsVoteFor s v what → is_at t what ≡ false
 at_other s t v what d is = subst (λ x. is_at t x ≡ false) (sym is.2) (ne_eqb s t d)
 
 filter_one : (p : KeptRecord → Bool) (x : KeptRecord) (xs : List KeptRecord) → length (filter p (x ∷ xs)) ≤ suc (length (filter p xs))

@@ -1,8 +1,8 @@
 -- A reader asks for the key that it was asked for; a replica answers commands and reads by its own values.
-use Rattle.std.proofs.Common.{◌≡◌, ℕ, ◌+◌, ◌≤◌, not, ◌&&◌, List, [], ◌∷◌, ◌++◌, map, filter, take, length, inl, inr, ap, sym, subst, ◌∙◌, ⊎_elim, refl, arith, append-nil}
-use Rattle.std.specs.Prelude.{nat_lt, nat_le, slice_get, Option, None, Some}
+use Rattle.std.proofs.Common.{◌≡◌, ℕ, ◌+◌, ◌-◌, ◌≤◌, not, ◌&&◌, List, [], ◌∷◌, ◌++◌, map, filter, take, length, inl, inr, ap, sym, subst, ◌∙◌, ⊎_elim, refl, arith, append-nil}
+use Rattle.std.specs.Prelude.{◌==◌, max, nat_lt, nat_le, slice_get, Option, None, Some}
 use Rattle.std.specs.List.{list_any}
-use Rattle.std.proofs.lemmas.List.{take_all}
+use Rattle.std.proofs.lemmas.List.{length-append, take_all}
 use Rattle.std.proofs.lemmas.Option.{same_Some}
 use Rattle.cx_base.specs.declared.cluster.Cluster.{Cluster}
 use Rattle.cx_base.specs.declared.command.Value.{Value}
@@ -32,12 +32,13 @@ use Rattle.cx_model.specs.Outcome.{Outcome, either_way}
 use Rattle.cx_model.specs.Reader as reader
 use Rattle.cx_model.specs.Reader.{Reading, ReaderVolatile, token}
 use Rattle.cx_model.specs.Replica as replica
-use Rattle.cx_model.specs.Replica.{ReplicaDurable, ReplicaVolatile, replica_rules, machine_of}
+use Rattle.cx_model.specs.Replica.{IsTied, Machine, ReplicaDurable, ReplicaVolatile, held, machine_from, machine_of, replica_after, replica_rules}
 use Rattle.cx_model.specs.Request.{same_read}
-use Rattle.cx_inv_run.specs.States.{ReplicaIn, ReaderIn, entry_by, durable_of}
-use Rattle.cx_inv_run.proofs.Histories.{durable_own}
+use Rattle.cx_inv_run.specs.States.{ReplicaIn, ReaderIn, entry_by, durable_of, log_in}
+use Rattle.cx_inv_run.proofs.Histories.{log_own}
 use Rattle.cx_inv_run.proofs.Members.{Member-both, Member-one, Member-filter}
-use Rattle.cx_inv_list.specs.Told.{Requests, log_in, IsTold, ListSays, InList, IsListed}
+use Rattle.cx_inv_run.proofs.Tying.{held_is, tied_more}
+use Rattle.cx_inv_list.specs.Told.{Requests, IsTold, ListSays, InList, IsListed}
 use Rattle.cx_inv_list.proofs.Listed.{Sends, Heard, listed_if, listed_answered, listed_replied, one_send, each_send, both_send}
 use Rattle.cx_inv_list.proofs.Right.{are_at, log_right, results_right, map_is_fold}
 
@@ -125,25 +126,29 @@ module _ (q : Requests) (c : Cluster) (history : List KeptRecord) (me : RoleId) 
   reader_listed v h (Order order) says = listed_answered ReaderIn _ _ h
 
 -- what a replica with these values answers to a read
-told_now : (q : Requests) (history : List KeptRecord) (p : ℕ) (log : List Value) → log_in history p ≡ log → (r : Deferred) → q.wanted r.token r.key
-    → IsTold q history p r.token (length log) (text_at r.key (machine_of log).map)
-told_now q history p log e r h = record {
+told_now : (q : Requests) (history : List KeptRecord) (p : ℕ) (log : List Value) → log_in history p ≡ log → (n : ℕ) (m : Machine) → n ≡ length log → m ≡ machine_of log
+    → (r : Deferred) → q.wanted r.token r.key → IsTold q history p r.token n (text_at r.key m.map)
+told_now q history p log e n m count machine r h = record {
   key = r.key;
   wanted = h;
-  within = subst (λ vs. length log ≤ length vs) (sym e) (omega arith);
+  within = subst (λ vs. n ≤ length vs) (sym e) (omega (arith, count));
   found_is =
-      ap (λ map. text_at r.key map) (map_is_fold log)
-      ∙ ap (λ vs. text_at r.key (fold vs)) (sym (ap (λ vs. take (length log) vs) e ∙ take_all (length log) log (omega arith)));
+      ap (λ (x : Machine). text_at r.key x.map) machine
+      ∙ ap (λ map. text_at r.key map) (map_is_fold log)
+      ∙ ap (λ vs. text_at r.key (fold vs)) (sym (ap (λ vs. take n vs) e ∙ take_all n log (omega (arith, count))));
 }
 
--- a replica
+-- a replica, whose durable part is tied to all values that it kept
 
-module _ (q : Requests) (c : Cluster) (history : List KeptRecord) (p : ℕ) where
+module _ (q : Requests) (c : Cluster) (history : List KeptRecord) (p : ℕ) (tied : IsTied (durable_of replica_rules (role kind.Replica p) history) (log_in history p)) where
   abbrev me : RoleId
   me = role kind.Replica p
 
   abbrev own : ReplicaDurable
   own = durable_of replica_rules (role kind.Replica p) history
+
+  abbrev log : List Value
+  log = log_in history p
 
   abbrev ReplicaListed : Outcome ReplicaVolatile → Type 0
   ReplicaListed o = IsListed q history (role kind.Replica p) ReplicaIn o
@@ -151,56 +156,75 @@ module _ (q : Requests) (c : Cluster) (history : List KeptRecord) (p : ℕ) wher
   abbrev AreDeferred : List Deferred → Type 0
   AreDeferred rs = (r : Deferred) → Member r rs → q.wanted r.token r.key
 
+  count : held own ≡ length log
+  count = held_is own log tied
+
   module _ (v : ReplicaVolatile) (h : (r : Deferred) → Member r v.deferred → q.wanted r.token r.key) where
     module _ (values : List Value) where
       abbrev longer : List KeptRecord
       longer = entry_by (role kind.Replica p) (kept.Log values) ∷ history
 
-      log_is : log_in longer p ≡ own.log ++ values
-      log_is = ap (λ (d : ReplicaDurable). d.log) (durable_own replica_rules (role kind.Replica p) (kept.Log values) history)
+      log_is : log_in longer p ≡ log ++ values
+      log_is = log_own p (kept.Log values) history
 
-      results_listed : Sends q longer (replica.results_from c me (length own.log) (machine_of own.log) values)
+      results_listed : Sends q longer (replica.results_from c me (held own) own.machine values)
       results_listed =
-          results_right (own.log ++ values) (λ (d : Letter). ListSays q longer d.from d.to d.msg) c me
+          subst (λ n. Sends q longer (replica.results_from c me n own.machine values)) (sym count)
+          (subst (λ m. Sends q longer (replica.results_from c me (length log) m values)) (sym tied.machine)
+          (results_right (log ++ values) (λ (d : Letter). ListSays q longer d.from d.to d.msg) c me
           (λ u slot answers right. λ a m. subst (λ vs. IsRight vs a.client a.seq a.at a.reply) (sym log_is) (right a m))
-          values (length own.log) (machine_of own.log)
-          (are_at (own.log ++ values) own.log values [] (length own.log) (ap (λ vs. own.log ++ vs) (sym (append-nil values))) refl)
-          (log_right own.log values)
+          values (length log) (machine_of log)
+          (are_at (log ++ values) log values [] (length log) (ap (λ vs. log ++ vs) (sym (append-nil values))) refl)
+          (log_right log values)))
 
-      reads_listed : Sends q longer (replica.read_answers me (own.log ++ values) v.deferred)
+      abbrev held_after : ℕ
+      held_after = held own + length values
+
+      abbrev machine_after : Machine
+      machine_after = machine_from (held own) own.machine values
+
+      reads_listed : Sends q longer (replica.read_answers me held_after machine_after v.deferred)
       reads_listed =
-          each_send q longer (replica.read_answer_to me (own.log ++ values)) (filter (λ (r : Deferred). nat_le r.mark (length (own.log ++ values))) v.deferred)
-          (λ r m. told_now q longer p (own.log ++ values) log_is r (h r (Member-filter (λ (x : Deferred). nat_le x.mark (length (own.log ++ values))) r v.deferred m).0))
+          let more : IsTied (replica_after own (kept.Log values)) (log ++ values) = tied_more own log values tied in
+          let sum : held_after ≡ length (log ++ values) = omega (arith, count, length-append log values) in
+          each_send q longer (replica.read_answer_to me held_after machine_after) (filter (λ (r : Deferred). nat_le r.mark held_after) v.deferred)
+          (λ r m. told_now q longer p (log ++ values) log_is held_after machine_after sum more.machine r (h r (Member-filter (λ (x : Deferred). nat_le x.mark held_after) r v.deferred m).0))
 
       apply_listed : ReplicaListed (replica.apply c me own v values)
       apply_listed = record {
-        state = λ r m. h r (Member-filter (λ (x : Deferred). nat_lt (length own.log + length values) x.mark) r v.deferred m).0;
+        state = λ r m. h r (Member-filter (λ (x : Deferred). nat_lt held_after x.mark) r v.deferred m).0;
         keeps = tt;
-        sends = both_send q longer (replica.results_from c me (length own.log) (machine_of own.log) values) (replica.read_answers me (own.log ++ values) v.deferred) results_listed reads_listed;
+        sends = both_send q longer (replica.results_from c me (held own) own.machine values) (replica.read_answers me held_after machine_after v.deferred) results_listed reads_listed;
       }
 
     chosen_listed : (s : ℕ) (value : Value) → ReplicaListed (replica.chosen_row c me own v s value)
     chosen_listed s value =
-        listed_if (nat_lt s (length own.log)) _ _ (listed_answered ReplicaIn _ _ h)
-        (listed_if (nat_le (length own.log + 32) s) _ _ (listed_answered ReplicaIn _ _ h)
-        (listed_if (nat_lt (length own.log) s) _ _ (listed_answered ReplicaIn _ _ h)
-        (apply_listed (ready_values (length own.log) v.early value))))
+        listed_if (nat_lt s (held own)) _ _ (listed_answered ReplicaIn _ _ h)
+        (listed_if (nat_le (held own + 32) s) _ _ (listed_answered ReplicaIn _ _ h)
+        (listed_if (nat_lt (held own) s) _ _ (listed_answered ReplicaIn _ _ h)
+        (apply_listed (ready_values (held own) v.early value))))
 
     read_listed : (r : Deferred) → q.wanted r.token r.key → ReplicaListed (replica.read_row me own v r)
     read_listed r new =
-        listed_if (nat_le r.mark (length own.log)) _ _ (listed_replied ReplicaIn _ _ _ h (one_send q history me _ _ (told_now q history p own.log refl r new)))
+        listed_if (nat_le r.mark (held own)) _ _ (listed_replied ReplicaIn _ _ _ h (one_send q history me _ _ (told_now q history p log refl (held own) own.machine count tied.machine r new)))
         (listed_if (list_any (λ (other : Deferred). same_read r.token other.token) v.deferred) _ _ (listed_answered ReplicaIn _ _ h)
         (listed_if (nat_le 64 (length v.deferred)) _ _ (listed_answered ReplicaIn _ _ h)
         (listed_answered ReplicaIn _ _ (Member-both (λ (x : Deferred). q.wanted x.token x.key) v.deferred (r ∷ []) h (Member-one (λ (x : Deferred). q.wanted x.token x.key) r new)))))
 
-    fetch_listed : (from : RoleId) (s : ℕ) (o : Option Value) → ReplicaListed (replica.fetch_found me v from s o)
-    fetch_listed from s None = listed_answered ReplicaIn _ _ h
-    fetch_listed from s (Some value) = listed_replied ReplicaIn _ _ _ h (one_send q history me _ _ tt)
+    abbrev asked_by : RoleId → ℕ → ReplicaVolatile
+    asked_by from s = replica.fetched_by c me v from s
+
+    still_deferred : (from : RoleId) (s : ℕ) → AreDeferred (asked_by from s).deferred
+    still_deferred from s = either_way (λ (x : ReplicaVolatile). AreDeferred x.deferred) (from.index == replica.before c me) (record v { fetched = max v.fetched s }) v h h
+
+    fetch_listed : (from : RoleId) (s : ℕ) (o : Option Value) → ReplicaListed (replica.fetch_found me (asked_by from s) from s o)
+    fetch_listed from s None = listed_answered ReplicaIn _ _ (still_deferred from s)
+    fetch_listed from s (Some value) = listed_replied ReplicaIn _ _ _ (still_deferred from s) (one_send q history me _ _ tt)
 
     replica_takes_listed : (from to : RoleId) (m : Msg) → ListSays q history from to m → ReplicaListed (replica.replica_takes c me own v from m)
     replica_takes_listed from to (msg.Chosen s value) says = chosen_listed s value
     replica_takes_listed from to (msg.Read t n key) says = read_listed (record { token = t; mark = n; key = key }) says
-    replica_takes_listed from to (msg.Fetch s) says = fetch_listed from s (slice_get own.log s)
+    replica_takes_listed from to (msg.Fetch s) says = listed_if (nat_lt s own.first) _ _ (listed_answered ReplicaIn _ _ (still_deferred from s)) (fetch_listed from s (slice_get own.log (s - own.first)))
     replica_takes_listed from to other says = listed_answered ReplicaIn _ _ h
 
     fetches_listed : (held : ℕ) → Sends q history (replica.fetch_to c me held)
@@ -210,8 +234,8 @@ module _ (q : Requests) (c : Cluster) (history : List KeptRecord) (p : ℕ) wher
     replica_tick_listed : ReplicaListed (replica.replica_tick c me own v)
     replica_tick_listed =
         listed_replied ReplicaIn _ _ _ h
-        (both_send q history (map (replica.held_to me (length own.log)) (below c.leaders)) (replica.fetch_to c me (length own.log))
-        (each_send q history (replica.held_to me (length own.log)) (below c.leaders) (λ l m. tt)) (fetches_listed (length own.log)))
+        (both_send q history (map (replica.held_to me (held own)) (below c.leaders)) (replica.fetch_to c me (held own))
+        (each_send q history (replica.held_to me (held own)) (below c.leaders) (λ l m. tt)) (fetches_listed (held own)))
 
     pub replica_listed : (i : Input) → Heard q history i → IsListed q history (role kind.Replica p) ReplicaIn (replica.replica_row c (role kind.Replica p) (durable_of replica_rules (role kind.Replica p) history) v i)
     replica_listed (Take l) says = listed_if (same_role l.to me && names c l) _ _ (replica_takes_listed l.from l.to l.msg says) (listed_answered ReplicaIn _ _ h)

@@ -21,12 +21,14 @@ use Rattle.cx_model.specs.Member.{Member}
 use Rattle.cx_model.specs.Reader.{token}
 use Rattle.cx_model.specs.Request.{request}
 use Rattle.cx_model.specs.World.{World, change, step, run_from, run}
-use Rattle.cx_inv_run.specs.Laws.{Laws, anything, AllAllowed}
+use Rattle.cx_inv_run.specs.Laws.{Laws, AllAllowed}
 use Rattle.cx_inv_run.specs.States.{State, Down, BatcherIn, LeaderIn, ProxyIn, ReplicaIn, ReaderIn, plain, fresh_state, set_state, durable_of, HoldsIn}
+use Rattle.cx_inv_run.specs.Ties.{Ties}
 use Rattle.cx_inv_run.proofs.Members.{Member-first, Member-second, Member-cases}
-use Rattle.cx_inv_run.proofs.Steps.{run_keeps, along_anything}
+use Rattle.cx_inv_run.proofs.Steps.{along, run_keeps}
+use Rattle.cx_inv_run.proofs.TieLaws.{ties_hold}
 use Rattle.cx_inv_list.specs.Told.{Requests, ListSays, InList, ListFacts}
-use Rattle.cx_inv_list.proofs.Keep.{list_after, listed_lands}
+use Rattle.cx_inv_list.proofs.Keep.{list_after, list_snapped, listed_lands}
 use Rattle.cx_inv_list.proofs.Leaders.{leader_listed, proxy_listed}
 use Rattle.cx_inv_list.proofs.Listed.{heard, one_send, votes_asked, acceptor_listed, matchmaker_listed, batcher_listed, unbatcher_listed}
 use Rattle.cx_inv_list.proofs.Replicas.{reader_listed, replica_listed}
@@ -44,6 +46,7 @@ request_says q history (event.Read client seq floor reader replica key) h =
 request_says q history (event.Deliver n cut) h = λ d m. absurd m
 request_says q history (event.Tick r) h = λ d m. absurd m
 request_says q history (event.Order l order cut) h = λ d m. absurd m
+request_says q history (event.Snap p cut) h = λ d m. absurd m
 request_says q history (event.Crash r) h = λ d m. absurd m
 request_says q history (event.Restart r) h = λ d m. absurd m
 
@@ -68,7 +71,7 @@ running_in : (q : Requests) (history : List KeptRecord) (sent : List Letter) (st
     → (me : RoleId) (s : State) → states me ≡ s → InList q s
 running_in q history sent states facts me s e = subst (λ x. InList q x) e (facts.running me)
 
-pub list_laws : (q : Requests) (c : Cluster) → Laws c (IsAllowed q) anything (ListFacts q)
+pub list_laws : (q : Requests) (c : Cluster) → Laws c (IsAllowed q) Ties (ListFacts q)
 list_laws q c = record {
   same = λ history sent states others e facts. record {
     keeps = facts.keeps;
@@ -106,7 +109,8 @@ list_laws q c = record {
       (matchmaker_listed q c history (role kind.Matchmaker m) (durable_of matchmaker_rules (role kind.Matchmaker m) history) i);
   replica = λ history sent states p v i known facts e given.
       listed_lands q history sent states facts (role kind.Replica p) ReplicaIn _
-      (replica_listed q c history p v (running_in q history sent states facts (role kind.Replica p) (ReplicaIn v) e) i (heard q history sent facts.says (role kind.Replica p) i given));
+      (replica_listed q c history p (known.tied p) v (running_in q history sent states facts (role kind.Replica p) (ReplicaIn v) e) i (heard q history sent facts.says (role kind.Replica p) i given));
+  snap = λ history sent states p v first known facts is e. list_snapped q history sent states facts (role kind.Replica p) first;
   unbatcher = λ history sent states u i known facts e given.
       listed_lands q history sent states facts (role kind.Unbatcher u) plain _
       (unbatcher_listed q c history (role kind.Unbatcher u) i (heard q history sent facts.says (role kind.Unbatcher u) i given));
@@ -150,6 +154,7 @@ allowed_by events (event.Read client seq floor reader replica key) m = (floor, r
 allowed_by events (event.Deliver n cut) m = tt
 allowed_by events (event.Tick r) m = tt
 allowed_by events (event.Order l order cut) m = tt
+allowed_by events (event.Snap p cut) m = tt
 allowed_by events (event.Crash r) m = tt
 allowed_by events (event.Restart r) m = tt
 
@@ -163,5 +168,5 @@ all_allowed_by w (e ∷ es) = (
 -- every run has it, by its own events
 pub run_listed : (c : Cluster) (es : List Event) → HoldsIn (ListFacts (requests_in (run c es).events)) (run c es)
 run_listed c es =
-    run_keeps c (IsAllowed (requests_in (run c es).events)) anything (ListFacts (requests_in (run c es).events)) (list_laws (requests_in (run c es).events) c) es
-    (along_anything (run c []) es) (all_allowed_by (run c []) es)
+    run_keeps c (IsAllowed (requests_in (run c es).events)) Ties (ListFacts (requests_in (run c es).events)) (list_laws (requests_in (run c es).events) c) es
+    (along c Ties (ties_hold c) [] es) (all_allowed_by (run c []) es)

@@ -5,15 +5,14 @@ use Rattle.cx_base.specs.declared.command.Answered.{Answered}
 use Rattle.cx_base.specs.declared.command.Command.{Command}
 use Rattle.cx_base.specs.declared.command.Placed.{Placed}
 use Rattle.cx_base.specs.declared.command.Reply.{Reply}
-use Rattle.cx_base.specs.declared.command.Value.{Value}
-use Rattle.cx_base.specs.declared.role.Kind.TheVariants as kind
 use Rattle.cx_base.specs.declared.role.RoleId.{RoleId}
 use Rattle.cx_base.specs.Fold.{commands_of, fold, text_at}
-use Rattle.cx_base.specs.Role.{role}
 use Rattle.cx_field.specs.declared.parts.Token.{Token}
 use Rattle.cx_field.specs.declared.parts.Vote.{Vote}
 use Rattle.cx_msg.specs.Letter.{Letter}
 use Rattle.cx_msg.specs.declared.input.KeptRecord.{KeptRecord}
+use Rattle.cx_msg.specs.declared.input.Written.{Written}
+use Rattle.cx_msg.specs.declared.input.Written.TheVariants as written
 use Rattle.cx_msg.specs.declared.kept.Record.{Record}
 use Rattle.cx_msg.specs.declared.kept.Record.TheVariants as kept
 use Rattle.cx_msg.specs.declared.message.Msg.{Msg}
@@ -25,8 +24,7 @@ use Rattle.cx_model.specs.CommandList.{IsRight}
 use Rattle.cx_model.specs.Member.{Member}
 use Rattle.cx_model.specs.Outcome.{Outcome}
 use Rattle.cx_model.specs.Reader.{Reading, token}
-use Rattle.cx_model.specs.Replica.{replica_rules}
-use Rattle.cx_inv_run.specs.States.{State, Down, Plain, BatcherIn, LeaderIn, ProxyIn, ReplicaIn, ReaderIn, with_record, durable_of}
+use Rattle.cx_inv_run.specs.States.{State, Down, Plain, BatcherIn, LeaderIn, ProxyIn, ReplicaIn, ReaderIn, with_record, log_in}
 
 -- What may be said of the commands that were asked for, and of the keys of the reads that were.
 pub record Requests : Type 1 where
@@ -39,10 +37,6 @@ AreAsked q commands = (k : Command) → Member k commands → q.asked k
 
 abbrev pub AreVotesAsked : Requests → List Vote → Type 0
 AreVotesAsked q votes = (u : Vote) → Member u votes → AreAsked q (commands_of u.value)
-
--- the values that a replica kept
-abbrev pub log_in : List KeptRecord → ℕ → List Value
-log_in history p = (durable_of replica_rules (role kind.Replica p) history).log
 
 -- an answer is right by the values that some replica kept
 abbrev pub IsNoted : List KeptRecord → ℕ → ℕ → ℕ → Reply → Type 0
@@ -69,8 +63,8 @@ ListSays q history from to (msg.ReadAnswer seq n found) = IsTold q history from.
 ListSays q history from to other = Unit {0}
 
 -- a vote's commands were asked for
-abbrev pub ListKeeps : Requests → Record → Type 0
-ListKeeps q (kept.Vote i s cw v) = AreAsked q (commands_of v)
+abbrev pub ListKeeps : Requests → Written → Type 0
+ListKeeps q (written.Record (kept.Vote i s cw v)) = AreAsked q (commands_of v)
 ListKeeps q other = Unit {0}
 
 abbrev pub InList : Requests → State → Type 0
@@ -91,7 +85,7 @@ pub record ListFacts (q : Requests) (history : List KeptRecord) (sent : List Let
 
 abbrev pub MayKeep : Requests → Option Record → Type 0
 MayKeep q None = Unit {0}
-MayKeep q (Some r) = ListKeeps q r
+MayKeep q (Some r) = ListKeeps q (written.Record r)
 
 -- what a row gives
 pub record IsListed {V : Type 0} (q : Requests) (history : List KeptRecord) (me : RoleId) (make : V → State) (o : Outcome V) : Type 0 where

@@ -9,7 +9,7 @@ use Rattle.cx_base.specs.declared.role.Kind.TheVariants as kind
 use Rattle.cx_base.specs.declared.role.RoleId.{RoleId}
 use Rattle.cx_base.specs.declared.round.Round.{Round}
 use Rattle.cx_base.specs.Grid.{Shape}
-use Rattle.cx_base.specs.Role.{role}
+use Rattle.cx_base.specs.Role.{role, same_role}
 use Rattle.cx_base.specs.Round.{is_before}
 use Rattle.cx_field.specs.declared.parts.Entry.{Entry}
 use Rattle.cx_field.specs.declared.parts.Vote.{Vote}
@@ -23,16 +23,16 @@ use Rattle.cx_model.specs.Leader.{leader_rules, leader_after}
 use Rattle.cx_model.specs.Matchmaker.{matchmaker_rules, matchmaker_after, entry, entries_from}
 use Rattle.cx_model.specs.Member.{Member}
 use Rattle.cx_model.specs.Promises.{HasKept, IsConfig}
-use Rattle.cx_model.specs.Replica.{replica_rules}
-use Rattle.cx_inv_run.specs.States.{State, Down, set_state, entry_by, durable_of}
-use Rattle.cx_inv_run.proofs.Histories.{kept_cases, kept_else}
+use Rattle.cx_model.specs.Lists.{bool_cases}
+use Rattle.cx_inv_run.specs.States.{State, Down, set_state, entry_by, durable_of, log_in}
+use Rattle.cx_inv_run.proofs.Histories.{kept_cases, kept_else, log_other, log_own, same_role-true}
 use Rattle.cx_inv_run.proofs.Members.{Member-cases, Member-first, Member-second}
 use Rattle.cx_inv_run.proofs.Rounds.{before-trans, before-itself, itself-not_before, before-not, before-from_at_most, before-to_at_least, at_most-trans, before-both}
 use Rattle.cx_inv_match.specs.Words.{HasMatch, HasGarbage, HasLog, HasMark, HasPromise, IsPast, IsChosen, AreChosen, IsCollected}
 use Rattle.cx_inv_match.specs.Facts.{IsAcceptor, IsLog, IsLast, Facts}
 use Rattle.cx_inv_match.proofs.Grow.{Grows, grown_config, grown_collected, grown_chosen_somewhere}
 use Rattle.cx_inv_match.proofs.Parts.{put-itself, put-cases, put-older, from-member, from-there, entries-member, entries-there, with-member, with-older, with-itself, get-cases}
-use Rattle.cx_inv_match.proofs.Keep.{IsVoteRecord, IsWaterRecord, old_matches, old_garbages, old_votes, old_marks, more_mark, more_low, kept_facts, new_last, new_logs, new_acceptors, new_logged, old_owner, old_one_grid, old_last, old_asked, old_garbaged, old_logs, old_acceptors, old_voted, old_logged}
+use Rattle.cx_inv_match.proofs.Keep.{IsVoteRecord, IsWaterRecord, old_matches, old_garbages, old_votes, old_marks, more_mark, more_low, kept_facts, new_last, new_logs, new_acceptors, old_owner, old_one_grid, old_last, old_asked, old_garbaged, old_logs, old_acceptors, old_voted, old_logged}
 
 abbrev no : ⊥ → ⊥
 no x = x
@@ -447,17 +447,34 @@ chosen_at history first (v ∷ new) chosen (suc k) u x =
     subst (λ s. IsChosen history s u) (omega arith) (chosen_at history (first + 1) new chosen.1 k u x)
 
 module _ (c : Cluster) (history : List KeptRecord) (sent : List Letter) (states : RoleId → State) (facts : Facts c history sent states)
-    (me : RoleId) (new : List Value) (chosen : AreChosen history (length (durable_of replica_rules me history).log) new) where
-  pub grows_log : Grows history sent (entry_by me (kept.Log new) ∷ history) sent
+    (p : ℕ) (new : List Value) (chosen : AreChosen history (length (log_in history p)) new) where
+  abbrev me : RoleId
+  me = role kind.Replica p
+
+  abbrev longer : List KeptRecord
+  longer = entry_by me (kept.Log new) ∷ history
+
+  pub grows_log : Grows history sent longer sent
   grows_log = grows_else history sent me (kept.Log new) no no (λ m k j h l x y. old_matches me (kept.Log new) history no m j h y)
 
-  log_own : (s : ℕ) (u : Value) → slice_get ((durable_of replica_rules me history).log ++ new) s ≡ Some u → IsChosen (entry_by me (kept.Log new) ∷ history) s u
-  log_own s u x =
-      grown_chosen_somewhere c history sent (entry_by me (kept.Log new) ∷ history) sent grows_log s u
+  own_value : (s : ℕ) (u : Value) → slice_get (log_in history p ++ new) s ≡ Some u → IsChosen longer s u
+  own_value s u x =
+      grown_chosen_somewhere c history sent longer sent grows_log s u
       (⊎_elim
-      (λ o. facts.logged me s u o)
-      (λ r. subst (λ t. IsChosen history t u) (sym r.1) (chosen_at history (length (durable_of replica_rules me history).log) new chosen r.0 u r.2))
-      (get-cases (durable_of replica_rules me history).log new s u x))
+      (λ o. facts.logged p s u o)
+      (λ r. subst (λ t. IsChosen history t u) (sym r.1) (chosen_at history (length (log_in history p)) new chosen r.0 u r.2))
+      (get-cases (log_in history p) new s u x))
+
+  each_value : (q s : ℕ) (u : Value) → slice_get (log_in longer q) s ≡ Some u → IsChosen longer s u
+  each_value q s u x = go (bool_cases (same_role (role kind.Replica q) me))
+    where
+      go : (same_role (role kind.Replica q) me ≡ true) ⊎ (same_role (role kind.Replica q) me ≡ false) → IsChosen longer s u
+      go (inl t) =
+          let one : q ≡ p = ap (λ (a : RoleId). a.index) (same_role-true (role kind.Replica q) me t) in
+          own_value s u (subst (λ l. slice_get l s ≡ Some u) (log_own p (kept.Log new) history) (subst (λ (k : ℕ). slice_get (log_in longer k) s ≡ Some u) one x))
+      go (inr f) =
+          grown_chosen_somewhere c history sent longer sent grows_log s u
+          (facts.logged q s u (subst (λ l. slice_get l s ≡ Some u) (log_other me q (kept.Log new) history f) x))
 
   pub keep_log : Facts c (entry_by me (kept.Log new) ∷ history) sent (set_state me Down states)
   keep_log = kept_facts c history sent states facts me (kept.Log new) grows_log
@@ -469,7 +486,7 @@ module _ (c : Cluster) (history : List KeptRecord) (sent : List Letter) (states 
       (old_logs c history sent states facts me (kept.Log new) grows_log no no refl)
       (old_acceptors c history sent states facts me (kept.Log new) grows_log no no no refl)
       (old_voted c history sent states facts me (kept.Log new) grows_log no)
-      (new_logged c history sent states facts me (kept.Log new) grows_log log_own)
+      each_value
 
 -- a round
 

@@ -31,8 +31,7 @@ use Rattle.cx_model.specs.Matchmaker.{MatchmakerDurable, matchmaker_rules, entry
 use Rattle.cx_model.specs.Member.{Member}
 use Rattle.cx_model.specs.Promises.{HasKept, IsConfig}
 use Rattle.cx_model.specs.Reader.{ReaderVolatile, Reading, is_matched}
-use Rattle.cx_model.specs.Replica.{replica_rules}
-use Rattle.cx_inv_run.specs.States.{State, Down, Plain, BatcherIn, LeaderIn, ProxyIn, ReplicaIn, ReaderIn, durable_of}
+use Rattle.cx_inv_run.specs.States.{State, Down, Plain, BatcherIn, LeaderIn, ProxyIn, ReplicaIn, ReaderIn, durable_of, log_in}
 use Rattle.cx_inv_match.specs.Words.{HasMatch, HasGarbage, HasMark, HasPromise, HasLow, IsChosenIn, IsChosen, IsMatched, IsSafe, IsCollected, IsAnswer, IsPromise}
 
 -- What each kind of datagram says of the history. A kind that isn't named says nothing here.
@@ -174,7 +173,7 @@ pub record Facts (c : Cluster) (history : List KeptRecord) (sent : List Letter) 
   pub voted : (a : RoleId) (i : Round) (s : ℕ) (v : Value) → HasVoted history a i s v → IsProposed sent i s v
   pub one_value : (i : Round) (s : ℕ) (u v : Value) → IsProposed sent i s u → IsProposed sent i s v → u ≡ v
   -- each value that a replica kept is chosen in its slot
-  pub logged : (p : RoleId) (s : ℕ) (v : Value) → slice_get (durable_of replica_rules p history).log s ≡ Some v → IsChosen history s v
+  pub logged : (p s : ℕ) (v : Value) → slice_get (log_in history p) s ≡ Some v → IsChosen history s v
   -- each datagram says what is so
   pub says : (d : Letter) → Member d sent → Says c history sent d.from d.msg
   -- and so does what a running role knows

@@ -54,17 +54,17 @@ module _ (c : Cluster) (me : RoleId) (d : AcceptorDurable) (votes : (u : Vote) �
   takes_fine from (msg.Phase1A i) asks named =
       by_test Fine (is_before i d.promise) _ _ (λ t. (tt, one_in _ tt))
       (λ high. by_test Fine (same_round i d.promise) _ _ (λ t. (tt, one_in _ votes))
-      (λ new. (rw (named, is_after i d.promise high new) refl, one_in _ votes)))
+      (λ new. ((rw (named, is_after i d.promise high new) refl, refl), one_in _ votes)))
   takes_fine from (msg.Phase2A i s cw v) asks named =
       let a = and_parts (names_round c i) (names_value c v) named in
       by_test Fine (is_before i d.promise) _ _ (λ t. (tt, one_in _ tt))
       (λ high. by_test Fine (nat_lt s d.cw) _ _ (λ t. (tt, none_in))
       (λ from_cw. by_test Fine (is_of i (vote_at s d.votes)) _ _ (λ t. (tt, one_in _ tt))
-      (λ new. (rw (a.0, a.1, high, not_below s d.cw from_cw, asks, new) refl, one_in _ tt))))
+      (λ new. ((rw (a.0, a.1, high, not_below s d.cw from_cw, asks, new) refl, refl), one_in _ tt))))
   takes_fine from (msg.Inform i cw) asks named =
       by_test Fine (is_before i d.promise) _ _ (λ t. (tt, one_in _ tt))
       (λ high. by_test Fine (same_round i d.promise && nat_le cw d.cw) _ _ (λ t. (tt, one_in _ tt))
-      (λ new. (rw (named, high) (is_new i d.promise cw d.cw high new), one_in _ tt)))
+      (λ new. ((rw (named, high) (is_new i d.promise cw d.cw high new), refl), one_in _ tt)))
   takes_fine from (msg.PreRead t w) asks named = (tt, one_in _ tt)
   takes_fine from other asks named = (tt, none_in)
 

@@ -12,6 +12,8 @@ use Rattle.cx_base.specs.declared.round.Round.{Round}
 use Rattle.cx_base.specs.Role.{same_role}
 use Rattle.cx_msg.specs.Letter.{Letter}
 use Rattle.cx_msg.specs.declared.input.KeptRecord.{KeptRecord}
+use Rattle.cx_msg.specs.declared.input.Written.{Written}
+use Rattle.cx_msg.specs.declared.input.Written.TheVariants as written
 use Rattle.cx_msg.specs.declared.kept.Record.{Record}
 use Rattle.cx_msg.specs.declared.kept.Record.TheVariants as kept
 use Rattle.cx_msg.specs.declared.message.Msg.{Msg}
@@ -62,7 +64,7 @@ calm_in me o calm kinds d m = calm_says me.kind calm d.msg (kinds.sends d m).1
 
 -- a record that the rules allow; none of a kind that keeps none
 pub new_fits : {D V : Type 0} (rules : Rules D V) (c : Cluster) (history : List KeptRecord) (me : RoleId)
-    → ((r : Record) → rules.fits c me (durable_of rules me history) r ≡ true → FitsAs c me r history me.kind)
+    → ((r : Record) → IsFit rules c me (durable_of rules me history) (Some r) → FitsAs c me (written.Record r) history me.kind)
     → (o : Option Record) → IsFit rules c me (durable_of rules me history) o → NewFits c history me o
 new_fits rules c history me allows None fit = tt
 new_fits rules c history me allows (Some r) fit = allows r fit
@@ -94,8 +96,8 @@ module _ (c : Cluster) (kept : List KeptRecord) (sent : List Letter) (states : R
 
 -- each vote that was kept lies in its window
 
-abbrev VoteInWindow : Record → Type 0
-VoteInWindow (kept.Vote i s cw v) = s < cw + 32
+abbrev VoteInWindow : Written → Type 0
+VoteInWindow (written.Record (kept.Vote i s cw v)) = s < cw + 32
 VoteInWindow other = Unit {0}
 
 is_below : (n k : ℕ) (a b e : Bool) → ((a && (b && nat_lt n k)) && e) ≡ true → n < k
@@ -103,12 +105,12 @@ is_below n k a b e h =
     let t = (and_parts b (nat_lt n k) (and_parts a (b && nat_lt n k) (and_parts (a && (b && nat_lt n k)) e h).0).1).1 in
     grind (arith, nat_tests)
 
-vote_fits : (c : Cluster) (me : RoleId) (r : Record) (history : List KeptRecord) (k : Kind) → FitsAs c me r history k → VoteInWindow r
-vote_fits c me (kept.Vote i s cw v) history kind.Acceptor h = is_below s (cw + 32) _ _ _ h
-vote_fits c me (kept.Vote i s cw v) history kind.Leader h = cc
-vote_fits c me (kept.Vote i s cw v) history kind.Matchmaker h = cc
-vote_fits c me (kept.Vote i s cw v) history kind.Replica h = cc
-vote_fits c me (kept.Vote i s cw v) history other h = absurd h
+vote_fits : (c : Cluster) (me : RoleId) (w : Written) (history : List KeptRecord) (k : Kind) → FitsAs c me w history k → VoteInWindow w
+vote_fits c me (written.Record (kept.Vote i s cw v)) history kind.Acceptor h = is_below s (cw + 32) _ _ _ h.0
+vote_fits c me (written.Record (kept.Vote i s cw v)) history kind.Leader h = let no = h.0 in cc
+vote_fits c me (written.Record (kept.Vote i s cw v)) history kind.Matchmaker h = let no = h.0 in cc
+vote_fits c me (written.Record (kept.Vote i s cw v)) history kind.Replica h = let no = h.0 in cc
+vote_fits c me (written.Record (kept.Vote i s cw v)) history other h = absurd h
 vote_fits c me other history k h = tt
 
 votes_fit : (c : Cluster) (ks : List KeptRecord) → AllFit c ks → (k : KeptRecord) → Member k ks → VoteInWindow k.what

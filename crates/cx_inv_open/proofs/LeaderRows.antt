@@ -111,7 +111,7 @@ module _ (c : Cluster) (me : RoleId) (d : LeaderDurable) (place : me.index < c.l
   module _ (v : LeaderVolatile) (h : IsNext v.next v.cw) where
     begin_good : (g : Shape) (o : Option Round) → ((i : Round) → o ≡ Some i → leader_fits c me d (kept.Round i g) ≡ true) → Good (begin_in c me v g o)
     begin_good g None fits = calm why.End v h
-    begin_good g (Some i) fits = λ low. record { keeps = fits i refl; next = h; sends = match_in i g }
+    begin_good g (Some i) fits = λ low. record { keeps = (fits i refl, refl); next = h; sends = match_in i g }
 
     -- the end of the first phase
     finish_good : (own : Entry) → AllReported v.promises → Good (finish c me own v)

@@ -19,9 +19,8 @@ use Rattle.cx_model.specs.declared.states.Mode.{Mode}
 use Rattle.cx_model.specs.declared.states.Mode.TheVariants.{Idle, Matching, Phase1, Leading}
 use Rattle.cx_model.specs.Leader.{LeaderDurable, LeaderVolatile, leader_rules, is_idle, is_matching, is_leading, is_changed, leader_row}
 use Rattle.cx_model.specs.Member.{Member}
-use Rattle.cx_model.specs.Replica.{replica_rules}
 use Rattle.cx_inv_run.specs.Laws.{Lands}
-use Rattle.cx_inv_run.specs.States.{State, Given, LeaderIn, durable_of}
+use Rattle.cx_inv_run.specs.States.{State, Given, LeaderIn, durable_of, log_in}
 use Rattle.cx_inv_run.proofs.Members.{filter-passes}
 use Rattle.cx_inv_match.specs.Facts.{Facts, InMode, InState, IsLast}
 use Rattle.cx_inv_vote.proofs.Agree.{chosen_proposed}
@@ -62,8 +61,8 @@ module _ (c : Cluster) (history : List KeptRecord) (sent : List Letter) (states 
   -- each watermark is below the end of slots, since replicas hold as many
   held_few : (p : ℕ) → slots_held history p ≤ 1099511627776
   held_few p =
-      no_longer 1099511627776 (durable_of replica_rules (role kind.Replica p) history).log
-      (λ s v e. let chosen = facts.logged (role kind.Replica p) s v e in
+      no_longer 1099511627776 (log_in history p)
+      (λ s v e. let chosen = facts.logged p s v e in
       proposed_slot c history sent states fitting chosen.0 s v (chosen_proposed c history sent states facts chosen.0 s v chosen.1))
 
   stored_few : (n : ℕ) → IsStored c history n → n ≤ 1099511627776

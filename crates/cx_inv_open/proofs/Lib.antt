@@ -9,3 +9,5 @@ pub mod Proxies
 pub mod Refused
 pub mod Replicas
 pub mod Steps
+pub mod Renewable
+pub mod Told

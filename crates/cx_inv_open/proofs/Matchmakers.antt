@@ -51,10 +51,10 @@ module _ (c : Cluster) (me : RoleId) (d : MatchmakerDurable) where
       (λ high. by_test Fine (list_any (λ (e : Entry). is_before i e.round) d.entries) _ _ (λ t. tt)
       (λ last. by_test Fine (has_round i d.entries) _ _ (λ t. tt)
       (λ new. by_test Fine (nat_le 16 (length d.entries)) _ _ (λ t. tt)
-      (λ room. rw (a.0, a.1, high, all_before i d.entries last new, has_room (length d.entries) room) refl))))
+      (λ room. (rw (a.0, a.1, high, all_before i d.entries last new, has_room (length d.entries) room) refl, refl)))))
   takes_fine from (msg.GarbageA i g) named =
       let a = and_parts (names_round c i) (names_grid c g) named in
-      by_test Fine (is_before d.watermark i) _ _ (λ low. rw (a.0, a.1, low) refl) (λ f. tt)
+      by_test Fine (is_before d.watermark i) _ _ (λ low. (rw (a.0, a.1, low) refl, refl)) (λ f. tt)
   takes_fine from (msg.MatchRead t) named = tt
   takes_fine from other named = tt
 

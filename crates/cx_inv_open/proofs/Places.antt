@@ -15,7 +15,7 @@ use Rattle.cx_base.specs.Role.{role}
 use Rattle.cx_field.specs.declared.parts.Token.{Token}
 use Rattle.cx_msg.specs.Letter.{Letter}
 use Rattle.cx_msg.specs.declared.input.Act.{Act}
-use Rattle.cx_msg.specs.declared.input.Act.TheVariants.{Give, Stop, Wake}
+use Rattle.cx_msg.specs.declared.input.Act.TheVariants.{Give, Snap, Stop, Wake}
 use Rattle.cx_msg.specs.declared.input.Input.TheVariants as input
 use Rattle.cx_msg.specs.declared.input.KeptRecord.{KeptRecord}
 use Rattle.cx_model.specs.Leader.{LeaderVolatile, leader_rules}
@@ -53,6 +53,7 @@ changed w (event.Read client seq floor reader replica key) = asked w (event.Read
 changed w (event.Deliver n cut) = came w cut (slice_get w.sent n)
 changed w (event.Tick r) = acted w.cluster w.roles w.kept (Give input.Tick Whole) r r.kind
 changed w (event.Order l order cut) = acted w.cluster w.roles w.kept (Give (input.Order order) cut) (role kind.Leader l) kind.Leader
+changed w (event.Snap p cut) = acted w.cluster w.roles w.kept (Snap cut) (role kind.Replica p) kind.Replica
 changed w (event.Crash r) = acted w.cluster w.roles w.kept Stop r r.kind
 changed w (event.Restart r) = acted w.cluster w.roles w.kept Wake r r.kind
 

@@ -1,5 +1,5 @@
 -- A replica keeps values that name clients of the cluster, in slots below 2^40.
-use Rattle.std.specs.Prelude.{◌≡◌, ℕ, zero, suc, ◌+◌, ◌-◌, ◌≤◌, ◌&&◌, min, true, false, nat_lt, nat_le, List, length, slice_get, Option, None, Some, refl}
+use Rattle.std.specs.Prelude.{◌≡◌, ℕ, zero, suc, ◌+◌, ◌-◌, ◌≤◌, ◌==◌, ◌&&◌, min, max, true, false, nat_lt, nat_le, List, ◌∷◌, length, slice_get, Option, None, Some, refl}
 use Rattle.std.specs.List.{list_all, list_any}
 use Rattle.std.proofs.Common.{subst, sym, inl, inr, arith}
 use Rattle.std.proofs.lemmas.Bool.{and_parts, and_from}
@@ -15,23 +15,28 @@ use Rattle.cx_msg.specs.Letter.{Letter, letter}
 use Rattle.cx_msg.specs.declared.input.Input.{Input}
 use Rattle.cx_msg.specs.declared.input.Input.TheVariants as input
 use Rattle.cx_msg.specs.declared.input.KeptRecord.{KeptRecord}
+use Rattle.cx_msg.specs.declared.kept.Record.TheVariants as kept
 use Rattle.cx_msg.specs.declared.message.Msg.{Msg}
 use Rattle.cx_msg.specs.declared.message.Msg.TheVariants as msg
 use Rattle.cx_model.specs.declared.states.Deferred.{Deferred}
 use Rattle.cx_model.specs.Member.{Member}
 use Rattle.cx_model.specs.Names.{names, names_body, names_role, names_value}
 use Rattle.cx_model.specs.Outcome.{Outcome, by_test, either_way}
-use Rattle.cx_model.specs.Replica.{ReplicaDurable, ReplicaVolatile, replica_rules, replica_row, replica_takes, fetch_found, with_early}
+use Rattle.cx_model.specs.Replica.{ReplicaDurable, ReplicaVolatile, before, held, is_whole, replica_renewed, replica_rules, replica_row, replica_takes, fetched_by, fetch_found, with_early}
 use Rattle.cx_model.specs.Request.{same_read}
-use Rattle.cx_model.specs.Rules.{IsFit}
+use Rattle.cx_model.specs.Renewed.{renewed_fits}
+use Rattle.cx_model.specs.Rules.{IsFit, refused}
 use Rattle.cx_inv_run.specs.Laws.{Lands}
-use Rattle.cx_inv_run.specs.States.{State, Given, ReplicaIn, durable_of}
+use Rattle.cx_inv_run.specs.States.{State, Given, ReplicaIn, snap_by, durable_of, log_in}
+use Rattle.cx_inv_run.specs.Ties.{Ties}
 use Rattle.cx_inv_run.proofs.Senders.{replica_kinds}
+use Rattle.cx_inv_run.proofs.Tying.{mark_held, snap_is}
 use Rattle.cx_inv_match.specs.Facts.{Facts}
 use Rattle.cx_inv_vote.proofs.Agree.{chosen_proposed}
 use Rattle.cx_inv_vote.proofs.Replicas.{waits_found, still_early-older, with_early-cases}
-use Rattle.cx_inv_open.specs.Fits.{AreNamed, InRange, IsSlot, Fitting}
+use Rattle.cx_inv_open.specs.Fits.{AreNamed, InRange, IsSlot, Fitting, are_told}
 use Rattle.cx_inv_open.proofs.Keep.{calm_in, new_fits, lands, proposed_slot}
+use Rattle.cx_inv_open.proofs.Renewable.{logged_named, renewable, tied_ordered}
 
 abbrev AllNamed : Cluster → List Value → Type 0
 AllNamed c vs = list_all (λ (v : Value). names_value c v) vs ≡ true
@@ -71,18 +76,18 @@ abbrev HasSlot : Msg → Type 0
 HasSlot (msg.Chosen s v) = IsSlot s
 HasSlot other = Unit {0}
 
-module _ (c : Cluster) (me : RoleId) (d : ReplicaDurable) (v : ReplicaVolatile) (h : AreNamed c v.early) where
+module _ (c : Cluster) (me : RoleId) (d : ReplicaDurable) (v : ReplicaVolatile) (h : AreNamed c v.early) (whole : is_whole d ≡ true) where
   abbrev Fine : Outcome ReplicaVolatile → Type 0
   Fine o = IsFit replica_rules c me d o.kept × AreNamed c o.volatile.early
 
   chosen_fine : (from : RoleId) (s : ℕ) (w : Value) → IsSlot s → names_value c w ≡ true → Fine (replica_takes c me d v from (msg.Chosen s w))
   chosen_fine from s w slot named =
-      by_test Fine (nat_lt s (length d.log)) _ _ (λ t. (tt, h))
-      (λ low. by_test Fine (nat_le (length d.log + 32) s) _ _ (λ t. (tt, h))
-      (λ near. by_test Fine (nat_lt (length d.log) s) _ _ (λ t. (tt, early_named))
+      by_test Fine (nat_lt s (held d)) _ _ (λ t. (tt, h))
+      (λ low. by_test Fine (nat_le (held d + 32) s) _ _ (λ t. (tt, h))
+      (λ near. by_test Fine (nat_lt (held d) s) _ _ (λ t. (tt, early_named))
       (λ high. (
-        fits (subst IsSlot (same_slot s (length d.log) low high) slot),
-        λ p m. h p (still_early-older (length d.log + length (ready_values (length d.log) v.early w)) v.early p m),
+        fits (subst IsSlot (same_slot s (held d) low high) slot),
+        λ p m. h p (still_early-older (held d + length (ready_values (held d) v.early w)) v.early p m),
       ))))
     where
       early_named : AreNamed c (with_early s w v.early (value_for s v.early))
@@ -91,30 +96,38 @@ module _ (c : Cluster) (me : RoleId) (d : ReplicaDurable) (v : ReplicaVolatile) 
         | inr e ↦ subst (λ (x : Placed). names_value c x.value ≡ true) (sym e) named
       ]
 
-      fits : IsSlot (length d.log) → (list_all (λ (x : Value). names_value c x) (ready_values (length d.log) v.early w)
-          && nat_le (length d.log + length (ready_values (length d.log) v.early w)) 1099511627776) ≡ true
-      fits here =
+      fitting : IsSlot (held d) → (is_whole d && list_all (λ (x : Value). names_value c x) (ready_values (held d) v.early w)
+          && nat_le (held d + length (ready_values (held d) v.early w)) 1099511627776) ≡ true
+      fitting here =
           and_from _ _
-          (and_from (names_value c w) _ named (following_named c v.early h (length d.log + 1) (min 31 (1099511627776 - (length d.log + 1)))))
-          (ready_short (length d.log) v.early w here)
+          (and_from _ _ whole (and_from (names_value c w) _ named (following_named c v.early h (held d + 1) (min 31 (1099511627776 - (held d + 1))))))
+          (ready_short (held d) v.early w here)
+
+      fits : IsSlot (held d) → IsFit replica_rules c me d (Some (kept.Log (ready_values (held d) v.early w)))
+      fits here = (fitting here, whole)
 
   read_fine : (from : RoleId) (r : Deferred) → Fine (replica_takes c me d v from (msg.Read r.token r.mark r.key))
   read_fine from r =
-      either_way Fine (nat_le r.mark (length d.log)) _ _ (tt, h)
+      either_way Fine (nat_le r.mark (held d)) _ _ (tt, h)
       (either_way Fine (list_any (λ (other : Deferred). same_read r.token other.token) v.deferred) _ _ (tt, h)
       (either_way Fine (nat_le 64 (length v.deferred)) _ _ (tt, h) (tt, h)))
 
-  fetch_fine : (from : RoleId) (s : ℕ) (o : Option Value) → Fine (fetch_found me v from s o)
-  fetch_fine from s None = (tt, h)
-  fetch_fine from s (Some value) = (tt, h)
+  asked_named : (from : RoleId) (s : ℕ) → AreNamed c (fetched_by c me v from s).early
+  asked_named from s =
+      either_way (λ (x : ReplicaVolatile). AreNamed c x.early) (from.index == before c me) (record v { fetched = max v.fetched s }) v h h
+
+  fetch_fine : (from : RoleId) (s : ℕ) (o : Option Value) → Fine (fetch_found me (fetched_by c me v from s) from s o)
+  fetch_fine from s None = (tt, asked_named from s)
+  fetch_fine from s (Some value) = (tt, asked_named from s)
 
   takes_fine : (from : RoleId) (m : Msg) → HasSlot m → names_body c m ≡ true → Fine (replica_takes c me d v from m)
   takes_fine from (msg.Chosen s value) slot named = chosen_fine from s value slot named
   takes_fine from (msg.Read t n key) slot named = read_fine from (record { token = t; mark = n; key = key })
-  takes_fine from (msg.Fetch s) slot named = fetch_fine from s (slice_get d.log s)
+  takes_fine from (msg.Fetch s) slot named =
+      either_way Fine (nat_lt s d.first) _ _ (tt, asked_named from s) (fetch_fine from s (slice_get d.log (s - d.first)))
   takes_fine from other slot named = (tt, h)
 
-module _ (c : Cluster) (history : List KeptRecord) (sent : List Letter) (states : RoleId → State) (facts : Facts c history sent states) (h : Fitting c history sent states) where
+module _ (c : Cluster) (history : List KeptRecord) (sent : List Letter) (states : RoleId → State) (facts : Facts c history sent states) (ties : Ties history sent states) (h : Fitting c history sent states) where
   has_slot : (from to : RoleId) (m : Msg) → Member (letter from to m) sent → HasSlot m
   has_slot from to (msg.Chosen s v) x = let chosen = facts.says _ x in proposed_slot c history sent states h chosen.0 s v (chosen_proposed c history sent states facts chosen.0 s v chosen.1)
   has_slot from to other x = tt
@@ -134,11 +147,35 @@ module _ (c : Cluster) (history : List KeptRecord) (sent : List Letter) (states 
       named : AreNamed c v.early
       named = subst (λ (s : State). InRange c s) is (h.running me)
 
-      row_fine : (i : Input) → Given sent me i → Fine c me d v named (replica_row c me d v i)
+      whole : is_whole d ≡ true
+      whole = (ties.tied p).whole
+
+      row_fine : (i : Input) → Given sent me i → Fine c me d v named whole (replica_row c me d v i)
       row_fine (input.Take x) given =
-          by_test (Fine c me d v named) (same_role x.to me && names c x) _ _
+          by_test (Fine c me d v named whole) (same_role x.to me && names c x) _ _
           (λ t. let a = and_parts (same_role x.to me) (names c x) t in
-          takes_fine c me d v named x.from x.msg (has_slot x.from x.to x.msg given.1) (and_parts (names_role c x.from && names_role c x.to) (names_body c x.msg) a.1).1)
+          takes_fine c me d v named whole x.from x.msg (has_slot x.from x.to x.msg given.1) (and_parts (names_role c x.from && names_role c x.to) (names_body c x.msg) a.1).1)
           (λ f. (tt, named))
       row_fine input.Tick given = (tt, named)
       row_fine (input.Order order) given = (tt, named)
+
+  -- a replica forgets values: it opens from the renewed list
+  pub snapped : (p : ℕ) (v : ReplicaVolatile) (first : ℕ)
+      → replica_rules.snap c (role kind.Replica p) (durable_of replica_rules (role kind.Replica p) history) v ≡ Some first
+      → Fitting c (snap_by (role kind.Replica p) first ∷ history) sent states
+  snapped p v first e = record { fit = (opens, h.fit); says = h.says; running = h.running }
+    where
+      me : RoleId
+      me = role kind.Replica p
+
+      d : ReplicaDurable
+      d = durable_of replica_rules me history
+
+      opens : are_told (log_in history p) ≡ true → refused replica_rules c me (replica_renewed d first) ≡ None
+      opens told =
+          let tied = ties.tied p in
+          let is = snap_is c me d v first e in
+          let above = is.1 in
+          let from : d.first ≤ first = omega (arith, above) in
+          let most : first ≤ held d = subst (λ n. n ≤ held d) (sym is.0) (mark_held c d v) in
+          renewed_fits d first from (tied_ordered d (log_in history p) tied) c me most (renewable c d (log_in history p) tied (logged_named c history h.fit p) told)

@@ -15,7 +15,9 @@ use Rattle.cx_inv_run.specs.Laws.{Laws}
 use Rattle.cx_inv_run.specs.States.{State, Down, BatcherIn, LeaderIn, ReaderIn, plain, fresh_state, Property, HoldsIn}
 use Rattle.cx_inv_run.proofs.Senders.{batcher_kinds, unbatcher_kinds, reader_kinds}
 use Rattle.cx_inv_run.proofs.Sends.{batcher_keeps, unbatcher_keeps, reader_keeps}
+use Rattle.cx_inv_run.specs.Ties.{Ties}
 use Rattle.cx_inv_run.proofs.Steps.{always}
+use Rattle.cx_inv_run.proofs.TieLaws.{ties_hold}
 use Rattle.cx_inv_match.specs.Facts.{Facts}
 use Rattle.cx_inv_vote.proofs.Steps.{facts_hold}
 use Rattle.cx_inv_held.specs.Held.{LowFacts}
@@ -29,15 +31,16 @@ use Rattle.cx_inv_open.proofs.Matchmakers.{matchmaker_lands}
 use Rattle.cx_inv_open.proofs.Places.{leader_place}
 use Rattle.cx_inv_open.proofs.Proxies.{proxy_lands}
 use Rattle.cx_inv_open.proofs.Refused.{none_refused}
-use Rattle.cx_inv_open.proofs.Replicas.{replica_lands}
+use Rattle.cx_inv_open.proofs.Replicas.{replica_lands, snapped}
+use Rattle.cx_inv_open.proofs.Told.{run_told}
 
 -- what is known of every moment
 abbrev Known : Cluster → Property
 Known c kept sent states =
-    Facts c kept sent states × LowFacts c kept sent states × ((l : ℕ) (v : LeaderVolatile) → states (role kind.Leader l) ≡ LeaderIn v → l < c.leaders)
+    Facts c kept sent states × LowFacts c kept sent states × Ties kept sent states × ((l : ℕ) (v : LeaderVolatile) → states (role kind.Leader l) ≡ LeaderIn v → l < c.leaders)
 
 known : (c : Cluster) (es : List Event) → HoldsIn (Known c) (run c es)
-known c es = (facts_hold c es, low_facts c es, leader_place c es)
+known c es = (facts_hold c es, low_facts c es, ties_hold c es, leader_place c es)
 
 fresh_range : (c : Cluster) (k : Kind) → InRange c (fresh_state c k)
 fresh_range c kind.Leader = (omega arith, omega arith)
@@ -65,11 +68,12 @@ fitting_laws c = record {
       let kinds = batcher_kinds c me refl v i in
       lands c kept sent states h me BatcherIn _ (none_new c kept me (λ r k. batcher_keeps r k) _ kinds.keeps) tt (calm_in me _ tt kinds);
   leader = λ kept sent states l v i known h is given.
-      leader_lands c kept sent states known.0 known.1 h l v (known.2 l v is) is i given;
+      leader_lands c kept sent states known.0 known.1 h l v (known.3 l v is) is i given;
   proxy = λ kept sent states p v i known h is given. proxy_lands c kept sent states known.0 h p v i is given;
   acceptor = λ kept sent states a i known h is given. acceptor_lands c kept sent states known.0 h a i given;
   matchmaker = λ kept sent states m i known h is given. matchmaker_lands c kept sent states h m i;
-  replica = λ kept sent states p v i known h is given. replica_lands c kept sent states known.0 h p v i is given;
+  replica = λ kept sent states p v i known h is given. replica_lands c kept sent states known.0 known.2 h p v i is given;
+  snap = λ kept sent states p v first known h is e. snapped c kept sent states known.0 known.2 h p v first e;
   unbatcher = λ kept sent states u i known h is given.
       let me = role kind.Unbatcher u in
       let kinds = unbatcher_kinds c me refl i in
@@ -84,4 +88,4 @@ pub fitting : (c : Cluster) (es : List Event) → HoldsIn (Fitting c) (run c es)
 fitting c es = always c (Known c) (Fitting c) (fitting_laws c) (known c) es
 
 pub roles_reopen : OfEveryRun RolesReopen
-roles_reopen c es me = none_refused c (run c es).kept (fitting c es).fit me
+roles_reopen c es me valid = none_refused c (run c es).kept (fitting c es).fit me (λ is. run_told c es (valid is) me.index)

@@ -1,14 +1,21 @@
--- What is so of records at a moment, whose newest record is first: each is one that its role could have appended after the earlier ones. And what
+-- What is so of changes of stores at a moment, the newest first: each is one that its role could have made after the earlier ones. And what
 -- datagrams and running roles must say for that.
-use Rattle.std.specs.Prelude.{◌≡◌, ℕ, ◌+◌, ◌<◌, ◌≤◌, true, List, [], ◌∷◌, Option, None, Some}
+use Rattle.std.specs.Prelude.{◌≡◌, ℕ, ◌+◌, ◌<◌, ◌≤◌, Bool, true, List, [], ◌∷◌, Option, None, Some}
+use Rattle.std.specs.List.{list_all}
 use Rattle.cx_base.specs.declared.cluster.Cluster.{Cluster}
+use Rattle.cx_base.specs.declared.command.Command.{Command}
 use Rattle.cx_base.specs.declared.command.Placed.{Placed}
+use Rattle.cx_base.specs.declared.command.Value.{Value}
 use Rattle.cx_base.specs.declared.role.Kind.{Kind}
 use Rattle.cx_base.specs.declared.role.Kind.TheVariants as kind
 use Rattle.cx_base.specs.declared.role.RoleId.{RoleId}
+use Rattle.cx_base.specs.Asked.{floor_fits}
+use Rattle.cx_base.specs.Fold.{commands_of}
 use Rattle.cx_field.specs.declared.parts.Vote.{Vote}
 use Rattle.cx_msg.specs.Letter.{Letter}
 use Rattle.cx_msg.specs.declared.input.KeptRecord.{KeptRecord}
+use Rattle.cx_msg.specs.declared.input.Written.{Written}
+use Rattle.cx_msg.specs.declared.input.Written.TheVariants as written
 use Rattle.cx_msg.specs.declared.kept.Record.{Record}
 use Rattle.cx_msg.specs.declared.message.Msg.{Msg}
 use Rattle.cx_msg.specs.declared.message.Msg.TheVariants as msg
@@ -18,20 +25,28 @@ use Rattle.cx_model.specs.Matchmaker.{matchmaker_rules}
 use Rattle.cx_model.specs.Member.{Member}
 use Rattle.cx_model.specs.Names.{names_value}
 use Rattle.cx_model.specs.Replica.{replica_rules}
-use Rattle.cx_inv_run.specs.States.{State, LeaderIn, ReplicaIn, durable_of}
+use Rattle.cx_model.specs.Rules.{IsFit, refused}
+use Rattle.cx_inv_run.specs.States.{State, LeaderIn, ReplicaIn, durable_of, log_in}
 
--- a role of this kind, with these records, could have appended this one
-abbrev pub FitsAs : Cluster → RoleId → Record → List KeptRecord → Kind → Type 0
-FitsAs c me r history kind.Leader = leader_rules.fits c me (durable_of leader_rules me history) r ≡ true
-FitsAs c me r history kind.Acceptor = acceptor_rules.fits c me (durable_of acceptor_rules me history) r ≡ true
-FitsAs c me r history kind.Matchmaker = matchmaker_rules.fits c me (durable_of matchmaker_rules me history) r ≡ true
-FitsAs c me r history kind.Replica = replica_rules.fits c me (durable_of replica_rules me history) r ≡ true
-FitsAs c me r history other = ⊥
+-- whether each command of these values tells a floor that fits its number
+abbrev pub are_told : List Value → Bool
+are_told values = list_all (λ (v : Value). list_all (λ (k : Command). floor_fits k.seq k.floor) (commands_of v)) values
 
--- the same of a new record, if there is one, and of each record with the earlier ones
+-- A role of this kind, with these changes before, could have appended this record, and its list may end with it; or the replica opens from the
+-- renewed list, if the floors that it was told fit.
+abbrev pub FitsAs : Cluster → RoleId → Written → List KeptRecord → Kind → Type 0
+FitsAs c me (written.Record r) history kind.Leader = IsFit leader_rules c me (durable_of leader_rules me history) (Some r)
+FitsAs c me (written.Record r) history kind.Acceptor = IsFit acceptor_rules c me (durable_of acceptor_rules me history) (Some r)
+FitsAs c me (written.Record r) history kind.Matchmaker = IsFit matchmaker_rules c me (durable_of matchmaker_rules me history) (Some r)
+FitsAs c me (written.Record r) history kind.Replica = IsFit replica_rules c me (durable_of replica_rules me history) (Some r)
+FitsAs c me (written.Snap first) history kind.Replica =
+    are_told (log_in history me.index) ≡ true → refused replica_rules c me (replica_rules.renewed (durable_of replica_rules me history) first) ≡ None
+FitsAs c me what history other = ⊥
+
+-- the same of a new record, if there is one, and of each change with the earlier ones
 abbrev pub NewFits : Cluster → List KeptRecord → RoleId → Option Record → Type 0
 NewFits c history me None = Unit {0}
-NewFits c history me (Some r) = FitsAs c me r history me.kind
+NewFits c history me (Some r) = FitsAs c me (written.Record r) history me.kind
 
 abbrev pub AllFit : Cluster → List KeptRecord → Type 0
 AllFit c [] = Unit {0}

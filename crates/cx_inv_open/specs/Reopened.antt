@@ -1,10 +1,13 @@
 -- What is promised of a role that is opened again. Nothing of it is proved here.
-use Rattle.std.specs.Prelude.{◌≡◌, ℕ, List, Option, None}
+use Rattle.std.specs.Prelude.{◌≡◌, ℕ, true, List, [], Option, None}
+use Rattle.std.specs.List.{list_all}
 use Rattle.cx_base.specs.declared.cluster.Cluster.{Cluster}
 use Rattle.cx_base.specs.declared.event.Event.{Event}
 use Rattle.cx_base.specs.declared.role.Kind.{Kind}
 use Rattle.cx_base.specs.declared.role.Kind.TheVariants as kind
 use Rattle.cx_base.specs.declared.role.RoleId.{RoleId}
+use Rattle.cx_base.specs.Asked.{is_valid_event}
+use Rattle.cx_msg.specs.declared.input.KeptRecord.{KeptRecord}
 use Rattle.cx_msg.specs.declared.kept.Record.{Record}
 use Rattle.cx_model.specs.Acceptor.{acceptor_rules}
 use Rattle.cx_model.specs.Batcher.{batcher_rules}
@@ -15,7 +18,7 @@ use Rattle.cx_model.specs.Reader.{reader_rules}
 use Rattle.cx_model.specs.Replica.{replica_rules}
 use Rattle.cx_model.specs.Rules.{refused}
 use Rattle.cx_model.specs.Unbatcher.{unbatcher_rules}
-use Rattle.cx_model.specs.World.{run, records_of}
+use Rattle.cx_model.specs.World.{list_of, run}
 
 -- the place of the first record that a role of this kind could not have appended; a client has none
 abbrev pub refused_as : Cluster → RoleId → List Record → Kind → Option ℕ
@@ -29,6 +32,21 @@ refused_as c me records kind.Replica = refused replica_rules c me records
 refused_as c me records kind.Unbatcher = refused unbatcher_rules c me records
 refused_as c me records kind.Reader = refused reader_rules c me records
 
--- Each role can be opened again from the records that it kept: it refuses none of them.
+-- the list in the store of a role of this kind
+abbrev pub stored_as : RoleId → List KeptRecord → Kind → List Record
+stored_as me kept kind.Client = []
+stored_as me kept kind.Batcher = list_of batcher_rules me kept
+stored_as me kept kind.Leader = list_of leader_rules me kept
+stored_as me kept kind.Proxy = list_of proxy_rules me kept
+stored_as me kept kind.Acceptor = list_of acceptor_rules me kept
+stored_as me kept kind.Matchmaker = list_of matchmaker_rules me kept
+stored_as me kept kind.Replica = list_of replica_rules me kept
+stored_as me kept kind.Unbatcher = list_of unbatcher_rules me kept
+stored_as me kept kind.Reader = list_of reader_rules me kept
+
+-- Each role can be opened again from the list in its store: it refuses none of its records. Of a replica it is said of events that the world takes:
+-- a request that tells a floor more than 64 below its number, which the world takes none of, would leave a note that no renewed list can have.
 abbrev pub RolesReopen : Cluster → List Event → Type 0
-RolesReopen c es = (me : RoleId) → refused_as c me (records_of me (run c es).kept) me.kind ≡ None
+RolesReopen c es =
+    (me : RoleId) → (me.kind ≡ kind.Replica → list_all is_valid_event es ≡ true)
+    → refused_as c me (stored_as me (run c es).kept me.kind) me.kind ≡ None

@@ -1,14 +1,14 @@
-//! Opening again: a role refuses none of the records that it kept.
+//! Opening again: a role refuses no record of its store.
 //!
 //! A role that is opened tests each record of its store, since a store may be another role's. Its
-//! theorem is `roles_reopen_law`: in every run no role refuses a record that it kept, so that each
-//! can be opened again at any moment.
+//! theorem is `roles_reopen_law`: in every run no role refuses a record of the list in its store, also
+//! where that was renewed, so that each can be opened again at any moment.
 #![tactic(auto)]
 
 ghost use Rattle.cx_model.specs.Promises.{OfEveryRun};
 ghost use Rattle.cx_inv_open.specs.Reopened.{RolesReopen};
 
-/// Each role can be opened again from the records that it kept.
+/// Each role can be opened again from the list in its store.
 pub fn roles_reopen_law()
     ensures { OfEveryRun RolesReopen }
 {}

@@ -19,7 +19,7 @@ use Rattle.cx_model.specs.Leader.{leader_rules}
 use Rattle.cx_model.specs.Request.{request}
 use Rattle.cx_model.specs.World.{World, change, step, run, run_from}
 use Rattle.cx_inv_run.specs.Laws.{Laws, HoldsAlong}
-use Rattle.cx_inv_run.specs.States.{State, Down, BatcherIn, LeaderIn, ProxyIn, plain, fresh_state, states_of, durable_of, HoldsIn}
+use Rattle.cx_inv_run.specs.States.{State, Down, BatcherIn, LeaderIn, ProxyIn, plain, fresh_state, states_of, snap_by, durable_of, HoldsIn}
 use Rattle.cx_inv_run.proofs.Histories.{set_running}
 use Rattle.cx_inv_run.proofs.KindLaws.{kinds_hold}
 use Rattle.cx_inv_run.proofs.Members.{Member-first, Member-one, Member-reverse, Member-turned}
@@ -29,7 +29,7 @@ use Rattle.cx_inv_run.proofs.Steps.{run_keeps, run_from_keeps, run_append, run_c
 use Rattle.cx_inv_match.specs.Facts.{Facts}
 use Rattle.cx_inv_vote.proofs.Steps.{facts_hold}
 use Rattle.cx_inv_read.specs.Reads.{Has, HasSent, ReadSays, InReader, Reads, IsElse, Unread}
-use Rattle.cx_inv_read.proofs.Keep.{Since, lands, no_acks, sent_more}
+use Rattle.cx_inv_read.proofs.Keep.{Since, lands, no_acks, sent_more, still_evidence, still_says}
 use Rattle.cx_inv_read.proofs.Rows.{Each}
 use Rattle.cx_inv_read.proofs.Says.{Known}
 use Rattle.cx_inv_read.proofs.Readers.{reader_lands}
@@ -59,8 +59,20 @@ requested P submit read (event.Read client seq floor reader replica key) = Membe
 requested P submit read (event.Deliver n cut) = λ d m. absurd m
 requested P submit read (event.Tick r) = λ d m. absurd m
 requested P submit read (event.Order l order cut) = λ d m. absurd m
+requested P submit read (event.Snap p cut) = λ d m. absurd m
 requested P submit read (event.Crash r) = λ d m. absurd m
 requested P submit read (event.Restart r) = λ d m. absurd m
+
+-- the same facts, with more changes of stores
+more_changes : (c : Cluster) (asked : List KeptRecord) (sent0 : List Letter) (t : Token) (history longer : List KeptRecord) → Has longer history
+    → (sent : List Letter) (states : RoleId → State) → Has longer asked → Reads c asked sent0 t history sent states → Reads c asked sent0 t longer sent states
+more_changes c asked sent0 t history longer more sent states has reads = record {
+  has = has;
+  has_sent = reads.has_sent;
+  says = λ d m. still_says history longer more asked t d.from d.to d.msg (reads.says d m);
+  evidence = λ w. still_evidence history longer more c asked sent0 t sent w (reads.evidence w);
+  readers = reads.readers;
+}
 
 -- the same facts, with other states of readers
 with_states : (c : Cluster) (asked : List KeptRecord) (sent0 : List Letter) (t : Token) (history : List KeptRecord) (sent : List Letter) (states others : RoleId → State)
@@ -121,6 +133,8 @@ module _ (c : Cluster) (asked : List KeptRecord) (sent0 : List Letter) (states0 
     acceptor = λ history sent states a i known h up given. acceptor_lands c asked sent0 states0 facts0 t history sent states known.0 (h known.1 known.2) a i given;
     matchmaker = λ history sent states m i known h up given. matchmaker_lands c asked sent0 states0 facts0 t history sent states known.0 (h known.1 known.2) m i;
     replica = λ history sent states p v i known h up given. replica_lands c asked sent0 states0 facts0 t history sent states known.0 (h known.1 known.2) p v i up given;
+    snap = λ history sent states p v first known h up e has has_sent.
+        more_changes c asked sent0 t history (snap_by (role kind.Replica p) first ∷ history) (λ k x. inr x) sent states has (h known.1 known.2);
     unbatcher = λ history sent states u i known h up given.
         let kinds = unbatcher_kinds c (role kind.Unbatcher u) refl i in
         lands c asked sent0 t history sent states known.0.1 (h known.1 known.2) (role kind.Unbatcher u) plain _

@@ -57,7 +57,7 @@ module _ (history longer : List KeptRecord) (more : Has longer history) where
   still_says asked t from to (msg.ReadAnswer seq n found) h = h
   still_says asked t from to other h = tt
 
-  still_evidence : (c : Cluster) (asked : List KeptRecord) (sent0 : List Letter) (t : Token) (sent : List Letter) (w : Round) → HasEvidence c asked sent0 t history sent w
+  pub still_evidence : (c : Cluster) (asked : List KeptRecord) (sent0 : List Letter) (t : Token) (sent : List Letter) (w : Round) → HasEvidence c asked sent0 t history sent w
       → HasEvidence c asked sent0 t longer sent w
   still_evidence c asked sent0 t sent w (inl e) = inl e
   still_evidence c asked sent0 t sent w (inr (inl x)) = inr (inl x)

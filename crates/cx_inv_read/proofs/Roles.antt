@@ -1,7 +1,6 @@
 -- Each row of an acceptor, of a matchmaker and of a replica keeps the facts on a read.
-use Rattle.std.proofs.Common.{◌≡◌, ℕ, ◌≤◌, ◌&&◌, max, List, [], length, inl, inr, sym, subst, ◌∙◌, refl, arith}
+use Rattle.std.proofs.Common.{◌≡◌, ℕ, ◌≤◌, ◌&&◌, max, List, [], inl, inr, sym, subst, ◌∙◌, refl, arith}
 use Rattle.cx_base.specs.declared.cluster.Cluster.{Cluster}
-use Rattle.cx_base.specs.declared.command.Value.{Value}
 use Rattle.cx_base.specs.declared.role.Kind.TheVariants as kind
 use Rattle.cx_base.specs.declared.role.RoleId.{RoleId}
 use Rattle.cx_base.specs.declared.round.Round.{Round}
@@ -20,7 +19,7 @@ use Rattle.cx_model.specs.Matchmaker.{matchmaker_rules, matchmaker_row}
 use Rattle.cx_model.specs.Member.{Member}
 use Rattle.cx_model.specs.Names.{names}
 use Rattle.cx_model.specs.Outcome.{Outcome, either_way}
-use Rattle.cx_model.specs.Replica.{ReplicaDurable, ReplicaVolatile, replica_rules, read_answer_to, replica_row}
+use Rattle.cx_model.specs.Replica.{Machine, ReplicaDurable, ReplicaVolatile, held, replica_rules, read_answer_to, replica_row}
 use Rattle.cx_inv_run.specs.Laws.{Lands}
 use Rattle.cx_inv_run.specs.States.{State, ReplicaIn, plain, Given, durable_of}
 use Rattle.cx_inv_run.proofs.Senders.{matchmaker_kinds, replica_kinds}
@@ -128,15 +127,15 @@ module _ (c : Cluster) (asked : List KeptRecord) (sent0 : List Letter) (states0 
 
   -- a replica
 
-  answer_says : (me : RoleId) (log : List Value) (r : Deferred) → (r.token ≡ t → IsAbove asked r.mark) → r.mark ≤ length log → Says (read_answer_to me log r)
-  answer_says me log r h l = λ p q. above_more asked r.mark (length log) l (h (one_token r.token t p q))
+  answer_says : (me : RoleId) (n : ℕ) (machine : Machine) (r : Deferred) → (r.token ≡ t → IsAbove asked r.mark) → r.mark ≤ n → Says (read_answer_to me n machine r)
+  answer_says me n machine r h l = λ p q. above_more asked r.mark n l (h (one_token r.token t p q))
 
   replica_says : (me : RoleId) (d : ReplicaDurable) (v : ReplicaVolatile) → ReplicaWasTold sent me v → (i : Input) → Given sent me i → Each Says (replica_row c me d v i).sends
   replica_says me d v waits (input.Take l) given =
       either_way SaysAll (same_role l.to me && names c l) _ _
       (replica_tells Says c me (plain_says asked t history me) d v l.from
-      (λ log r m. let x = waits.deferred r m in answer_says me log r (reads.says _ x.1)) l.msg
-      (λ r e. answer_says me d.log r (subst (λ m. ReadSays asked t history l.from l.to m) e (reads.says l given.1)))) nothing
+      (λ n machine r m. let x = waits.deferred r m in answer_says me n machine r (reads.says _ x.1)) l.msg
+      (λ r e. answer_says me (held d) d.machine r (subst (λ m. ReadSays asked t history l.from l.to m) e (reads.says l given.1)))) nothing
   replica_says me d v waits input.Tick given = replica_ticks Says c me (plain_says asked t history me) d v
   replica_says me d v waits (input.Order order) given = nothing
 

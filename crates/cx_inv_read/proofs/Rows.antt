@@ -1,5 +1,5 @@
 -- What the rows of the roles that take part in reads send: what is true of their other datagrams, and of each step of a read, is true of all.
-use Rattle.std.proofs.Common.{◌≡◌, ℕ, ◌+◌, ◌≤◌, true, false, not, ◌&&◌, max, map, filter, ◌⊎◌, List, [], ◌∷◌, ◌++◌, length, Option, None, Some, inl, inr, ap, sym, subst, ◌∙◌, refl}
+use Rattle.std.proofs.Common.{◌≡◌, ℕ, ◌+◌, ◌-◌, ◌≤◌, true, false, not, ◌&&◌, max, map, filter, ◌⊎◌, List, [], ◌∷◌, ◌++◌, length, Option, None, Some, inl, inr, ap, sym, subst, ◌∙◌, refl}
 use Rattle.std.specs.Prelude.{◌==◌, ◌%◌, nat_lt, nat_le, slice_get}
 use Rattle.std.specs.List.{list_any}
 use Rattle.std.proofs.lemmas.Bool.{and_parts, not-false, leb-true}
@@ -25,7 +25,7 @@ use Rattle.cx_model.specs.Matchmaker.{MatchmakerDurable, has_round, matchmaker_t
 use Rattle.cx_model.specs.Member.{Member}
 use Rattle.cx_model.specs.Outcome.{Outcome, either_way, by_test}
 use Rattle.cx_model.specs.Reader.{ReaderVolatile, Reading, reading_of, with_reading, without_reading, is_matched, acked_by, has_acked, greatest_mark, match_read_to, pre_read_to, read_to, ask_matchmakers, read_req_over, read_req_row, send_read, read_matched, match_ack_row, pre_read_ack_row}
-use Rattle.cx_model.specs.Replica.{ReplicaDurable, ReplicaVolatile, Machine, execute_value, machine_of, results_at, results_from, read_answer_to, read_answers, fetch_found, replica_takes, held_to, fetch_to, replica_tick}
+use Rattle.cx_model.specs.Replica.{ReplicaDurable, ReplicaVolatile, Machine, held, execute_value, machine_from, results_at, results_from, read_answer_to, read_answers, fetched_by, fetch_found, replica_takes, held_to, fetch_to, replica_tick}
 use Rattle.cx_model.specs.Request.{same_read}
 use Rattle.cx_inv_run.proofs.Members.{Member-both, Member-one, Member-map, Member-filter}
 
@@ -110,38 +110,43 @@ module _ (P : Letter → Type 0) (c : Cluster) (me : RoleId) (plain : (to : Role
       let e = execute_value slot machine v in
       Member-both P (results_at c me slot e.answers) (results_from c me (slot + 1) e.machine values) (results_one slot e.answers) (results_all (slot + 1) e.machine values)
 
-  answers_all : (log : List Value) (rs : List Deferred) → ((r : Deferred) → Member r rs → r.mark ≤ length log → P (read_answer_to me log r)) → Each P (read_answers me log rs)
-  answers_all log rs h =
-      each_mapped P (read_answer_to me log) (filter (λ (r : Deferred). nat_le r.mark (length log)) rs)
-      (λ r m. let q = Member-filter (λ (r : Deferred). nat_le r.mark (length log)) r rs m in h r q.0 (leb-true r.mark (length log) q.1))
+  answers_all : (n : ℕ) (machine : Machine) (rs : List Deferred) → ((r : Deferred) → Member r rs → r.mark ≤ n → P (read_answer_to me n machine r))
+      → Each P (read_answers me n machine rs)
+  answers_all n machine rs h =
+      each_mapped P (read_answer_to me n machine) (filter (λ (r : Deferred). nat_le r.mark n) rs)
+      (λ r m. let q = Member-filter (λ (r : Deferred). nat_le r.mark n) r rs m in h r q.0 (leb-true r.mark n q.1))
 
   fetched : (v : ReplicaVolatile) (from : RoleId) (s : ℕ) (o : Option Value) → ReplicaTells (fetch_found me v from s o)
   fetched v from s None = none P
   fetched v from s (Some value) = replica_one _ _ tt
 
   pub replica_tells : (d : ReplicaDurable) (v : ReplicaVolatile) (from : RoleId)
-      → ((log : List Value) (r : Deferred) → Member r v.deferred → r.mark ≤ length log → P (read_answer_to me log r))
-      → (m : Msg) → ((r : Deferred) → m ≡ msg.Read r.token r.mark r.key → r.mark ≤ length d.log → P (read_answer_to me d.log r))
+      → ((n : ℕ) (machine : Machine) (r : Deferred) → Member r v.deferred → r.mark ≤ n → P (read_answer_to me n machine r))
+      → (m : Msg) → ((r : Deferred) → m ≡ msg.Read r.token r.mark r.key → r.mark ≤ held d → P (read_answer_to me (held d) d.machine r))
       → ReplicaTells (replica_takes c me d v from m)
   replica_tells d v from waiting (msg.Chosen s value) now =
-      either_way ReplicaTells (nat_lt s (length d.log)) _ _ (none P)
-      (either_way ReplicaTells (nat_le (length d.log + 32) s) _ _ (none P)
-      (either_way ReplicaTells (nat_lt (length d.log) s) _ _ (none P)
-      (let values = ready_values (length d.log) v.early value in
-      Member-both P (results_from c me (length d.log) (machine_of d.log) values) (read_answers me (d.log ++ values) v.deferred)
-      (results_all (length d.log) (machine_of d.log) values) (answers_all (d.log ++ values) v.deferred (waiting (d.log ++ values))))))
+      either_way ReplicaTells (nat_lt s (held d)) _ _ (none P)
+      (either_way ReplicaTells (nat_le (held d + 32) s) _ _ (none P)
+      (either_way ReplicaTells (nat_lt (held d) s) _ _ (none P)
+      (let values = ready_values (held d) v.early value in
+      let n = held d + length values in
+      let after = machine_from (held d) d.machine values in
+      Member-both P (results_from c me (held d) d.machine values) (read_answers me n after v.deferred)
+      (results_all (held d) d.machine values) (answers_all n after v.deferred (waiting n after)))))
   replica_tells d v from waiting (msg.Read t n key) now =
       let r : Deferred = record { token = t; mark = n; key = key } in
-      by_test ReplicaTells (nat_le n (length d.log)) _ _ (λ t. Member-one P (read_answer_to me d.log r) (now r refl (leb-true n (length d.log) t)))
+      by_test ReplicaTells (nat_le n (held d)) _ _ (λ t. Member-one P (read_answer_to me (held d) d.machine r) (now r refl (leb-true n (held d) t)))
       (λ f. either_way ReplicaTells (list_any (λ (other : Deferred). same_read r.token other.token) v.deferred) _ _ (none P)
       (either_way ReplicaTells (nat_le 64 (length v.deferred)) _ _ (none P) (none P)))
-  replica_tells d v from waiting (msg.Fetch s) now = fetched v from s (slice_get d.log s)
+  replica_tells d v from waiting (msg.Fetch s) now =
+      let asked = fetched_by c me v from s in
+      either_way ReplicaTells (nat_lt s d.first) _ _ (none P) (fetched asked from s (slice_get d.log (s - d.first)))
   replica_tells d v from waiting other now = none P
 
   pub replica_ticks : (d : ReplicaDurable) (v : ReplicaVolatile) → ReplicaTells (replica_tick c me d v)
   replica_ticks d v =
-      Member-both P (map (held_to me (length d.log)) (below c.leaders)) (fetch_to c me (length d.log))
-      (each_mapped P (held_to me (length d.log)) (below c.leaders) (λ l m. plain _ _ tt))
+      Member-both P (map (held_to me (held d)) (below c.leaders)) (fetch_to c me (held d))
+      (each_mapped P (held_to me (held d)) (below c.leaders) (λ l m. plain _ _ tt))
       (either_way (Each P) (nat_lt 1 c.replicas) _ _ (replica_one _ _ tt) (none P))
 
 -- a reader

@@ -1,8 +1,7 @@
 -- Of a read that no event asked for no datagram was sent.
-use Rattle.std.proofs.Common.{◌≡◌, true, false, ◌&&◌, List, [], ◌∷◌, ◌++◌, Some, inl, inr, ap, sym, subst, ◌∙◌, refl}
+use Rattle.std.proofs.Common.{◌≡◌, ℕ, true, false, ◌&&◌, List, [], ◌∷◌, ◌++◌, Some, inl, inr, ap, sym, subst, ◌∙◌, refl}
 use Rattle.std.proofs.lemmas.Bool.{true≢false, and_from}
 use Rattle.cx_base.specs.declared.cluster.Cluster.{Cluster}
-use Rattle.cx_base.specs.declared.command.Value.{Value}
 use Rattle.cx_base.specs.declared.event.Event.{Event}
 use Rattle.cx_base.specs.declared.event.Event.TheVariants as event
 use Rattle.cx_base.specs.declared.event.Happened.{Happened}
@@ -27,7 +26,7 @@ use Rattle.cx_model.specs.Matchmaker.{MatchmakerDurable, matchmaker_rules, match
 use Rattle.cx_model.specs.Names.{names}
 use Rattle.cx_model.specs.Outcome.{Outcome, either_way}
 use Rattle.cx_model.specs.Reader.{Reading, ReaderVolatile, reading, token, reading_of, reader_takes, reader_row}
-use Rattle.cx_model.specs.Replica.{ReplicaDurable, ReplicaVolatile, replica_rules, read_answer_to, replica_row}
+use Rattle.cx_model.specs.Replica.{Machine, ReplicaDurable, ReplicaVolatile, held, replica_rules, read_answer_to, replica_row}
 use Rattle.cx_model.specs.Request.{token_of, same_token, was_sent, is_sent, request}
 use Rattle.cx_model.specs.World.{World, change, step, run_from}
 use Rattle.cx_inv_run.specs.Laws.{Lands, Laws, AllAllowed}
@@ -80,16 +79,16 @@ module _ (t : Token) where
   matchmaker_fresh c me d sent told input.Tick given = λ x m. absurd m
   matchmaker_fresh c me d sent told (input.Order order) given = λ x m. absurd m
 
-  answer_fresh : (me : RoleId) (log : List Value) (r : Deferred) → (r.token ≡ t → ⊥) → Fresh (read_answer_to me log r)
-  answer_fresh me log r h = λ p q. h (one_token r.token t p q)
+  answer_fresh : (me : RoleId) (n : ℕ) (machine : Machine) (r : Deferred) → (r.token ≡ t → ⊥) → Fresh (read_answer_to me n machine r)
+  answer_fresh me n machine r h = λ p q. h (one_token r.token t p q)
 
   replica_fresh : (c : Cluster) (me : RoleId) (d : ReplicaDurable) (v : ReplicaVolatile) (sent : List Letter) → Each Fresh sent → ReplicaWasTold sent me v
       → (i : Input) → Given sent me i → Each Fresh (replica_row c me d v i).sends
   replica_fresh c me d v sent told waits (input.Take l) given =
       either_way (λ (o : Outcome ReplicaVolatile). Each Fresh o.sends) (same_role l.to me && names c l) _ _
       (replica_tells Fresh c me (plain me) d v l.from
-      (λ log r m k. let x = waits.deferred r m in answer_fresh me log r (told _ x.1)) l.msg
-      (λ r e k. answer_fresh me d.log r (subst (λ m. IsElse t l.from l.to m) e (told l given.1)))) (λ x m. absurd m)
+      (λ n machine r m k. let x = waits.deferred r m in answer_fresh me n machine r (told _ x.1)) l.msg
+      (λ r e k. answer_fresh me (held d) d.machine r (subst (λ m. IsElse t l.from l.to m) e (told l given.1)))) (λ x m. absurd m)
   replica_fresh c me d v sent told waits input.Tick given = replica_ticks Fresh c me (plain me) d v
   replica_fresh c me d v sent told waits (input.Order order) given = λ x m. absurd m
 
@@ -126,6 +125,7 @@ module _ (t : Token) where
   asked_fresh (event.Deliver n cut) other = λ d m. absurd m
   asked_fresh (event.Tick r) other = λ d m. absurd m
   asked_fresh (event.Order l order cut) other = λ d m. absurd m
+  asked_fresh (event.Snap p cut) other = λ d m. absurd m
   asked_fresh (event.Crash r) other = λ d m. absurd m
   asked_fresh (event.Restart r) other = λ d m. absurd m
 
@@ -159,6 +159,7 @@ module _ (t : Token) where
     replica = λ history sent states p v i known h up given.
         lands history sent states h (role kind.Replica p) _ _
         (replica_fresh c (role kind.Replica p) (durable_of replica_rules (role kind.Replica p) history) v sent h (subst (λ s. InState c history sent (role kind.Replica p) s) up (known.1.running (role kind.Replica p))) i given);
+    snap = λ history sent states p v first known h up e. h;
     unbatcher = λ history sent states u i known h up given.
         lands history sent states h (role kind.Unbatcher u) _ _
         (sends_only Fresh (role kind.Unbatcher u) _ (unbatcher_kinds c (role kind.Unbatcher u) refl i)

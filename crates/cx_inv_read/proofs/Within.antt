@@ -1,7 +1,8 @@
 -- An answer reports no more values than some replica kept.
-use Rattle.std.proofs.Common.{◌≡◌, ℕ, ◌+◌, ◌≤◌, ◌&&◌, not, List, [], ◌∷◌, ◌++◌, map, filter, length, inl, inr, ap, sym, subst, refl, arith}
+use Rattle.std.proofs.Common.{◌≡◌, ◌⊎◌, ℕ, ◌+◌, ◌-◌, ◌≤◌, true, false, ◌&&◌, not, List, [], ◌∷◌, ◌++◌, map, filter, length, inl, inr, ap, sym, subst, refl, arith}
 use Rattle.std.specs.Prelude.{◌==◌, ◌%◌, nat_lt, nat_le, slice_get, Option, None, Some}
 use Rattle.std.specs.List.{list_any}
+use Rattle.std.proofs.lemmas.Bool.{cases_Bool}
 use Rattle.std.proofs.lemmas.List.{length-append}
 use Rattle.std.proofs.lemmas.Option.{same_Some}
 use Rattle.cx_base.specs.declared.cluster.Cluster.{Cluster}
@@ -20,6 +21,7 @@ use Rattle.cx_msg.specs.Letter.{Letter, letter}
 use Rattle.cx_msg.specs.declared.input.Input.{Input}
 use Rattle.cx_msg.specs.declared.input.Input.TheVariants as input
 use Rattle.cx_msg.specs.declared.input.KeptRecord.{KeptRecord}
+use Rattle.cx_msg.specs.declared.input.Written.TheVariants as written
 use Rattle.cx_msg.specs.declared.kept.Record.{Record}
 use Rattle.cx_msg.specs.declared.kept.Record.TheVariants as kept
 use Rattle.cx_msg.specs.declared.message.Msg.{Msg}
@@ -31,17 +33,20 @@ use Rattle.cx_model.specs.Matchmaker.{matchmaker_rules}
 use Rattle.cx_model.specs.Member.{Member}
 use Rattle.cx_model.specs.Names.{names}
 use Rattle.cx_model.specs.Outcome.{Outcome, either_way}
-use Rattle.cx_model.specs.Replica.{ReplicaDurable, ReplicaVolatile, Machine, Executed, new_machine, acting, execute_noted, execute, execute_all, execute_value, machine_from, machine_of, results_at, results_from, read_answer_to, read_answers, apply, fetch_found, held_to, fetch_to, replica_rules, replica_after, replica_takes, replica_tick, replica_row}
+use Rattle.cx_model.specs.Replica.{IsTied, ReplicaDurable, ReplicaVolatile, Machine, Executed, held, new_machine, acting, execute_noted, execute, execute_all, execute_value, machine_from, machine_of, results_at, results_from, read_answer_to, read_answers, apply, fetched_by, fetch_found, held_to, fetch_to, replica_rules, replica_takes, replica_tick, replica_row}
 use Rattle.cx_model.specs.Request.{same_read, request}
 use Rattle.cx_model.specs.Unbatcher.{answer_to, unbatcher_takes, unbatcher_row}
-use Rattle.cx_model.specs.World.{run}
-use Rattle.cx_inv_run.specs.Laws.{Lands, Laws, anything}
-use Rattle.cx_inv_run.specs.States.{State, Given, entry_by, with_record, durable_of, HoldsIn}
-use Rattle.cx_inv_run.proofs.Histories.{by_role, durable_own, durable_other}
+use Rattle.cx_model.specs.World.{run, values_in}
+use Rattle.cx_inv_run.specs.Laws.{Lands, Laws}
+use Rattle.cx_inv_run.specs.States.{State, Given, entry_by, snap_by, with_record, durable_of, log_in, HoldsIn}
+use Rattle.cx_inv_run.specs.Ties.{Ties}
+use Rattle.cx_inv_run.proofs.Histories.{log_other, log_own, log_snap, same_role-true}
 use Rattle.cx_inv_run.proofs.Members.{Member-both, Member-filter, Member-map, Member-one}
 use Rattle.cx_inv_run.proofs.Senders.{batcher_kinds, leader_kinds, proxy_kinds, acceptor_kinds, matchmaker_kinds, reader_kinds}
 use Rattle.cx_inv_run.proofs.Sends.{batcher_sends, leader_sends, proxy_sends, acceptor_sends, matchmaker_sends, reader_sends, sends_only}
-use Rattle.cx_inv_run.proofs.Steps.{run_keeps, along_anything, all_allowed}
+use Rattle.cx_inv_run.proofs.Steps.{along, run_keeps, all_allowed}
+use Rattle.cx_inv_run.proofs.TieLaws.{ties_hold}
+use Rattle.cx_inv_run.proofs.Tying.{held_is}
 use Rattle.cx_inv_read.specs.Reads.{IsWithin, TellsWithin, Within}
 use Rattle.cx_inv_read.proofs.Fresh.{requested}
 use Rattle.cx_inv_read.proofs.Rows.{Each}
@@ -49,32 +54,25 @@ use Rattle.cx_inv_read.proofs.Says.{told_lands}
 
 -- a replica's values only grow
 
-after_longer : (d : ReplicaDurable) (r : Record) → length d.log ≤ length (replica_after d r).log
-after_longer d (kept.Log vs) = omega (arith, length-append d.log vs)
-after_longer d (kept.Promise i) = omega arith
-after_longer d (kept.Vote i s cw v) = omega arith
-after_longer d (kept.Water i cw) = omega arith
-after_longer d (kept.Match i g) = omega arith
-after_longer d (kept.Garbage i g) = omega arith
-after_longer d (kept.Round i g) = omega arith
+log_longer : (me : RoleId) (r : Record) (history : List KeptRecord) (p : ℕ) → length (log_in history p) ≤ length (log_in (entry_by me r ∷ history) p)
+log_longer me r history p = go (cases_Bool (same_role (role kind.Replica p) me))
+  where
+    go : (same_role (role kind.Replica p) me ≡ true) ⊎ (same_role (role kind.Replica p) me ≡ false) → length (log_in history p) ≤ length (log_in (entry_by me r ∷ history) p)
+    go (inl t) =
+        subst (λ a. length (log_in history p) ≤ length (log_in (entry_by a r ∷ history) p)) (same_role-true (role kind.Replica p) me t)
+        (omega (arith, ap length (log_own p r history), length-append (log_in history p) (values_in (written.Record r))))
+    go (inr f) = omega (arith, ap length (log_other me p r history f))
 
-abbrev log_by : List KeptRecord → RoleId → List Value
-log_by history a = (durable_of replica_rules a history).log
+-- so what is said by them stays so
+module _ (history longer : List KeptRecord) (more : (p : ℕ) → length (log_in history p) ≤ length (log_in longer p)) where
+  still_within : (n : ℕ) → IsWithin history n → IsWithin longer n
+  still_within n h = let l = more h.0 in let k = h.1 in (h.0, omega arith)
 
-log_longer : (me : RoleId) (r : Record) (history : List KeptRecord) (p : RoleId) → length (log_by history p) ≤ length (log_by (entry_by me r ∷ history) p)
-log_longer me r history =
-    by_role (λ a. length (log_by history a) ≤ length (log_by (entry_by me r ∷ history) a)) me
-    (subst (λ (d : ReplicaDurable). length (log_by history me) ≤ length d.log) (sym (durable_own replica_rules me r history)) (after_longer (durable_of replica_rules me history) r))
-    (λ a e. subst (λ (d : ReplicaDurable). length (log_by history a) ≤ length d.log) (sym (durable_other replica_rules me a r history e)) (omega arith))
-
-still_within : (me : RoleId) (r : Record) (history : List KeptRecord) (n : ℕ) → IsWithin history n → IsWithin (entry_by me r ∷ history) n
-still_within me r history n h = let l = log_longer me r history h.0 in let k = h.1 in (h.0, omega arith)
-
-still_tells : (me : RoleId) (r : Record) (history : List KeptRecord) (m : Msg) → TellsWithin history m → TellsWithin (entry_by me r ∷ history) m
-still_tells me r history (msg.Results s answers) h = λ a m. still_within me r history a.at (h a m)
-still_tells me r history (msg.Answer seq at reply) h = still_within me r history at h
-still_tells me r history (msg.ReadAnswer seq n found) h = still_within me r history n h
-still_tells me r history other h = tt
+  still_tells : (m : Msg) → TellsWithin history m → TellsWithin longer m
+  still_tells (msg.Results s answers) h = λ a m. still_within a.at (h a m)
+  still_tells (msg.Answer seq at reply) h = still_within at h
+  still_tells (msg.ReadAnswer seq n found) h = still_within n h
+  still_tells other h = tt
 
 -- what executing answers and notes lies within the values executed
 
@@ -165,49 +163,67 @@ Says history d = TellsWithin history d.msg
 abbrev Good : {V : Type 0} → List KeptRecord → RoleId → Outcome V → Type 0
 Good history me o = Each (Says (with_record me o.kept history)) o.sends
 
-module _ (c : Cluster) (history : List KeptRecord) (me : RoleId) where
+-- a replica, whose durable part is tied to all values that it kept
+module _ (c : Cluster) (history : List KeptRecord) (p : ℕ) (tied : IsTied (durable_of replica_rules (role kind.Replica p) history) (log_in history p)) where
+  abbrev self : RoleId
+  self = role kind.Replica p
+
   abbrev d : ReplicaDurable
-  d = durable_of replica_rules me history
+  d = durable_of replica_rules (role kind.Replica p) history
 
-  kept_within : (values : List Value) (n : ℕ) → n ≤ length (d.log ++ values) → IsWithin (entry_by me (kept.Log values) ∷ history) n
-  kept_within values n l = (me, subst (λ (x : ReplicaDurable). n ≤ length x.log) (sym (durable_own replica_rules me (kept.Log values) history)) l)
+  abbrev log : List Value
+  log = log_in history p
 
-  applied : (v : ReplicaVolatile) (values : List Value) → Good history me (apply c me d v values)
+  count : held d ≡ length log
+  count = held_is d log tied
+
+  kept_within : (values : List Value) (n : ℕ) → n ≤ length (log ++ values) → IsWithin (entry_by self (kept.Log values) ∷ history) n
+  kept_within values n l = (p, subst (λ x. n ≤ length x) (sym (log_own p (kept.Log values) history)) l)
+
+  applied : (v : ReplicaVolatile) (values : List Value) → Good history self (apply c self d v values)
   applied v values =
-      Member-both (Says (entry_by me (kept.Log values) ∷ history)) (results_from c me (length d.log) (machine_of d.log) values) (read_answers me (d.log ++ values) v.deferred)
-      (results_up (Says (entry_by me (kept.Log values) ∷ history)) c me (length (d.log ++ values)) (λ to slot answers h a k. kept_within values a.at (h a k)) values (length d.log) (machine_of d.log)
-      (omega (arith, length-append d.log values)) (log_up d.log))
-      (λ x k. let r = Member-map (read_answer_to me (d.log ++ values)) x (filter (λ (r : Deferred). nat_le r.mark (length (d.log ++ values))) v.deferred) k in
-      subst (Says (entry_by me (kept.Log values) ∷ history)) (sym r.2) (kept_within values (length (d.log ++ values)) (omega arith)))
+      let n = held d + length values in
+      let after = machine_from (held d) d.machine values in
+      let says = Says (entry_by self (kept.Log values) ∷ history) in
+      let all : n ≡ length (log ++ values) = omega (arith, count, length-append log values) in
+      let noted : UpTo (held d) d.machine.table.notes =
+      subst (λ k. UpTo k d.machine.table.notes) (sym count) (subst (λ (m : Machine). UpTo (length log) m.table.notes) (sym tied.machine) (log_up log)) in
+      Member-both says (results_from c self (held d) d.machine values) (read_answers self n after v.deferred)
+      (results_up says c self n (λ to slot answers h a k. kept_within values a.at (let l = h a k in omega (arith, all, l))) values (held d) d.machine (omega arith) noted)
+      (λ x k. let r = Member-map (read_answer_to self n after) x (filter (λ (r : Deferred). nat_le r.mark n) v.deferred) k in
+      subst says (sym r.2) (kept_within values n (omega (arith, all))))
 
-  fetched : (v : ReplicaVolatile) (from : RoleId) (s : ℕ) (o : Option Value) → Good history me (fetch_found me v from s o)
+  fetched : (v : ReplicaVolatile) (from : RoleId) (s : ℕ) (o : Option Value) → Good history self (fetch_found self v from s o)
   fetched v from s None = λ x k. absurd k
   fetched v from s (Some value) = Member-one (Says history) _ tt
 
-  replica_took : (v : ReplicaVolatile) (from : RoleId) (m : Msg) → Good history me (replica_takes c me d v from m)
+  replica_took : (v : ReplicaVolatile) (from : RoleId) (m : Msg) → Good history self (replica_takes c self d v from m)
   replica_took v from (msg.Chosen s value) =
-      either_way (Good history me) (nat_lt s (length d.log)) _ _ (λ x k. absurd k)
-      (either_way (Good history me) (nat_le (length d.log + 32) s) _ _ (λ x k. absurd k)
-      (either_way (Good history me) (nat_lt (length d.log) s) _ _ (λ x k. absurd k) (applied v (ready_values (length d.log) v.early value))))
+      either_way (Good history self) (nat_lt s (held d)) _ _ (λ x k. absurd k)
+      (either_way (Good history self) (nat_le (held d + 32) s) _ _ (λ x k. absurd k)
+      (either_way (Good history self) (nat_lt (held d) s) _ _ (λ x k. absurd k) (applied v (ready_values (held d) v.early value))))
   replica_took v from (msg.Read t n key) =
-      either_way (Good history me) (nat_le n (length d.log)) _ _ (Member-one (Says history) _ (me, omega arith))
-      (either_way (Good history me) (list_any (λ (other : Deferred). same_read t other.token) v.deferred) _ _ (λ x k. absurd k)
-      (either_way (Good history me) (nat_le 64 (length v.deferred)) _ _ (λ x k. absurd k) (λ x k. absurd k)))
-  replica_took v from (msg.Fetch s) = fetched v from s (slice_get d.log s)
+      either_way (Good history self) (nat_le n (held d)) _ _ (Member-one (Says history) _ (p, omega (arith, count)))
+      (either_way (Good history self) (list_any (λ (other : Deferred). same_read t other.token) v.deferred) _ _ (λ x k. absurd k)
+      (either_way (Good history self) (nat_le 64 (length v.deferred)) _ _ (λ x k. absurd k) (λ x k. absurd k)))
+  replica_took v from (msg.Fetch s) =
+      let asked = fetched_by c self v from s in
+      either_way (Good history self) (nat_lt s d.first) _ _ (λ x k. absurd k) (fetched asked from s (slice_get d.log (s - d.first)))
   replica_took v from other = λ x k. absurd k
 
-  ticked : (v : ReplicaVolatile) → Good history me (replica_tick c me d v)
+  ticked : (v : ReplicaVolatile) → Good history self (replica_tick c self d v)
   ticked v =
-      Member-both (Says history) (map (held_to me (length d.log)) (below c.leaders)) (fetch_to c me (length d.log))
-      (λ x k. let r = Member-map (held_to me (length d.log)) x (below c.leaders) k in subst (Says history) (sym r.2) tt)
+      Member-both (Says history) (map (held_to self (held d)) (below c.leaders)) (fetch_to c self (held d))
+      (λ x k. let r = Member-map (held_to self (held d)) x (below c.leaders) k in subst (Says history) (sym r.2) tt)
       (either_way (Each (Says history)) (nat_lt 1 c.replicas) _ _ (Member-one (Says history) _ tt) (λ x k. absurd k))
 
-  replica_good : (v : ReplicaVolatile) (i : Input) → Good history me (replica_row c me d v i)
+  replica_good : (v : ReplicaVolatile) (i : Input) → Good history self (replica_row c self d v i)
   replica_good v (input.Take l) =
-      either_way (Good history me) (same_role l.to me && names c l) _ _ (replica_took v l.from l.msg) (λ x k. absurd k)
+      either_way (Good history self) (same_role l.to self && names c l) _ _ (replica_took v l.from l.msg) (λ x k. absurd k)
   replica_good v input.Tick = ticked v
   replica_good v (input.Order order) = λ x k. absurd k
 
+module _ (c : Cluster) (history : List KeptRecord) (me : RoleId) where
   unbatcher_took : (m : Msg) → TellsWithin history m → Good history me (unbatcher_takes me m)
   unbatcher_took (msg.Results s answers) says =
       λ x k. let r = Member-map (answer_to me) x answers k in subst (Says history) (sym r.2) (says r.0 r.1)
@@ -221,9 +237,9 @@ module _ (c : Cluster) (history : List KeptRecord) (me : RoleId) where
 
 lands : {V : Type 0} (history : List KeptRecord) (sent : List Letter) (states : RoleId → State) → Within history sent states
     → (me : RoleId) (make : V → State) (o : Outcome V) → Good history me o → Lands Within history sent states me make o
-lands history sent states told me make o good = told_lands Says (λ a r h d x. still_tells a r h d.msg x) history sent states told me make o good
+lands history sent states told me make o good = told_lands Says (λ a r h d x. still_tells h (entry_by a r ∷ h) (log_longer a r h) d.msg x) history sent states told me make o good
 
-within_laws : (c : Cluster) → Laws c (λ e. Unit {0}) anything Within
+within_laws : (c : Cluster) → Laws c (λ e. Unit {0}) Ties Within
 within_laws c = record {
   same = λ history sent states others e h. h;
   start = λ states h d m. absurd m;
@@ -250,7 +266,10 @@ within_laws c = record {
       (sends_only _ (role kind.Matchmaker m) _ (matchmaker_kinds c (role kind.Matchmaker m) refl (durable_of matchmaker_rules (role kind.Matchmaker m) history) i)
       (λ to. matchmaker_sends (TellsWithin _) (λ j w entries. tt) (λ j reason other. tt) (λ j. tt) (λ t w entries. tt)));
   replica = λ history sent states p v i known h up given.
-      lands history sent states h (role kind.Replica p) _ _ (replica_good c history (role kind.Replica p) v i);
+      lands history sent states h (role kind.Replica p) _ _ (replica_good c history p (known.tied p) v i);
+  snap = λ history sent states p v first known h up e d m.
+      let me = role kind.Replica p in
+      still_tells history (snap_by me first ∷ history) (λ q. omega (arith, ap length (log_snap me q first history))) d.msg (h d m);
   unbatcher = λ history sent states u i known h up given.
       lands history sent states h (role kind.Unbatcher u) _ _ (unbatcher_good c history (role kind.Unbatcher u) sent h i given);
   reader = λ history sent states r v i known h up given.
@@ -259,4 +278,4 @@ within_laws c = record {
 }
 
 pub within_holds : (c : Cluster) (es : List Event) → HoldsIn Within (run c es)
-within_holds c es = run_keeps c (λ e. Unit {0}) anything Within (within_laws c) es (along_anything (run c []) es) (all_allowed (run c []) es)
+within_holds c es = run_keeps c (λ e. Unit {0}) Ties Within (within_laws c) es (along c Ties (ties_hold c) [] es) (all_allowed (run c []) es)

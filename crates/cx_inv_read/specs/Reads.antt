@@ -21,8 +21,7 @@ use Rattle.cx_model.specs.Matchmaker.{entry}
 use Rattle.cx_model.specs.Member.{Member}
 use Rattle.cx_model.specs.Promises.{IsConfig}
 use Rattle.cx_model.specs.Reader.{Reading, token}
-use Rattle.cx_model.specs.Replica.{replica_rules}
-use Rattle.cx_inv_run.specs.States.{State, ReaderIn, durable_of}
+use Rattle.cx_inv_run.specs.States.{State, ReaderIn, log_in}
 use Rattle.cx_inv_match.specs.Facts.{AreOnce, told_by}
 use Rattle.cx_inv_match.specs.Words.{HasMatch, HasGarbage, HasMark, IsChosenIn, IsCollected}
 
@@ -117,7 +116,7 @@ Unread t history sent states = (d : Letter) → Member d sent → IsElse t d.fro
 
 -- some replica kept n values
 abbrev pub IsWithin : List KeptRecord → ℕ → Type 0
-IsWithin history n = (p : RoleId) × (n ≤ length (durable_of replica_rules p history).log)
+IsWithin history n = (p : ℕ) × (n ≤ length (log_in history p))
 
 -- an answer reports no more values than some replica kept
 abbrev pub TellsWithin : List KeptRecord → Msg → Type 0

@@ -21,7 +21,7 @@ use Rattle.cx_model.specs.Replica.{replica_rules, replica_row}
 use Rattle.cx_model.specs.Unbatcher.{unbatcher_row}
 use Rattle.cx_model.specs.World.{World, change, step, run, run_from}
 use Rattle.cx_inv_run.specs.Laws.{Laws, HoldsAlong}
-use Rattle.cx_inv_run.specs.States.{State, Down, BatcherIn, ProxyIn, ReplicaIn, plain, states_of, fresh_state, durable_of, HoldsIn}
+use Rattle.cx_inv_run.specs.States.{State, Down, BatcherIn, ProxyIn, ReplicaIn, plain, states_of, fresh_state, snap_by, durable_of, HoldsIn}
 use Rattle.cx_inv_run.proofs.KindLaws.{kinds_hold}
 use Rattle.cx_inv_run.proofs.Members.{Member-first, Member-reverse, Member-turned}
 use Rattle.cx_inv_run.proofs.Senders.{acceptor_kinds, batcher_kinds, unbatcher_kinds, proxy_kinds, replica_kinds}
@@ -32,7 +32,7 @@ use Rattle.cx_inv_vote.proofs.Steps.{facts_hold}
 use Rattle.cx_inv_read.proofs.Fresh.{reads_always}
 use Rattle.cx_inv_read.specs.Reads.{Has}
 use Rattle.cx_inv_retire.specs.Retire.{IsNewRound, RetireSays, HasCounted, RetireFacts, Known}
-use Rattle.cx_inv_retire.proofs.Keep.{same_states, set, asked, quiet_lands}
+use Rattle.cx_inv_retire.proofs.Keep.{same_states, set, grown, asked, quiet_lands}
 use Rattle.cx_inv_retire.proofs.Leaders.{leader_lands}
 use Rattle.cx_inv_retire.proofs.Matchmakers.{matchmaker_lands}
 use Rattle.cx_inv_retire.proofs.Readers.{reader_lands}
@@ -75,6 +75,7 @@ retire_laws c past fresh = record {
       quiet_lands c past fresh history sent states h (role kind.Replica p) ReplicaIn kind.Replica (λ e. cc) (λ e. cc) (λ e. cc) refl
       (replica_row c (role kind.Replica p) (durable_of replica_rules (role kind.Replica p) history) v i)
       (replica_kinds c (role kind.Replica p) refl (durable_of replica_rules (role kind.Replica p) history) v i) tt;
+  snap = λ history sent states p v first known h is e. grown c past fresh history sent states h (snap_by (role kind.Replica p) first ∷ history) (λ k m. inr m);
   unbatcher = λ history sent states u i known h is given.
       quiet_lands c past fresh history sent states h (role kind.Unbatcher u) plain kind.Unbatcher (λ e. cc) (λ e. cc) (λ e. cc) refl
       (unbatcher_row c (role kind.Unbatcher u) tt tt i) (unbatcher_kinds c (role kind.Unbatcher u) refl i) tt;

@@ -1,5 +1,5 @@
--- In every run each datagram and each record is of its role's kind.
-use Rattle.std.proofs.Common.{List, [], ◌++◌, Option, None, Some, sym, subst, refl, inl, inr}
+-- In every run each datagram and each change of a store is of its role's kind.
+use Rattle.std.proofs.Common.{◌≡◌, ℕ, List, [], ◌∷◌, ◌++◌, Option, None, Some, sym, subst, refl, inl, inr}
 use Rattle.cx_base.specs.declared.cluster.Cluster.{Cluster}
 use Rattle.cx_base.specs.declared.event.Event.{Event}
 use Rattle.cx_base.specs.declared.event.Event.TheVariants as event
@@ -17,9 +17,9 @@ use Rattle.cx_model.specs.Outcome.{Outcome}
 use Rattle.cx_model.specs.Replica.{replica_rules}
 use Rattle.cx_model.specs.Request.{request}
 use Rattle.cx_model.specs.World.{run}
-use Rattle.cx_inv_run.specs.Kinds.{IsSender, IsKeeper, IsKept, OfKind, Kinds, KindsLaw}
+use Rattle.cx_inv_run.specs.Kinds.{IsSender, IsWriter, IsKept, OfKind, Kinds, KindsLaw}
 use Rattle.cx_inv_run.specs.Laws.{Lands, Laws, anything}
-use Rattle.cx_inv_run.specs.States.{State, BatcherIn, LeaderIn, ProxyIn, ReplicaIn, ReaderIn, plain, with_record, durable_of, HoldsIn}
+use Rattle.cx_inv_run.specs.States.{State, snap_by, BatcherIn, LeaderIn, ProxyIn, ReplicaIn, ReaderIn, plain, with_record, durable_of, HoldsIn}
 use Rattle.cx_inv_run.proofs.Members.{Member-both, Member-one, Member-reverse}
 use Rattle.cx_inv_run.proofs.Senders.{acceptor_kinds, matchmaker_kinds, batcher_kinds, unbatcher_kinds, proxy_kinds, replica_kinds, reader_kinds, leader_kinds}
 use Rattle.cx_inv_run.proofs.Sends.{keeps_only}
@@ -36,6 +36,7 @@ requested (event.Read client seq floor reader replica key) d m = Member-one (λ 
 requested (event.Deliver number cut) d m = absurd m
 requested (event.Tick r) d m = absurd m
 requested (event.Order leader order cut) d m = absurd m
+requested (event.Snap p cut) d m = absurd m
 requested (event.Crash r) d m = absurd m
 requested (event.Restart r) d m = absurd m
 
@@ -43,10 +44,18 @@ module _ (kept : List KeptRecord) (sent : List Letter) (states : RoleId → Stat
   sent_more : (ds : List Letter) → ((d : Letter) → Member d ds → IsSender d.from.kind d.msg) → (d : Letter) → Member d (sent ++ ds) → IsSender d.from.kind d.msg
   sent_more ds own = Member-both (λ (d : Letter). IsSender d.from.kind d.msg) sent ds h.senders own
 
-  kept_more : (me : RoleId) (o : Option Record) → IsKept me.kind o → (k : KeptRecord) → Member k (with_record me o kept) → IsKeeper k.role.kind k.what
+  kept_more : (me : RoleId) (o : Option Record) → IsKept me.kind o → (k : KeptRecord) → Member k (with_record me o kept) → IsWriter k.role.kind k.what
   kept_more me None own k m = h.keepers k m
-  kept_more me (Some r) own k (inl e) = subst (λ (x : KeptRecord). IsKeeper x.role.kind x.what) (sym e) own
+  kept_more me (Some r) own k (inl e) = subst (λ (x : KeptRecord). IsWriter x.role.kind x.what) (sym e) own
   kept_more me (Some r) own k (inr m) = h.keepers k m
+
+  -- a replica forgets values
+  snapped : (me : RoleId) (first : ℕ) → me.kind ≡ kind.Replica → Kinds (snap_by me first ∷ kept) sent states
+  snapped me first is = record { senders = h.senders; keepers = kept_one me first is }
+    where
+      kept_one : (me : RoleId) (first : ℕ) → me.kind ≡ kind.Replica → (k : KeptRecord) → Member k (snap_by me first ∷ kept) → IsWriter k.role.kind k.what
+      kept_one me first is k (inl e) = subst (λ (x : KeptRecord). IsWriter x.role.kind x.what) (sym e) is
+      kept_one me first is k (inr m) = h.keepers k m
 
   -- a row whose outcome is of its role's kind
   landed : {V : Type 0} (me : RoleId) (make : V → State) (o : Outcome V) → OfKind me o → Lands Kinds kept sent states me make o
@@ -75,6 +84,7 @@ kinds_laws c = record {
       landed kept sent states h (role kind.Matchmaker m) plain _ (matchmaker_kinds c (role kind.Matchmaker m) refl (durable_of matchmaker_rules (role kind.Matchmaker m) kept) i);
   replica = λ kept sent states p v i knows h is given.
       landed kept sent states h (role kind.Replica p) ReplicaIn _ (replica_kinds c (role kind.Replica p) refl (durable_of replica_rules (role kind.Replica p) kept) v i);
+  snap = λ kept sent states p v first knows h is e. snapped kept sent states h (role kind.Replica p) first refl;
   unbatcher = λ kept sent states u i knows h is given. landed kept sent states h (role kind.Unbatcher u) plain _ (unbatcher_kinds c (role kind.Unbatcher u) refl i);
   reader = λ kept sent states r v i knows h is given. landed kept sent states h (role kind.Reader r) ReaderIn _ (reader_kinds c (role kind.Reader r) refl v i);
 }

@@ -1,6 +1,6 @@
 -- Which kinds of datagrams and records each kind of role sends and keeps: one walk over all rows, and what it gives of every run.
 use Rattle.std.proofs.Common.{◌≡◌, ℕ, Bool, List, [], ◌∷◌, ◌++◌, map, filter, Option, None, Some, sym, subst, refl, inl, inr}
-use Rattle.std.specs.Prelude.{◌+◌, ◌%◌, not, ◌==◌, ◌&&◌, ◌||◌, nat_lt, nat_le, length, if◌then◌else◌, slice_get, slice_index_or}
+use Rattle.std.specs.Prelude.{◌+◌, ◌-◌, ◌%◌, not, ◌==◌, ◌&&◌, ◌||◌, nat_lt, nat_le, length, if◌then◌else◌, slice_get, slice_index_or}
 use Rattle.std.specs.List.{list_any}
 use Rattle.cx_base.specs.declared.cluster.Cluster.{Cluster}
 use Rattle.cx_base.specs.declared.command.Answered.{Answered}
@@ -44,7 +44,7 @@ use Rattle.cx_model.specs.Outcome.{Outcome, answered, replied, either_way}
 use Rattle.cx_model.specs.Plan.{promised_by, has_promised, plan, placed_from}
 use Rattle.cx_model.specs.Proxy.{ProxyVolatile, raised_to, pending_of, pending_at, phase2a_to, column_for, members_for, chosen_to, chosen_in_to, announcement, ask, propose_over, vote_for, proxy_takes, again_for, again_at, proxy_tick, proxy_row}
 use Rattle.cx_model.specs.Reader.{ReaderVolatile, Reading, reading, token, reading_of, is_matched, acked_by, has_acked, greatest_mark, match_read_to, pre_read_to, ask_matchmakers, read_req_over, send_read, read_matched, match_ack_counted, match_ack_row, pre_read_counted, pre_read_ack_row, reader_takes, reader_row}
-use Rattle.cx_model.specs.Replica.{ReplicaDurable, ReplicaVolatile, Machine, execute_value, machine_of, results_at, results_from, read_answer_to, read_answers, apply, fetch_found, held_to, fetch_to, replica_takes, replica_tick, replica_row}
+use Rattle.cx_model.specs.Replica.{ReplicaDurable, ReplicaVolatile, Machine, held, execute_value, machine_from, results_at, results_from, read_answer_to, read_answers, apply, fetched_by, fetch_found, held_to, fetch_to, replica_takes, replica_tick, replica_row}
 use Rattle.cx_model.specs.Request.{same_read}
 use Rattle.cx_model.specs.Unbatcher.{answer_to, unbatcher_takes, unbatcher_row}
 use Rattle.cx_inv_run.specs.Kinds.{IsSender, IsKeeper, OfKind}
@@ -204,14 +204,16 @@ module _ (c : Cluster) (me : RoleId) (is : me.kind ≡ kind.Replica) (d : Replic
       let e = execute_value slot machine v in
       both me (results_at c me slot e.answers) (results_from c me (slot + 1) e.machine values) (results_one slot e.answers) (results_all (slot + 1) e.machine values)
 
-  read_all : (log : List Value) (rs : List Deferred) → AreOwn me (read_answers me log rs)
-  read_all log rs = mapped me (read_answer_to me log) (filter (λ (r : Deferred). nat_le r.mark (length log)) rs) (λ r. (refl, is))
+  read_all : (n : ℕ) (machine : Machine) (rs : List Deferred) → AreOwn me (read_answers me n machine rs)
+  read_all n machine rs = mapped me (read_answer_to me n machine) (filter (λ (r : Deferred). nat_le r.mark n) rs) (λ r. (refl, is))
 
   applied : (v : ReplicaVolatile) (values : List Value) → OfKind me (apply c me d v values)
   applied v values =
+      let n = held d + length values in
+      let after = machine_from (held d) d.machine values in
       keeping me _ _ _ _ is
-      (both me (results_from c me (length d.log) (machine_of d.log) values) (read_answers me (d.log ++ values) v.deferred)
-      (results_all (length d.log) (machine_of d.log) values) (read_all (d.log ++ values) v.deferred))
+      (both me (results_from c me (held d) d.machine values) (read_answers me n after v.deferred)
+      (results_all (held d) d.machine values) (read_all n after v.deferred))
 
   fetched : (v : ReplicaVolatile) (from : RoleId) (s : ℕ) (o : Option Value) → OfKind me (fetch_found me v from s o)
   fetched v from s None = quiet me _ v
@@ -219,21 +221,23 @@ module _ (c : Cluster) (me : RoleId) (is : me.kind ≡ kind.Replica) (d : Replic
 
   replica_took : (v : ReplicaVolatile) (from : RoleId) (m : Msg) → OfKind me (replica_takes c me d v from m)
   replica_took v from (msg.Chosen s value) =
-      pick me (nat_lt s (length d.log)) _ _ (quiet me _ v)
-      (pick me (nat_le (length d.log + 32) s) _ _ (quiet me _ v)
-      (pick me (nat_lt (length d.log) s) _ _ (quiet me _ _) (applied v (ready_values (length d.log) v.early value))))
+      pick me (nat_lt s (held d)) _ _ (quiet me _ v)
+      (pick me (nat_le (held d + 32) s) _ _ (quiet me _ v)
+      (pick me (nat_lt (held d) s) _ _ (quiet me _ _) (applied v (ready_values (held d) v.early value))))
   replica_took v from (msg.Read t n key) =
-      pick me (nat_le n (length d.log)) _ _ (replying me _ v _ (one me _ _ is))
+      pick me (nat_le n (held d)) _ _ (replying me _ v _ (one me _ _ is))
       (pick me (list_any (λ (other : Deferred). same_read t other.token) v.deferred) _ _ (quiet me _ v)
       (pick me (nat_le 64 (length v.deferred)) _ _ (quiet me _ v) (quiet me _ _)))
-  replica_took v from (msg.Fetch s) = fetched v from s (slice_get d.log s)
+  replica_took v from (msg.Fetch s) =
+      let asked = fetched_by c me v from s in
+      pick me (nat_lt s d.first) _ _ (quiet me _ asked) (fetched asked from s (slice_get d.log (s - d.first)))
   replica_took v from other = quiet me _ v
 
   replica_ticked : (v : ReplicaVolatile) → OfKind me (replica_tick c me d v)
   replica_ticked v =
       replying me _ v _
-      (both me (map (held_to me (length d.log)) (below c.leaders)) (fetch_to c me (length d.log))
-      (mapped me (held_to me (length d.log)) (below c.leaders) (λ l. (refl, is)))
+      (both me (map (held_to me (held d)) (below c.leaders)) (fetch_to c me (held d))
+      (mapped me (held_to me (held d)) (below c.leaders) (λ l. (refl, is)))
       (either_way (AreOwn me) (nat_lt 1 c.replicas) _ _ (one me _ _ is) (none me)))
 
   pub replica_kinds : (v : ReplicaVolatile) (i : Input) → OfKind me (replica_row c me d v i)

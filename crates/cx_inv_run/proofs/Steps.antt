@@ -15,10 +15,11 @@ use Rattle.cx_base.specs.declared.why.Why.TheVariants as why
 use Rattle.cx_base.specs.Role.{role, same_role, code_of}
 use Rattle.cx_msg.specs.Letter.{Letter}
 use Rattle.cx_msg.specs.declared.input.Act.{Act}
-use Rattle.cx_msg.specs.declared.input.Act.TheVariants.{Give, Stop, Wake}
+use Rattle.cx_msg.specs.declared.input.Act.TheVariants.{Give, Snap, Stop, Wake}
 use Rattle.cx_msg.specs.declared.input.Input.{Input}
 use Rattle.cx_msg.specs.declared.input.Input.TheVariants as input
 use Rattle.cx_msg.specs.declared.input.KeptRecord.{KeptRecord}
+use Rattle.cx_msg.specs.declared.input.Written.{Written}
 use Rattle.cx_msg.specs.declared.kept.Record.{Record}
 use Rattle.cx_field.specs.declared.parts.Token.{Token}
 use Rattle.cx_model.specs.Acceptor.{acceptor_rules, acceptor_row}
@@ -32,13 +33,13 @@ use Rattle.cx_model.specs.Reader.{ReaderVolatile, reader_rules, reader_row}
 use Rattle.cx_model.specs.Replica.{ReplicaVolatile, replica_rules, replica_row}
 use Rattle.cx_model.specs.Request.{is_stale, request}
 use Rattle.cx_model.specs.Rules.{Rules}
-use Rattle.cx_model.specs.Turn.{Turn, turn, turn_with}
+use Rattle.cx_model.specs.Turn.{Turn, turn, turn_with, whole_turn, snap_turn}
 use Rattle.cx_model.specs.Unbatcher.{unbatcher_rules, unbatcher_row}
 use Rattle.cx_model.specs.World.{World, Roles, Change, change, changed, nothing, come, act_at, act_of, turn_found, durable_part, kept_by, fresh_roles, start, step, run, run_from}
-use Rattle.cx_inv_run.specs.States.{State, Down, Plain, BatcherIn, LeaderIn, ProxyIn, ReplicaIn, ReaderIn, plain, state_of, state_found, state_in, states_of, fresh_state, set_state, entry_by, with_record, durable_of, Given, Property, HoldsIn}
+use Rattle.cx_inv_run.specs.States.{State, Down, Plain, BatcherIn, LeaderIn, ProxyIn, ReplicaIn, ReaderIn, plain, state_of, state_found, state_in, states_of, fresh_state, set_state, entry_by, snap_by, with_written, durable_of, Given, Property, HoldsIn}
 use Rattle.cx_inv_run.specs.Laws.{Lands, Laws, anything, AllAllowed, HoldsAlong, StepLaw, RunFromLaw, RunLaw}
 use Rattle.cx_inv_run.proofs.Members.{Member-at}
-use Rattle.cx_inv_run.proofs.Histories.{durable_by_time, set_running, set_same}
+use Rattle.cx_inv_run.proofs.Histories.{durable_by_time, record_written, set_running, set_same}
 
 -- How the roles of one kind are placed among all: their list, all roles with another list of theirs, and what a role's state is.
 record Place (V : Type 0) (k : Kind) (make : V → State) : Type 0 where
@@ -177,13 +178,14 @@ module _ {V : Type 0} (k : Kind) (make : V → State) (at : Place V k make) wher
           (ap (λ x. slice_get x a.index) (at.of_put roles l)
           ∙ get_set_other (at.of roles) me.index a.index new (λ q. other_role a me e (role_from_parts a.kind me.kind a.index me.index (p ∙ sym is) q))))
 
-kept_turned : (me : RoleId) (o : Option Record) (kept : List KeptRecord) → with_record me o kept ≡ reverse (kept_by me o) ++ kept
+kept_turned : (me : RoleId) (o : Option Written) (kept : List KeptRecord) → with_written me o kept ≡ reverse (kept_by me o) ++ kept
 kept_turned me None kept = refl
-kept_turned me (Some r) kept = refl
+kept_turned me (Some w) kept = refl
 
 -- what an act gives is given
 abbrev ActGiven : List Letter → RoleId → Act → Type 0
 ActGiven sent me (Give i cut) = Given sent me i
+ActGiven sent me (Snap cut) = Unit {0}
 ActGiven sent me Stop = Unit {0}
 ActGiven sent me Wake = Unit {0}
 
@@ -195,7 +197,7 @@ module _ (c : Cluster) (Allowed : Event → Type 0) (known holds : Property) (la
   -- a turn of a role
   module _ {V : Type 0} (kept : List KeptRecord) (sent : List Letter) (states : RoleId → State) (h : holds kept sent states) (me : RoleId) (make : V → State) where
     abbrev AfterTurn : Turn V → Type 0
-    AfterTurn t = holds (with_record me t.kept kept) (sent ++ t.sends) (set_state me (state_of make t.role) states)
+    AfterTurn t = holds (with_written me t.kept kept) (sent ++ t.sends) (set_state me (state_of make t.role) states)
 
     quiet : (s : State) → holds kept sent (set_state me s states) → holds kept (sent ++ []) (set_state me s states)
     quiet s h = subst (λ l. holds kept l (set_state me s states)) (sym (append-nil sent)) h
@@ -203,24 +205,46 @@ module _ (c : Cluster) (Allowed : Event → Type 0) (known holds : Property) (la
     stopped : holds kept (sent ++ []) (set_state me Down states)
     stopped = quiet Down (laws.stop kept sent states me h)
 
+    whole : (o : Outcome V) → Lands holds kept sent states me make o → AfterTurn (whole_turn o)
+    whole o lands = subst (λ l. holds l (sent ++ o.sends) (set_state me (make o.volatile) states)) (sym (record_written me o.kept kept)) lands.whole
+
     landed : (cut : Cut) (o : Outcome V) (r : Option Record) → o.kept ≡ r → Lands holds kept sent states me make o → AfterTurn (turn_with cut r o)
-    landed cut o None e lands = lands.whole
-    landed Whole o (Some r) e lands = lands.whole
+    landed cut o None e lands = whole o lands
+    landed Whole o (Some r) e lands = whole o lands
     landed Torn o (Some r) e lands = stopped
     landed Kept o (Some r) e lands = subst (λ l. holds (entry_by me r ∷ kept) l (set_state me Down states)) (sym (append-nil sent)) (lands.cut r e)
+
+    -- nothing is done to a role that runs
+    stays : (v : V) → states me ≡ make v → holds kept (sent ++ []) (set_state me (make v) states)
+    stays v is = quiet (make v) (laws.same kept sent states (set_state me (make v) states) (set_same me (make v) states is) h)
+
+    -- a snap, once what it forgets is known
+    forgot : (cut : Cut) (v : V) (o : Option ℕ) → states me ≡ make v → ((first : ℕ) → o ≡ Some first → holds (snap_by me first ∷ kept) sent states)
+        → AfterTurn (snap_turn cut v o)
+    forgot cut v None is snaps = stays v is
+    forgot Whole v (Some first) is snaps =
+        let after = snap_by me first ∷ kept in
+        let running = set_state me (make v) states in
+        subst (λ l. holds after l running) (sym (append-nil sent)) (laws.same after sent states running (set_same me (make v) states is) (snaps first refl))
+    forgot Torn v (Some first) is snaps = stopped
+    forgot Kept v (Some first) is snaps =
+        let after = snap_by me first ∷ kept in
+        subst (λ l. holds after l (set_state me Down states)) (sym (append-nil sent)) (laws.stop after sent states me (snaps first refl))
 
     acted : {D : Type 0} (rules : Rules D V) (d : D) → fresh_state c me.kind ≡ make (rules.fresh c)
         → (running : Option V) → states me ≡ state_of make running
         → (act : Act) → ((v : V) (i : Input) (cut : Cut) → act ≡ Give i cut → states me ≡ make v → Lands holds kept sent states me make (rules.row c me d v i))
+        → ((v : V) (first : ℕ) → states me ≡ make v → rules.snap c me d v ≡ Some first → holds (snap_by me first ∷ kept) sent states)
         → AfterTurn (turn rules c me d act running)
-    acted rules d fresh None is (Give i cut) row = stopped
-    acted rules d fresh (Some v) is (Give i cut) row = landed cut (rules.row c me d v i) ((rules.row c me d v i).kept) refl (row v i cut refl is)
-    acted rules d fresh None is Stop row = stopped
-    acted rules d fresh (Some v) is Stop row = stopped
-    acted rules d fresh None is Wake row =
+    acted rules d fresh None is (Give i cut) row snaps = stopped
+    acted rules d fresh (Some v) is (Give i cut) row snaps = landed cut (rules.row c me d v i) ((rules.row c me d v i).kept) refl (row v i cut refl is)
+    acted rules d fresh None is (Snap cut) row snaps = stopped
+    acted rules d fresh (Some v) is (Snap cut) row snaps = forgot cut v (rules.snap c me d v) is (λ first e. snaps v first is e)
+    acted rules d fresh None is Stop row snaps = stopped
+    acted rules d fresh (Some v) is Stop row snaps = stopped
+    acted rules d fresh None is Wake row snaps =
         quiet (make (rules.fresh c)) (subst (λ s. holds kept sent (set_state me s states)) fresh (laws.wake kept sent states me h is))
-    acted rules d fresh (Some v) is Wake row =
-        quiet (make v) (laws.same kept sent states (set_state me (make v) states) (set_same me (make v) states is) h)
+    acted rules d fresh (Some v) is Wake row snaps = stays v is
 
   -- a change of a world
   module _ (w : World) (is_c : w.cluster ≡ c) (knows : HoldsIn known w) (h : HoldsIn holds w) where
@@ -234,20 +258,23 @@ module _ (c : Cluster) (Allowed : Event → Type 0) (known holds : Property) (la
         → fresh_state c k ≡ make (rules.fresh c)
         → ((v : V) (i : Input) (cut : Cut) → act ≡ Give i cut → states_of w.roles me ≡ make v
         → Lands holds (reverse w.kept) w.sent (states_of w.roles) me make (rules.row c me (durable_of rules me (reverse w.kept)) v i))
+        → ((v : V) (first : ℕ) → states_of w.roles me ≡ make v → rules.snap c me (durable_of rules me (reverse w.kept)) v ≡ Some first
+        → holds (snap_by me first ∷ reverse w.kept) w.sent (states_of w.roles))
         → (o : Option (Option V)) → slice_get (at.of w.roles) me.index ≡ o
         → (let t = turn_found rules c me w.kept act (at.of w.roles) o in AfterChange (changed me (at.put w.roles t.roles) t))
-    placed k make at rules me act is fresh row None e =
+    placed k make at rules me act is fresh row snaps None e =
         subst (λ r. holds (reverse w.kept) (w.sent ++ []) (states_of r)) (sym (at.put_of w.roles)) no_change
-    placed k make at rules me act is fresh row (Some running) e =
+    placed k make at rules me act is fresh row snaps (Some running) e =
         let kept = reverse w.kept in
         let d = durable_part rules me w.kept in
         let t = turn rules c me d act running in
         let after = at.put w.roles (slice_set (at.of w.roles) me.index t.role) in
         let done = acted kept w.sent (states_of w.roles) h me make rules d (ap (λ j. fresh_state c j) is ∙ fresh)
         running (place_of k make at w.roles me (Some running) is e) act
-        (λ v i cut p s. subst (λ x. Lands holds kept w.sent (states_of w.roles) me make (rules.row c me x v i)) (sym (durable_by_time rules me w.kept)) (row v i cut p s)) in
+        (λ v i cut p s. subst (λ x. Lands holds kept w.sent (states_of w.roles) me make (rules.row c me x v i)) (sym (durable_by_time rules me w.kept)) (row v i cut p s))
+        (λ v first s e. snaps v first s (subst (λ x. rules.snap c me x v ≡ Some first) (durable_by_time rules me w.kept) e)) in
         subst (λ l. holds l (w.sent ++ t.sends) (states_of after)) (kept_turned me t.kept kept)
-        (laws.same (with_record me t.kept kept) (w.sent ++ t.sends) (set_state me (state_of make t.role) (states_of w.roles)) (states_of after) (place_set k make at w.roles me running t.role is e) done)
+        (laws.same (with_written me t.kept kept) (w.sent ++ t.sends) (set_state me (state_of make t.role) (states_of w.roles)) (states_of after) (place_set k make at w.roles me running t.role is e) done)
 
     module _ (me : RoleId) (act : Act) (given : ActGiven w.sent me act) where
       given_to : (i : Input) (cut : Cut) → act ≡ Give i cut → Given w.sent me i
@@ -259,41 +286,50 @@ module _ (c : Cluster) (Allowed : Event → Type 0) (known holds : Property) (la
           placed kind.Batcher BatcherIn batchers batcher_rules me act is refl
           (λ v i cut p s. as_role (λ a. states_of w.roles a ≡ BatcherIn v → Given w.sent a i → Lands holds (reverse w.kept) w.sent (states_of w.roles) a BatcherIn (batcher_row c a tt v i)) kind.Batcher me is
           (laws.batcher (reverse w.kept) w.sent (states_of w.roles) me.index v i knows h) s (given_to i cut p))
+          (λ v first s e. absurd cc)
           (slice_get w.roles.batchers me.index) refl
       at_role kind.Leader is =
           placed kind.Leader LeaderIn leaders leader_rules me act is refl
           (λ v i cut p s. as_role (λ a. states_of w.roles a ≡ LeaderIn v → Given w.sent a i → Lands holds (reverse w.kept) w.sent (states_of w.roles) a LeaderIn (leader_row c a (durable_of leader_rules a (reverse w.kept)) v i)) kind.Leader me is
           (laws.leader (reverse w.kept) w.sent (states_of w.roles) me.index v i knows h) s (given_to i cut p))
+          (λ v first s e. absurd cc)
           (slice_get w.roles.leaders me.index) refl
       at_role kind.Proxy is =
           placed kind.Proxy ProxyIn proxies proxy_rules me act is refl
           (λ v i cut p s. as_role (λ a. states_of w.roles a ≡ ProxyIn v → Given w.sent a i → Lands holds (reverse w.kept) w.sent (states_of w.roles) a ProxyIn (proxy_row c a tt v i)) kind.Proxy me is
           (laws.proxy (reverse w.kept) w.sent (states_of w.roles) me.index v i knows h) s (given_to i cut p))
+          (λ v first s e. absurd cc)
           (slice_get w.roles.proxies me.index) refl
       at_role kind.Acceptor is =
           placed kind.Acceptor plain acceptors acceptor_rules me act is refl
           (λ v i cut p s. as_role (λ a. states_of w.roles a ≡ Plain → Given w.sent a i → Lands holds (reverse w.kept) w.sent (states_of w.roles) a plain (acceptor_row c a (durable_of acceptor_rules a (reverse w.kept)) tt i)) kind.Acceptor me is
           (laws.acceptor (reverse w.kept) w.sent (states_of w.roles) me.index i knows h) s (given_to i cut p))
+          (λ v first s e. absurd cc)
           (slice_get w.roles.acceptors me.index) refl
       at_role kind.Matchmaker is =
           placed kind.Matchmaker plain matchmakers matchmaker_rules me act is refl
           (λ v i cut p s. as_role (λ a. states_of w.roles a ≡ Plain → Given w.sent a i → Lands holds (reverse w.kept) w.sent (states_of w.roles) a plain (matchmaker_row c a (durable_of matchmaker_rules a (reverse w.kept)) tt i)) kind.Matchmaker me is
           (laws.matchmaker (reverse w.kept) w.sent (states_of w.roles) me.index i knows h) s (given_to i cut p))
+          (λ v first s e. absurd cc)
           (slice_get w.roles.matchmakers me.index) refl
       at_role kind.Replica is =
           placed kind.Replica ReplicaIn replicas replica_rules me act is refl
           (λ v i cut p s. as_role (λ a. states_of w.roles a ≡ ReplicaIn v → Given w.sent a i → Lands holds (reverse w.kept) w.sent (states_of w.roles) a ReplicaIn (replica_row c a (durable_of replica_rules a (reverse w.kept)) v i)) kind.Replica me is
           (laws.replica (reverse w.kept) w.sent (states_of w.roles) me.index v i knows h) s (given_to i cut p))
+          (λ v first. as_role (λ a. states_of w.roles a ≡ ReplicaIn v → replica_rules.snap c a (durable_of replica_rules a (reverse w.kept)) v ≡ Some first → holds (snap_by a first ∷ reverse w.kept) w.sent (states_of w.roles)) kind.Replica me is
+          (laws.snap (reverse w.kept) w.sent (states_of w.roles) me.index v first knows h))
           (slice_get w.roles.replicas me.index) refl
       at_role kind.Unbatcher is =
           placed kind.Unbatcher plain unbatchers unbatcher_rules me act is refl
           (λ v i cut p s. as_role (λ a. states_of w.roles a ≡ Plain → Given w.sent a i → Lands holds (reverse w.kept) w.sent (states_of w.roles) a plain (unbatcher_row c a tt tt i)) kind.Unbatcher me is
           (laws.unbatcher (reverse w.kept) w.sent (states_of w.roles) me.index i knows h) s (given_to i cut p))
+          (λ v first s e. absurd cc)
           (slice_get w.roles.unbatchers me.index) refl
       at_role kind.Reader is =
           placed kind.Reader ReaderIn readers reader_rules me act is refl
           (λ v i cut p s. as_role (λ a. states_of w.roles a ≡ ReaderIn v → Given w.sent a i → Lands holds (reverse w.kept) w.sent (states_of w.roles) a ReaderIn (reader_row c a tt v i)) kind.Reader me is
           (laws.reader (reverse w.kept) w.sent (states_of w.roles) me.index v i knows h) s (given_to i cut p))
+          (λ v first s e. absurd cc)
           (slice_get w.roles.readers me.index) refl
 
     acts : (act : Act) (me : RoleId) → ActGiven w.sent me act → AfterChange (act_at w act me)
@@ -321,6 +357,7 @@ module _ (c : Cluster) (Allowed : Event → Type 0) (known holds : Property) (la
     changes (event.Deliver n cut) allowed = comes cut (slice_get w.sent n) (λ d e. (refl, Member-at d w.sent n e))
     changes (event.Tick r) allowed = acts (Give input.Tick Whole) r tt
     changes (event.Order l order cut) allowed = acts (Give (input.Order order) cut) (role kind.Leader l) tt
+    changes (event.Snap p cut) allowed = acts (Snap cut) (role kind.Replica p) tt
     changes (event.Crash r) allowed = acts Stop r tt
     changes (event.Restart r) allowed = acts Wake r tt
 

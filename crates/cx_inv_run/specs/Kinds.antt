@@ -1,5 +1,5 @@
--- Which kind of role sends each kind of datagram, and keeps each kind of record.
-use Rattle.std.specs.Prelude.{◌≡◌, ◌⊎◌, List, Option, None, Some}
+-- Which kind of role sends each kind of datagram, and makes each kind of change in its store.
+use Rattle.std.specs.Prelude.{◌≡◌, true, false, ◌⊎◌, List, Option, None, Some}
 use Rattle.cx_base.specs.declared.cluster.Cluster.{Cluster}
 use Rattle.cx_base.specs.declared.event.Event.{Event}
 use Rattle.cx_base.specs.declared.role.Kind.{Kind}
@@ -7,6 +7,8 @@ use Rattle.cx_base.specs.declared.role.Kind.TheVariants as kind
 use Rattle.cx_base.specs.declared.role.RoleId.{RoleId}
 use Rattle.cx_msg.specs.Letter.{Letter}
 use Rattle.cx_msg.specs.declared.input.KeptRecord.{KeptRecord}
+use Rattle.cx_msg.specs.declared.input.Written.{Written}
+use Rattle.cx_msg.specs.declared.input.Written.TheVariants as written
 use Rattle.cx_msg.specs.declared.kept.Record.{Record}
 use Rattle.cx_msg.specs.declared.kept.Record.TheVariants as kept
 use Rattle.cx_msg.specs.declared.message.Msg.{Msg}
@@ -47,6 +49,7 @@ IsSender k (msg.PreReadAck t w n) = k ≡ kind.Acceptor
 IsSender k (msg.Read t n key) = k ≡ kind.Reader
 IsSender k (msg.ReadAnswer seq n found) = k ≡ kind.Replica
 
+-- none keeps the records of a renewed list, which stand in the place of others
 abbrev pub IsKeeper : Kind → Record → Type 0
 IsKeeper k (kept.Promise i) = k ≡ kind.Acceptor
 IsKeeper k (kept.Vote i s cw v) = k ≡ kind.Acceptor
@@ -55,6 +58,12 @@ IsKeeper k (kept.Match i g) = k ≡ kind.Matchmaker
 IsKeeper k (kept.Garbage i g) = k ≡ kind.Matchmaker
 IsKeeper k (kept.Round i g) = k ≡ kind.Leader
 IsKeeper k (kept.Log values) = k ≡ kind.Replica
+IsKeeper k other = true ≡ false
+
+-- a role of this kind may make this change in its store: keep a record of its kind; a replica also forgets values
+abbrev pub IsWriter : Kind → Written → Type 0
+IsWriter k (written.Record r) = IsKeeper k r
+IsWriter k (written.Snap first) = k ≡ kind.Replica
 
 abbrev pub IsKept : Kind → Option Record → Type 0
 IsKept k None = Unit {0}
@@ -65,12 +74,12 @@ pub record OfKind {V : Type 0} (me : RoleId) (o : Outcome V) : Type 0 where
   pub sends : (d : Letter) → Member d o.sends → (d.from ≡ me) × IsSender me.kind d.msg
   pub keeps : IsKept me.kind o.kept
 
--- every datagram and every record is of its role's kind
+-- every datagram and every change is of its role's kind
 pub record Kinds (history : List KeptRecord) (sent : List Letter) (states : RoleId → State) : Type 0 where
   pub senders : (d : Letter) → Member d sent → IsSender d.from.kind d.msg
-  pub keepers : (k : KeptRecord) → Member k history → IsKeeper k.role.kind k.what
+  pub keepers : (k : KeptRecord) → Member k history → IsWriter k.role.kind k.what
 
 -- it is so in every run
 pub record KindsLaw : Type 0 where
   pub senders : (c : Cluster) (es : List Event) (d : Letter) → Member d (run c es).sent → IsSender d.from.kind d.msg
-  pub keepers : (c : Cluster) (es : List Event) (k : KeptRecord) → Member k (run c es).kept → IsKeeper k.role.kind k.what
+  pub keepers : (c : Cluster) (es : List Event) (k : KeptRecord) → Member k (run c es).kept → IsWriter k.role.kind k.what

@@ -1,4 +1,5 @@
--- What a property of moments needs, so that every step keeps it: one law for each kind of step, and one for each kind of role's rows.
+-- What a property of moments needs, so that every step keeps it: one law for each kind of step, one for each kind of role's rows, and one for
+-- a replica that forgets values.
 use Rattle.std.specs.Prelude.{◌≡◌, ◌⊎◌, ℕ, List, [], ◌∷◌, ◌++◌, Some}
 use Rattle.cx_base.specs.declared.cluster.Cluster.{Cluster}
 use Rattle.cx_base.specs.declared.event.Event.{Event}
@@ -21,7 +22,7 @@ use Rattle.cx_model.specs.Replica.{ReplicaVolatile, replica_rules, replica_row}
 use Rattle.cx_model.specs.Request.{request}
 use Rattle.cx_model.specs.Unbatcher.{unbatcher_row}
 use Rattle.cx_model.specs.World.{World, change, step, run, run_from}
-use Rattle.cx_inv_run.specs.States.{State, Down, Plain, BatcherIn, LeaderIn, ProxyIn, ReplicaIn, ReaderIn, plain, fresh_state, set_state, entry_by, with_record, durable_of, Given, Property, HoldsIn}
+use Rattle.cx_inv_run.specs.States.{State, Down, Plain, BatcherIn, LeaderIn, ProxyIn, ReplicaIn, ReaderIn, plain, fresh_state, set_state, entry_by, snap_by, with_record, durable_of, Given, Property, HoldsIn}
 
 -- The outcome of a row keeps a property: the whole step, and the step that is cut after its record was kept. (A step that is cut before is a stop.)
 pub record Lands {V : Type 0} (holds : Property) (kept : List KeptRecord) (sent : List Letter) (states : RoleId → State) (me : RoleId) (make : V → State) (o : Outcome V) : Type 0 where
@@ -63,6 +64,11 @@ pub record Laws (c : Cluster) (Allowed : Event → Type 0) (known holds : Proper
   pub replica : (kept : List KeptRecord) (sent : List Letter) (states : RoleId → State) (p : ℕ) (v : ReplicaVolatile) (i : Input)
       → known kept sent states → holds kept sent states → states (role kind.Replica p) ≡ ReplicaIn v → Given sent (role kind.Replica p) i
       → Lands holds kept sent states (role kind.Replica p) ReplicaIn (replica_row c (role kind.Replica p) (durable_of replica_rules (role kind.Replica p) kept) v i)
+  -- A replica forgets values. (A snap that is cut after the renewal is this, and then a stop.)
+  pub snap : (kept : List KeptRecord) (sent : List Letter) (states : RoleId → State) (p : ℕ) (v : ReplicaVolatile) (first : ℕ)
+      → known kept sent states → holds kept sent states → states (role kind.Replica p) ≡ ReplicaIn v
+      → replica_rules.snap c (role kind.Replica p) (durable_of replica_rules (role kind.Replica p) kept) v ≡ Some first
+      → holds (snap_by (role kind.Replica p) first ∷ kept) sent states
   pub unbatcher : (kept : List KeptRecord) (sent : List Letter) (states : RoleId → State) (u : ℕ) (i : Input)
       → known kept sent states → holds kept sent states → states (role kind.Unbatcher u) ≡ Plain → Given sent (role kind.Unbatcher u) i
       → Lands holds kept sent states (role kind.Unbatcher u) plain (unbatcher_row c (role kind.Unbatcher u) tt tt i)

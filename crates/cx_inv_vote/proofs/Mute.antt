@@ -42,6 +42,7 @@ module _ (k : Kind) (no_leader : k ≡ kind.Leader → ⊥) (no_matchmaker : k �
   mute_keeps (kept.Garbage i g) e = no_matchmaker e
   mute_keeps (kept.Round i g) e = no_leader e
   mute_keeps (kept.Log values) e = no_replica e
+  mute_keeps other e = cc
 
   module _ (c : Cluster) (history : List KeptRecord) (sent : List Letter) (states : RoleId → State) (facts : Facts c history sent states)
       (me : RoleId) (is : me.kind ≡ k) where

@@ -20,9 +20,8 @@ use Rattle.cx_model.specs.Acceptor.{acceptor_rules}
 use Rattle.cx_model.specs.Leader.{leader_rules, idle_leader}
 use Rattle.cx_model.specs.Matchmaker.{matchmaker_rules}
 use Rattle.cx_model.specs.Member.{Member}
-use Rattle.cx_model.specs.Replica.{replica_rules}
 use Rattle.cx_model.specs.Request.{request}
-use Rattle.cx_inv_run.specs.States.{State, Down, fresh_state, set_state, durable_of}
+use Rattle.cx_inv_run.specs.States.{State, Down, fresh_state, set_state, durable_of, log_in}
 use Rattle.cx_inv_run.proofs.Histories.{set_running, set_same}
 use Rattle.cx_inv_run.proofs.Members.{Member-one}
 use Rattle.cx_inv_run.proofs.Rounds.{before-both, least}
@@ -112,8 +111,8 @@ start_acceptor a = record {
   top = λ j s v x. absurd x.1;
 }
 
-start_values : (p : RoleId) (s : ℕ) (v : Value) → slice_get (durable_of replica_rules p []).log s ≡ Some v → IsChosen [] s v
-unfolding durable_of
+start_values : (p s : ℕ) (v : Value) → slice_get (log_in [] p) s ≡ Some v → IsChosen [] s v
+unfolding log_in
 start_values p s v e = cc
 
 pub start_facts : (c : Cluster) (states : RoleId → State) → ((a : RoleId) → (states a ≡ Down) ⊎ (states a ≡ fresh_state c a.kind)) → Facts c [] [] states
@@ -146,6 +145,7 @@ request_says c history longer (event.Deliver number cut) = λ d m. absurd m
 request_says c history longer (event.Tick r) = λ d m. absurd m
 request_says c history longer (event.Order leader order cut) = λ d m. absurd m
 request_says c history longer (event.Crash r) = λ d m. absurd m
+request_says c history longer (event.Snap replica cut) = λ d m. absurd m
 request_says c history longer (event.Restart r) = λ d m. absurd m
 
 request_quiet : (e : Event) → QuietSends (request e)
@@ -157,6 +157,7 @@ request_quiet (event.Deliver number cut) = λ d m. absurd m
 request_quiet (event.Tick r) = λ d m. absurd m
 request_quiet (event.Order leader order cut) = λ d m. absurd m
 request_quiet (event.Crash r) = λ d m. absurd m
+request_quiet (event.Snap replica cut) = λ d m. absurd m
 request_quiet (event.Restart r) = λ d m. absurd m
 
 pub asked : (c : Cluster) (history : List KeptRecord) (sent : List Letter) (states : RoleId → State) (e : Event)

@@ -7,7 +7,7 @@ use Rattle.cx_model.specs.World.{run, log_of}
 use Rattle.cx_inv_vote.proofs.Agree.{agreement}
 use Rattle.cx_inv_announce.proofs.Steps.{announced}
 use Rattle.cx_inv_bypass.proofs.Steps.{bypassed_rounds}
-use Rattle.cx_inv_held.proofs.Steps.{kept_watermarks}
+use Rattle.cx_inv_held.proofs.Steps.{kept_watermarks, safe_snapshots}
 use Rattle.cx_inv_open.proofs.Steps.{roles_reopen}
 use Rattle.cx_inv_list.proofs.Answers.{answers_are_of_a_log, one_list, reads_tell}
 use Rattle.cx_inv_list.proofs.Right.{machine_is_the_fold}
@@ -36,6 +36,8 @@ lawful c es = record {
   held = kept_watermarks.held c es;
   rounds_ask_later = rounds_ask_later c es;
   reads_ask_later = reads_ask_later c es;
+  nothing_is_lost = safe_snapshots.nothing_is_lost c es;
+  forgotten_is_kept = safe_snapshots.forgotten_is_kept c es;
   announced = announced c es;
   bypassed_rounds = bypassed_rounds c es;
   roles_reopen = roles_reopen c es;

@@ -28,6 +28,8 @@ use Rattle.cx_model.specs.Promises.{
   HeldBelow,
   RoundsAskLater,
   ReadsAskLater,
+  NothingIsLost,
+  ForgottenIsKept,
 }
 use Rattle.cx_model.specs.World.{run, log_of}
 use Rattle.cx_inv_announce.specs.Announced.{Announced}
@@ -58,6 +60,9 @@ pub record IsLawful (c : Cluster) (es : List Event) : Type 0 where
   pub held : HeldBelow c es
   pub rounds_ask_later : RoundsAskLater c es
   pub reads_ask_later : ReadsAskLater c es
+  -- safe snapshots
+  pub nothing_is_lost : NothingIsLost c es
+  pub forgotten_is_kept : ForgottenIsKept c es
   -- announcement
   pub announced : Announced c es
   -- change of grid
