@@ -1,13 +1,14 @@
 //! The map as pairs, with the order of their keys, and room for more keys.
 
-ghost use Rattle.std.specs.Prelude.{◌≡◌, ◌+◌, ◌++◌, ◌∷◌, ◌^◌, ◌<◌, ◌≤◌, [], OnOk};
+ghost use Rattle.std.specs.Prelude.{◌≡◌, ◌+◌, ◌++◌, ◌∷◌, ◌^◌, ◌<◌, ◌≤◌, [], true, OnErr, OnOk};
 ghost use Rattle.std.specs.Prelude.{length, map, slice_index_or, slice_set, vec_capacity, vec_len};
 ghost use Rattle.std.specs.List.{insert, remove};
 ghost use Rattle.std.specs.Option.{option_copied};
 ghost use Rattle.cx_base.specs.declared.command.Pair.{Pair};
 ghost use Rattle.cx_base.specs.Fold.{text_at, with_text, without_key};
+ghost use Rattle.cx_base.specs.Lists.{rises};
 ghost use Rattle.cx_kv.specs.Picked.{AreBelow, IsOrdered, picked, renamed};
-ghost use Rattle.cx_kv.specs.Rising.{IsRising};
+ghost use Rattle.cx_kv.specs.Rising.{IsRising, has_lower_key};
 ghost use Rattle.cx_kv.specs.State.{MapState};
 
 use crate::order::{index_at, look_up, pair_at};
@@ -82,7 +83,8 @@ impl Pairs {
 
     /// How many keys it has. It takes no memory.
     pub fn len(&self) -> usize
-        ensures { result ≡ length self.now.pairs }
+        ensures len { result ≡ length self.now.pairs }
+        ensures rises { rises has_lower_key self.now.pairs ≡ true }
     {
         self.order.len()
     }
@@ -103,6 +105,20 @@ impl Pairs {
     {
         set_in(&mut self.list, &mut self.order, key, text);
         self.spare -= 1;
+    }
+
+    /// Puts pairs behind all others, their keys rising: for a map that is opened from records. Out of memory, or past
+    /// 2^32 keys, nothing changes.
+    pub fn push_all(&mut self, pairs: &[Pair]) -> Result<(), NoMemory>
+        requires { rises has_lower_key (self.old.pairs ++ pairs.now) ≡ true }
+        ensures ok { OnOk result (self.new.pairs ≡ self.old.pairs ++ pairs.now) }
+        ensures err { OnErr result (self.new.pairs ≡ self.old.pairs) }
+    {
+        self.make_room(pairs.len())?;
+        for pair in pairs {
+            self.put(&pair.key, &pair.text);
+        }
+        Ok(())
     }
 
     /// Removes a key, and gives the text that it had.

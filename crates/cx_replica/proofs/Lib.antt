@@ -1,8 +1,12 @@
 pub mod Executing
 pub mod Letters
+pub mod Noted
 pub mod Progress
 pub mod Reading
+pub mod Renewable
+pub mod Rises
 pub mod Roomy
 pub mod Rows
-pub mod Values
+pub mod Snapping
 pub mod Vacant
+pub mod Values

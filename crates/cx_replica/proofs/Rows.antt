@@ -2,11 +2,12 @@
 use Rattle.std.proofs.Common.{◌≡◌, ℕ, zero, suc, ◌+◌, ◌-◌, ◌<◌, ◌≤◌, ◌^◌, ◌==◌, ◌&&◌, Bool, true, false, List, [], ◌∷◌}
 use Rattle.std.proofs.Common.{◌++◌}
 use Rattle.std.proofs.Common.{length, Option, None, Some, refl, ap, sym, ◌∙◌, subst, inl, inr, arith}
-use Rattle.std.specs.Prelude.{if◌then◌else◌, nat_lt, nat_le, min}
+use Rattle.std.specs.Prelude.{nat_lt, nat_le, min}
 use Rattle.std.specs.List.{list_all, slice_get}
 use Rattle.std.proofs.lemmas.Bool.{and_from, and_parts, cases_Bool, eqb-true}
 use Rattle.std.proofs.lemmas.Bool.Decides.{nat_tests}
 use Rattle.std.proofs.Math.Bool.{and-false}
+use Rattle.std.proofs.lemmas.List.{length-append}
 use Rattle.std.proofs.lemmas.List.Folds.{list_all-append}
 use Rattle.std.proofs.lemmas.List.Sums.{count_by-le-length, length-filter}
 use Rattle.std.proofs.lemmas.Option.{same_Some}
@@ -15,35 +16,30 @@ use Rattle.cx_base.specs.declared.command.Placed.{Placed}
 use Rattle.cx_base.specs.declared.command.Value.{Value}
 use Rattle.cx_base.specs.declared.role.RoleId.{RoleId}
 use Rattle.cx_base.specs.Log.{value_for, before_following, following, ready_values, still_early}
-use Rattle.cx_field.specs.Fields.{value, token}
+use Rattle.cx_base.specs.declared.command.Note.{Note}
+use Rattle.cx_wire.specs.Format.{u8, u32, u64}
+use Rattle.cx_model.specs.Renewed.{IsOrdered}
+use Rattle.cx_field.specs.Fields.{mark, value, token}
 use Rattle.cx_msg.specs.Records.{kept_record, fits as record_fits}
 use Rattle.cx_msg.specs.declared.kept.Record.TheVariants as kept
 use Rattle.cx_model.specs.declared.states.Deferred.{Deferred}
 use Rattle.cx_model.specs.Names.{names_value}
 use Rattle.cx_model.specs.Outcome.{Outcome, by_test}
-use Rattle.cx_model.specs.Replica.{Machine, ReplicaDurable, ReplicaVolatile, execute_value, machine_from, machine_of}
+use Rattle.cx_model.specs.Replica.{Machine, ReplicaDurable, ReplicaVolatile, are_notes_above, held as held_of, is_whole, machine_from, with_client}
+use Rattle.cx_base.specs.Noted.{are_rising}
 use Rattle.cx_model.specs.Replica.{replica_rules, replica_fits, still_deferred}
 use Rattle.cx_model.specs.Rules.{Running}
 use Rattle.cx_field.proofs.Rising.{list_all-filter}
 use Rattle.cx_replica.specs.Rows.{chosen_in}
-use Rattle.cx_replica.specs.Sound.{is_own, are_own, are_own_early, are_reads, are_values, IsSound}
-use Rattle.cx_replica.proofs.Values.{values_in}
-use Rattle.cx_rlog.specs.State.{LogState}
+use Rattle.cx_replica.specs.Sound.{is_own, are_own, are_own_early, are_notes, are_reads, are_values, IsNoted, IsSound}
+use Rattle.cx_replica.proofs.Values.{notes_in, values_in}
+use Rattle.cx_replica.specs.declared.wanted.Wanted.{Wanted}
+use Rattle.cx_replica.proofs.Noted.{values_noted}
+use Rattle.cx_rlog.specs.State.{LogState, held}
 use Rattle.cx_rlog.proofs.Following.{still_early-filter}
 use Rattle.cx_role.specs.Role.{MayKeep}
 use Rattle.cx_rlog.specs.Taken.{taken_at}
 use Rattle.cx_rlog.specs.declared.taken.Taken.TheVariants as taken
-
--- values that follow others are executed after them
-machine_from-append : (n : ℕ) (m : Machine) (vs ws : List Value)
-    → machine_from n m (vs ++ ws) ≡ machine_from (n + length vs) (machine_from n m vs) ws
-machine_from-append n m [] ws = let e : n + 0 ≡ n = omega arith in rw e refl
-machine_from-append n m (v ∷ vs) ws =
-    let e : (n + 1) + length vs ≡ n + length (v ∷ vs) = omega arith in
-    rw (← e) (machine_from-append (n + 1) (execute_value n m v).machine vs ws)
-
-pub machine_of-append : (log vs : List Value) → machine_of (log ++ vs) ≡ machine_from (length log) (machine_of log) vs
-machine_of-append log vs = let e : 0 + length log ≡ length log = omega arith in machine_from-append 0 (machine_of []) log vs ∙ rw e refl
 
 value_for_own : (c : Cluster) (s : ℕ) (early : List Placed) (v : Value) → are_own_early c early ≡ true
     → value_for s early ≡ Some v → is_own c v ≡ true
@@ -101,7 +97,7 @@ own_parts c (v ∷ vs) =
     regrouped true true fs ns = refl
     regrouped true false fs ns = sym (and-false fs)
 
-both_parts : (c : Cluster) (vs : List Value) → are_own c vs ≡ true → (are_values vs ≡ true) × (are_named c vs ≡ true)
+pub both_parts : (c : Cluster) (vs : List Value) → are_own c vs ≡ true → (are_values vs ≡ true) × (are_named c vs ≡ true)
 both_parts c vs own = and_parts (are_values vs) (are_named c vs) (sym (own_parts c vs) ∙ own)
 
 pub own_fits : (c : Cluster) (vs : List Value) → are_own c vs ≡ true → are_values vs ≡ true
@@ -127,51 +123,161 @@ still_own c held early own =
     (list_all-filter (λ (p : Placed). nat_le held p.slot) (λ (p : Placed). is_own c p.value) early own)
 
 -- a chosen value's record is one that the replica may keep
-pub chosen_fits : (r : Running ReplicaDurable ReplicaVolatile) (s : ℕ) (w : Value) → s < 2 ^ 40
+pub chosen_fits : (r : Running ReplicaDurable ReplicaVolatile) (s : ℕ) (w : Value) → s < 2 ^ 40 → is_whole r.durable ≡ true
     → is_own r.cluster w ≡ true → are_own_early r.cluster r.volatile.early ≡ true
     → MayKeep replica_rules r (chosen_in r s w)
-chosen_fits r s w below one own =
-    let held = length r.durable.log in
+chosen_fits r s w below whole one own =
+    let n = held_of r.durable in
     let Fits : Outcome ReplicaVolatile → Type 0 = λ o. MayKeep replica_rules r o in
-    by_test Fits (nat_lt s held) _ _ (λ _. tt)
-    (λ past. by_test Fits (nat_le (held + 32) s) _ _ (λ _. tt)
-    (λ far. by_test Fits (nat_lt held s) _ _ (λ _. tt)
+    by_test Fits (nat_lt s n) _ _ (λ _. tt)
+    (λ past. by_test Fits (nat_le (n + 32) s) _ _ (λ _. tt)
+    (λ far. by_test Fits (nat_lt n s) _ _ (λ _. tt)
     (λ early.
-    let under : held < 2 ^ 40 = grind (arith, nat_tests) in
-    let short = ready_short held r.volatile.early w under in
-    let ready = ready_own r.cluster held r.volatile.early w one own in
-    and_from _ _ (both_parts r.cluster (ready_values held r.volatile.early w) ready).1 (grind (arith, nat_tests)))))
+    let under : n < 2 ^ 40 = grind (arith, nat_tests) in
+    let short = ready_short n r.volatile.early w under in
+    let ready = ready_own r.cluster n r.volatile.early w one own in
+    let named = (both_parts r.cluster (ready_values n r.volatile.early w) ready).1 in
+    (and_from _ _ (and_from _ _ whole named) (grind (arith, nat_tests)), whole))))
 
 pub log_fits : (vs : List Value) → record_fits (kept.Log vs) ≡ true → are_values vs ≡ true
 unfolding kept_record
 log_fits vs h = values_in vs h
 
+-- values of a record that fits a list that is whole
 pub logged_own : (c : Cluster) (me : RoleId) (d : ReplicaDurable) (vs : List Value)
-    → record_fits (kept.Log vs) ≡ true → replica_fits c me d (kept.Log vs) ≡ true → are_own c vs ≡ true
+    → are_values vs ≡ true → replica_fits c me d (kept.Log vs) ≡ true → are_own c vs ≡ true
 logged_own c me d vs fit own =
-    let named = (and_parts (are_named c vs) (nat_le (length d.log + length vs) 1099511627776) own).0 in
-    own_parts c vs ∙ and_from (are_values vs) (are_named c vs) (log_fits vs fit) named
+    let named = (and_parts (is_whole d) (are_named c vs) (and_parts (is_whole d && are_named c vs) (nat_le (held_of d + length vs) 1099511627776) own).0).1 in
+    own_parts c vs ∙ and_from (are_values vs) (are_named c vs) fit named
+
+pub tailed_own : (c : Cluster) (me : RoleId) (d : ReplicaDurable) (vs : List Value)
+    → are_values vs ≡ true → replica_fits c me d (kept.Tail vs) ≡ true → are_own c vs ≡ true
+tailed_own c me d vs fit own =
+    let named = (and_parts (d.pairs == 0 && d.clients == 0) (are_named c vs) (and_parts (d.pairs == 0 && d.clients == 0 && are_named c vs) (length vs == min 32 d.values) own).0).1 in
+    own_parts c vs ∙ and_from (are_values vs) (are_named c vs) fit named
+
+pub tailed_few : (c : Cluster) (me : RoleId) (d : ReplicaDurable) (vs : List Value) → replica_fits c me d (kept.Tail vs) ≡ true
+    → length vs ≤ d.values
+tailed_few c me d vs own =
+    let size = (and_parts (d.pairs == 0 && d.clients == 0 && are_named c vs) (length vs == min 32 d.values) own).1 in
+    grind (arith, nat_tests, size)
+
+pub noted_parts : (c : Cluster) (me : RoleId) (d : ReplicaDurable) (client floor : ℕ) (notes : List Note) → replica_fits c me d (kept.Notes client floor notes) ≡ true
+    → (nat_lt client c.clients ≡ true) × (are_rising 0 (with_client client floor notes d.machine.table).floors ≡ true) × (are_notes_above floor notes ≡ true)
+noted_parts c me d client floor notes own =
+    let p = and_parts (d.pairs == 0 && nat_lt 0 d.clients && nat_lt client c.clients && are_rising 0 (with_client client floor notes d.machine.table).floors) (are_notes_above floor notes) own in
+    let q = and_parts (d.pairs == 0 && nat_lt 0 d.clients && nat_lt client c.clients) (are_rising 0 (with_client client floor notes d.machine.table).floors) p.0 in
+    let r = and_parts (d.pairs == 0 && nat_lt 0 d.clients) (nat_lt client c.clients) q.0 in
+    (r.1, q.1, p.1)
+
+-- a list that wants nothing more is whole
+pub wants_nothing : (pairs clients values : ℕ) → (pairs ≡ 0) × (clients ≡ 0) × (values ≡ 0)
+    → (pairs == 0 && clients == 0 && values == 0) ≡ true
+wants_nothing pairs clients values none =
+    let p = none.0 in
+    let q = none.1 in
+    let r = none.2 in
+    rw (p, q, r) refl
+
+pub wants_none : (pairs clients values : ℕ) → (pairs == 0 && clients == 0 && values == 0) ≡ true
+    → (pairs ≡ 0) × (clients ≡ 0) × (values ≡ 0)
+wants_none pairs clients values whole =
+    let b = and_parts (pairs == 0 && clients == 0) (values == 0) whole in
+    let a = and_parts (pairs == 0) (clients == 0) b.0 in
+    (eqb-true pairs 0 a.0, eqb-true clients 0 a.1, eqb-true values 0 b.1)
+
+pub logged_parts : (c : Cluster) (me : RoleId) (d : ReplicaDurable) (vs : List Value) → replica_fits c me d (kept.Log vs) ≡ true
+    → ((d.pairs ≡ 0) × (d.clients ≡ 0) × (d.values ≡ 0)) × (held_of d + length vs ≤ 2 ^ 40)
+logged_parts c me d vs own =
+    let p = and_parts (is_whole d && are_named c vs) (nat_le (held_of d + length vs) 1099511627776) own in
+    let whole = (and_parts (is_whole d) (are_named c vs) p.0).0 in
+    let short = p.1 in
+    (wants_none d.pairs d.clients d.values whole, grind (arith, nat_tests, short))
 
 -- a replica is sound after more values of the cluster, once they are executed
-pub sound_more : (c : Cluster) (me : RoleId) (log new : LogState) (m n : Machine) (reads left : List Deferred)
+pub sound_more : (c : Cluster) (me : RoleId) (live : Bool) (log new : LogState) (m n : Machine) (w : Wanted) (reads left : List Deferred)
     (vs : List Value)
-    → IsSound c me log m reads
-    → new.list ≡ log.list ++ vs → are_own c vs ≡ true → are_own_early c new.early ≡ true
-    → n ≡ machine_from (length log.list) m vs
-    → are_reads left ≡ true → length left ≤ 64 → IsSound c me new n left
-sound_more c me log new m n reads left vs sound list own early ran fit few = record {
+    → IsSound c me live log m w reads → (w.pairs ≡ 0) × (w.clients ≡ 0) × (w.values ≡ 0)
+    → new.first ≡ log.first → new.list ≡ log.list ++ vs → are_own c vs ≡ true → are_own_early c new.early ≡ true
+    → n ≡ machine_from (held log) m vs → held log + length vs ≤ 2 ^ 40
+    → are_reads left ≡ true → length left ≤ 64 → IsSound c me live new n (record w { begun = true }) left
+sound_more c me live log new m n w reads left vs sound none first list own early ran short fit few =
+    let both = values_noted c (held log) m vs own sound.ordered sound.noted in
+    let size : length new.list ≡ length log.list + length vs = ap (λ (l : List Value). length l) list ∙ length-append log.list vs in
+    let nothing = none.2 in
+    record {
+      kind = sound.kind;
+      place = sound.place;
+      held = subst (λ (l : List Value). are_own c l ≡ true) (sym list) (own-append c log.list vs sound.held own);
+      waiting = early;
+      reads = fit;
+      few = few;
+      ordered = rw ran both.0;
+      noted = rw ran both.1;
+      short = omega (arith, first, size, nothing, short);
+      fresh = λ e. cc;
+      whole = λ e. none;
+    }
+
+-- values that were executed before stand behind those that it has
+pub sound_tail : (c : Cluster) (me : RoleId) (live : Bool) (log new : LogState) (m : Machine) (w : Wanted) (reads : List Deferred) (vs : List Value)
+    → IsSound c me live log m w reads → live ≡ false → new.first ≡ log.first → new.list ≡ log.list ++ vs → are_own c vs ≡ true
+    → are_own_early c new.early ≡ true → length vs ≤ w.values
+    → IsSound c me live new m (record w { begun = true; values = w.values - length vs }) reads
+sound_tail c me live log new m w reads vs sound waits first list own early most =
+    let size : length new.list ≡ length log.list + length vs = ap (λ (l : List Value). length l) list ∙ length-append log.list vs in
+    let before = sound.short in
+    record {
+      kind = sound.kind;
+      place = sound.place;
+      held = subst (λ (l : List Value). are_own c l ≡ true) (sym list) (own-append c log.list vs sound.held own);
+      waiting = early;
+      reads = sound.reads;
+      few = sound.few;
+      ordered = sound.ordered;
+      noted = sound.noted;
+      short = omega (arith, first, size, most, before);
+      fresh = λ e. cc;
+      whole = λ e. cc;
+    }
+
+-- what is noted of one more client
+pub sound_notes : (c : Cluster) (me : RoleId) (live : Bool) (log : LogState) (m n : Machine) (w : Wanted) (reads : List Deferred)
+    → IsSound c me live log m w reads → live ≡ false → IsOrdered n.table → IsNoted c n.table
+    → IsSound c me live log n (record w { begun = true; clients = w.clients - 1 }) reads
+sound_notes c me live log m n w reads sound waits ordered noted = record {
   kind = sound.kind;
   place = sound.place;
-  machine = ran ∙ ap (λ (x : Machine). machine_from (length log.list) x vs) sound.machine ∙ sym (machine_of-append log.list vs) ∙ ap machine_of (sym list);
-  held = subst (λ (l : List Value). are_own c l ≡ true) (sym list) (own-append c log.list vs sound.held own);
-  waiting = early;
-  reads = fit;
-  few = few;
+  held = sound.held;
+  waiting = sound.waiting;
+  reads = sound.reads;
+  few = sound.few;
+  ordered = ordered;
+  noted = noted;
+  short = sound.short;
+  fresh = λ e. cc;
+  whole = λ e. cc;
 }
 
-pub none_own : (c : Cluster) (log : LogState) (list : List Value) (spare : ℕ)
-    → log ≡ record { list = list; early = []; spare = spare } → are_own_early c log.early ≡ true
-none_own c log list spare is = subst (λ (l : LogState). are_own_early c l.early ≡ true) (sym is) refl
+pub base_held : (f h p n : ℕ) → record_fits (kept.Base f h p n) ≡ true → h ≤ 2 ^ 40
+unfolding kept_record mark u64
+base_held f h p n fit =
+    let most = (and_parts (mark.fits h) (u32.fits p && u8.fits n) (and_parts (mark.fits f) (mark.fits h && (u32.fits p && u8.fits n)) fit).1).0 in
+    grind (arith, nat_tests, most)
+
+pub tail_fits : (vs : List Value) → record_fits (kept.Tail vs) ≡ true → are_values vs ≡ true
+unfolding kept_record
+tail_fits vs h = values_in vs h
+
+pub notes_fit : (client floor : ℕ) (ns : List Note) → record_fits (kept.Notes client floor ns) ≡ true → are_notes client ns ≡ true
+unfolding kept_record
+notes_fit client floor ns h =
+    let parts = and_parts _ _ h in
+    notes_in client ns parts.0 (and_parts _ _ parts.1).1
+
+pub none_own : (c : Cluster) (log : LogState) (first : ℕ) (list : List Value) (spare : ℕ)
+    → log ≡ record { first = first; list = list; early = []; spare = spare } → are_own_early c log.early ≡ true
+none_own c log first list spare is = subst (λ (l : LogState). are_own_early c l.early ≡ true) (sym is) refl
 
 next_is : (held s : ℕ) → taken.Next ≡ taken_at held s → s ≡ held
 next_is held s e = elim (cases_Bool (nat_lt s held)) as (λ _. s ≡ held) [
@@ -186,11 +292,11 @@ next_is held s e = elim (cases_Bool (nat_lt s held)) as (λ _. s ≡ held) [
 ]
 
 -- the next slot is below the end of slots where it is taken
-pub next_below : (old new : LogState) (early : List Placed) (s : ℕ) → taken.Next ≡ taken_at (length old.list) s
-    → new ≡ record old { early = early } → s < 2 ^ 40 → length new.list < 2 ^ 40
+pub next_below : (old new : LogState) (early : List Placed) (s : ℕ) → taken.Next ≡ taken_at (held old) s
+    → new ≡ record old { early = early } → s < 2 ^ 40 → held new < 2 ^ 40
 next_below old new early s next is below =
-    let here : s ≡ length old.list = next_is (length old.list) s next in
-    let same : length new.list ≡ length old.list = ap (λ (l : LogState). length l.list) is in
+    let here : s ≡ held old = next_is (held old) s next in
+    let same : held new ≡ held old = ap (λ (l : LogState). held l) is in
     omega arith
 
 -- the reads that still wait are in their ranges, and no more than before

@@ -2,19 +2,21 @@
 use Rattle.std.proofs.Common.{◌≡◌, ℕ, ◌<◌, ◌≤◌, ◌^◌, Bool, true, ◌&&◌, List, [], ◌∷◌, ◌++◌, length, refl, ap, sym, ◌∙◌}
 use Rattle.std.proofs.Common.{arith}
 use Rattle.std.specs.List.{list_all}
-use Rattle.std.proofs.lemmas.Bool.{and_parts}
+use Rattle.std.proofs.lemmas.Bool.{and_from, and_parts}
 use Rattle.std.proofs.lemmas.Bool.Decides.{nat_tests}
 use Rattle.cx_base.specs.declared.command.Answered.{Answered}
 use Rattle.cx_base.specs.declared.command.Command.{Command}
 use Rattle.cx_base.specs.declared.command.Value.{Value}
 use Rattle.cx_base.specs.declared.command.Value.TheVariants.{Batch}
-use Rattle.cx_wire.specs.Format.{Format, u8, u64, each_fits}
-use Rattle.cx_field.specs.Fields.{slot, mark, command, command_with, commands_with, value, value_with, answered}
+use Rattle.cx_base.specs.declared.command.Note.{Note}
+use Rattle.cx_model.specs.Replica.{answer_of}
+use Rattle.cx_wire.specs.Format.{Format, u8, u16, u64, each_fits}
+use Rattle.cx_field.specs.Fields.{slot, mark, command, command_with, commands_with, value, value_with, answered, note, notes}
 use Rattle.cx_field.specs.Fields.{answers}
 use Rattle.cx_field.specs.Fields.{values}
-use Rattle.cx_replica.specs.Sound.{are_answers, are_commands, are_values}
+use Rattle.cx_replica.specs.Sound.{are_answers, are_commands, are_notes, are_values}
 
-each_fits-same : {A : Type 0} (f : Format A) (before xs : List A)
+pub each_fits-same : {A : Type 0} (f : Format A) (before xs : List A)
     → each_fits (λ _. f) before xs ≡ list_all (λ (x : A). f.fits x) xs
 unfolding each_fits
 each_fits-same f before [] = refl
@@ -55,3 +57,18 @@ slot_fits n below = grind (arith, nat_tests)
 pub mark_fits : (n : ℕ) → n ≤ 2 ^ 40 → mark.fits n ≡ true
 unfolding mark u64
 mark_fits n most = grind (arith, nat_tests)
+
+-- each note of a record that fits is an answer that fits
+note_in : (client : ℕ) (n : Note) → u16.fits client ≡ true → note.fits n ≡ true → answered.fits (answer_of client n) ≡ true
+unfolding answered note
+note_in client n who fit = and_from _ _ who fit
+
+all_notes_in : (client : ℕ) (ns : List Note) → u16.fits client ≡ true → list_all (λ (n : Note). note.fits n) ns ≡ true → are_notes client ns ≡ true
+all_notes_in client [] who all = refl
+all_notes_in client (n ∷ ns) who all =
+    let parts = and_parts (note.fits n) (list_all (λ (x : Note). note.fits x) ns) all in
+    and_from (answered.fits (answer_of client n)) (are_notes client ns) (note_in client n who parts.0) (all_notes_in client ns who parts.1)
+
+pub notes_in : (client : ℕ) (ns : List Note) → u16.fits client ≡ true → notes.fits ns ≡ true → are_notes client ns ≡ true
+unfolding notes
+notes_in client ns who h = all_notes_in client ns who (sym (each_fits-same note [] ns) ∙ ((and_parts _ _ ((and_parts _ _ h).1)).1))

@@ -1,7 +1,7 @@
 //! The row of a chosen value.
 
-ghost use Rattle.std.specs.Prelude.{◌≡◌, ◌<◌, ◌^◌, [], length, true, IsTrue};
-ghost use Rattle.cx_model.specs.Replica.{replica_rules};
+ghost use Rattle.std.specs.Prelude.{◌≡◌, ◌<◌, ◌^◌, [], true, IsTrue};
+ghost use Rattle.cx_model.specs.Replica.{held, replica_rules};
 ghost use Rattle.cx_field.specs.Fields as field;
 ghost use Rattle.cx_replica.specs.Room.{is_log, values_of};
 ghost use Rattle.cx_replica.specs.Rows.{applied_in, chosen_in};
@@ -54,7 +54,7 @@ impl Replica {
     ) -> Result<Why, StepFault>
         requires live { self.old.live ≡ true }
         requires empty { out.old.list ≡ [] }
-        requires slot { length self.old.durable.log < 2 ^ 40 }
+        requires slot { held self.old.durable < 2 ^ 40 }
         requires value { IsTrue (is_own self.old.cluster value.now) }
         ensures { IsStep K.append_gives K.tells replica_rules self.old (applied_in self.old value.now)
             result self.new keeper.old keeper.new out.new.list }
@@ -72,6 +72,7 @@ impl Replica {
         let held = held + count as u64;
         answer_reads(self.me, held, &self.machine, &self.deferred, out);
         self.log.put(values);
+        self.wanted.begun = true;
         drop_answered(&mut self.deferred, self.log.held());
         Ok(Why::Applied)
     }
@@ -90,5 +91,9 @@ fn into_values(what: Record) -> LogValues
         Record::Match { .. } => unreachable!(),
         Record::Garbage { .. } => unreachable!(),
         Record::Round { .. } => unreachable!(),
+        Record::Base { .. } => unreachable!(),
+        Record::Pairs { .. } => unreachable!(),
+        Record::Notes { .. } => unreachable!(),
+        Record::Tail { .. } => unreachable!(),
     }
 }

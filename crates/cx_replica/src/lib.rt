@@ -8,9 +8,13 @@
 mod apply;
 mod clients;
 mod machine;
+mod opening;
+mod orders;
 mod reads;
 mod replica;
 mod rooms;
 mod sending;
+mod snap;
+mod wanted;
 
 pub use replica::Replica;

@@ -1,21 +1,29 @@
 //! What executing values leaves: the map, and the client table.
 
-ghost use Rattle.std.specs.Prelude.{◌≡◌, ◌+◌, ◌^◌, ◌++◌, ◌∷◌, ◌<◌, ◌≤◌, [], length, IfOk, OnOk, IsTrue};
-ghost use Rattle.std.specs.Prelude.{vec_capacity, vec_len};
+ghost use Rattle.std.specs.Prelude.{◌≡◌, ℕ, ◌+◌, ◌^◌, ◌++◌, ◌∷◌, ◌<◌, ◌≤◌, [], true, length, IfOk, OnOk, IsTrue};
+ghost use Rattle.cx_base.specs.declared.command.Floor.{Floor};
+ghost use Rattle.cx_base.specs.Lists.{rises};
+ghost use Rattle.cx_base.specs.Noted.{are_rising, floor_of};
+ghost use Rattle.cx_kv.specs.Rising.{has_lower_key};
+ghost use Rattle.std.specs.Prelude.{slice_index_or, vec_capacity, vec_len};
+ghost use Rattle.cx_base.specs.declared.command.Pair.{Pair as PairOf};
 ghost use Rattle.cx_base.specs.declared.role.Kind.TheVariants as kind;
 ghost use Rattle.cx_base.specs.Fold.{command_list, commands_of, text_at};
 ghost use Rattle.cx_field.specs.Fields as field;
 ghost use Rattle.cx_model.specs.Replica.{new_machine, acting, execute, execute_all, execute_value};
-ghost use Rattle.cx_model.specs.Replica.{machine_from, results_from};
+ghost use Rattle.cx_model.specs.Renewed.{IsOrdered};
+ghost use Rattle.cx_model.specs.Replica.{are_notes_above, machine_from, results_from, with_client};
 ghost use Rattle.cx_replica.specs.Room.{HasRoom, LeavesRoom};
-ghost use Rattle.cx_replica.specs.Sound.{are_answers, are_commands, are_values};
+ghost use Rattle.cx_replica.specs.Sound.{are_answers, are_clients_below, are_commands, are_notes, are_values};
+ghost use Rattle.cx_table.specs.Entries.{of_client};
 ghost use Rattle.cx_table.specs.Judged.{judge_of};
 ghost use Rattle.cx_table.specs.declared.judge.Judge.TheVariants as judge;
 
 use crate::clients;
+use crate::orders::{pairs_rise, rise_behind};
 use crate::rooms::{COMMANDS, Rooms};
 use crate::sending::send_results;
-use cx_base::{Answered, Cluster, Command, Key, NoMemory, RoleId, Text, Value};
+use cx_base::{Answered, Cluster, Command, Key, NoMemory, Note, Pair, RoleId, Text, Value};
 use cx_field::reply_fits;
 use cx_kv::Pairs;
 use cx_role::Outbox;
@@ -63,6 +71,59 @@ impl Machine {
         ensures { result ≡ text_at key.now self.now.left.map }
     {
         self.store.get(key).copied()
+    }
+
+    /// Whether pairs may follow those of the map, their keys rising. It takes no memory.
+    pub fn may_push(&self, pairs: &[Pair]) -> bool
+        ensures { result ≡ rises has_lower_key (self.now.left.map ++ pairs.now) }
+    {
+        let count = self.store.len();
+        if count == 0 {
+            return pairs_rise(pairs);
+        }
+        rise_behind(self.store.at(count - 1), pairs)
+    }
+
+    /// Whether a client's number is above those of all that told a floor, which are below a count. It takes no memory.
+    pub fn is_behind(&self, clients: u16, client: u16) -> bool
+        requires { are_clients_below clients self.now.left.table.floors ≡ true }
+        ensures { (floor : ℕ) → result
+            ≡ are_rising 0 (self.now.left.table.floors ++ record { client = client; floor = floor } ∷ []) }
+    {
+        let _rising = self.table.notes(client);
+        let mut above = clients;
+        while client < above {
+            above -= 1;
+            if self.table.floor(above).is_some() {
+                return false;
+            }
+        }
+        true
+    }
+
+    /// Pairs behind those of the map, for a machine that is opened from records.
+    pub fn push_pairs(&mut self, pairs: &[Pair]) -> Result<(), NoMemory>
+        requires { rises has_lower_key (self.old.left.map ++ pairs.now) ≡ true }
+        ensures { OnOk result (self.new.left ≡ record self.old.left { map = self.old.left.map ++ pairs.now }) }
+    {
+        self.store.push_all(pairs)?;
+        Ok(())
+    }
+
+    /// What is noted of one more client, behind all others, for a machine that is opened from records.
+    pub fn with_client(self, client: u16, floor: u64, notes: &[Note]) -> Result<Self, NoMemory>
+        requires fit { IsTrue (are_notes client notes.now) }
+        requires some { 1 ≤ length notes.now }
+        requires behind { are_rising 0 (self.left.table.floors ++ record { client = client; floor = floor } ∷ []) ≡ true }
+        requires above { are_notes_above floor notes.now ≡ true }
+        ensures left { IfOk result (λ m. m.left
+            ≡ record self.left { table = with_client client floor notes.now self.left.table }) }
+        ensures ordered { IfOk result (λ m. IsOrdered m.left.table) }
+    {
+        let Machine { store, mut table } = self;
+        table.push(client, floor, notes)?;
+        let _in_order = table.notes(client);
+        Ok(Machine { store, table })
     }
 
     /// Makes room for executing values.
@@ -224,5 +285,39 @@ impl Machine {
             self.execute_value(slot, value, &mut answers);
             send_results(cluster, me, slot, answers, out);
         }
+    }
+}
+
+// What a renewed list is made of.
+impl Machine {
+    /// How many keys the map has, which rise. It takes no memory.
+    pub fn keys(&self) -> usize
+        ensures len { result ≡ length self.now.left.map }
+        ensures rises { rises has_lower_key self.now.left.map ≡ true }
+    {
+        self.store.len()
+    }
+
+    /// The pair at a place in the rising order of the keys. It takes no memory.
+    pub fn pair_at(&self, place: usize) -> &Pair
+        requires { place < length self.now.left.map }
+        ensures { (d : PairOf) → slice_index_or self.now.left.map place d ≡ result.now }
+    {
+        self.store.at(place)
+    }
+
+    /// The greatest floor that a client told, if it told one. It takes no memory.
+    pub fn floor(&self, client: u16) -> Option<u64>
+        ensures { result ≡ floor_of client self.now.left.table.floors }
+    {
+        self.table.floor(client)
+    }
+
+    /// The answers to a client's numbers above its floor, by rising number. It takes no memory.
+    pub fn notes(&self, client: u16) -> &[Answered]
+        ensures notes { result.now ≡ of_client client self.now.left.table.notes }
+        ensures fit { IsTrue (are_answers self.now.left.table.notes) }
+    {
+        self.table.notes(client)
     }
 }

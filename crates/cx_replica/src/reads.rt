@@ -5,7 +5,7 @@ ghost use Rattle.std.specs.List.{list_any};
 ghost use Rattle.cx_base.specs.Role.{role};
 ghost use Rattle.cx_base.specs.declared.role.Kind.{Kind};
 ghost use Rattle.cx_model.specs.declared.states.Deferred.{Deferred as DeferredOf};
-ghost use Rattle.cx_model.specs.Replica.{fetch_row, read_row, replica_rules, still_deferred};
+ghost use Rattle.cx_model.specs.Replica.{before, fetch_row, fetched_by, read_row, replica_rules, still_deferred};
 ghost use Rattle.cx_model.specs.Request.{same_read};
 ghost use Rattle.cx_field.specs.Fields as field;
 ghost use Rattle.cx_role.specs.Role.{IsReply};
@@ -57,21 +57,54 @@ impl Replica {
         Ok(Why::Deferred)
     }
 
-    /// Another replica asks for the value of a slot (this project's own).
+    /// The replica that asks this one for values.
+    fn before(&self) -> u32
+        ensures { result ≡ before self.now.cluster self.now.me }
+    {
+        let replicas = u32::from(self.cluster.replicas);
+        (u32::from(self.me.index) + replicas - 1) % replicas
+    }
+
+    /// The replica before this one asked for the value of a slot: no other asks for lower ones any more. It takes no
+    /// memory.
+    fn note_fetch(&mut self, from: RoleId, slot: u64)
+        ensures { self.new ≡ record self.old {
+          volatile = fetched_by self.old.cluster self.old.me self.old.volatile from slot;
+        } }
+    {
+        if u32::from(from.index) == self.before() {
+            self.fetched = self.fetched.max(slot);
+        }
+    }
+
+    /// Another replica asks for the value of a slot, which may be forgotten (this project's own).
     #[tactic(auto, using(crate::proofs::Values::slot_fits, crate::proofs::Rows::fits_at))]
-    pub(crate) fn fetch(&self, from: RoleId, slot: u64, out: &mut Outbox) -> Result<Why, NoMemory>
+    pub(crate) fn fetch(
+        &mut self,
+        from: RoleId,
+        slot: u64,
+        out: &mut Outbox,
+    ) -> Result<Why, NoMemory>
         requires from { from ≡ role Kind.Replica from.index }
         requires empty { out.old.list ≡ [] }
-        ensures { IsReply replica_rules self.now (fetch_row self.now.me self.now.durable self.now.volatile from slot)
-            result self.now out.new.list }
+        ensures { IsReply replica_rules self.old
+            (fetch_row self.old.cluster self.old.me self.old.durable self.old.volatile from slot)
+            result self.new out.new.list }
     {
+        if slot < self.log.first() {
+            self.note_fetch(from, slot);
+            return Ok(Why::Past);
+        }
         if slot >= self.log.held() {
+            self.note_fetch(from, slot);
             return Ok(Why::Idle);
         }
         let Some(value) = self.log.value(self.alloc, slot)? else {
+            self.note_fetch(from, slot);
             return Ok(Why::Idle);
         };
         out.room(1)?;
+        self.note_fetch(from, slot);
         out.push(fetched(self.me.index, from.index, slot, value));
         Ok(Why::Fetched)
     }

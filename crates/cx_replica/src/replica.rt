@@ -1,27 +1,24 @@
 //! A replica's state, and how it is opened.
 
-ghost use Rattle.std.specs.Prelude.{◌≡◌, ◌<◌, [], true, length, IfOk, IsTrue};
-ghost use Rattle.std.specs.List.{list_all};
-ghost use Rattle.cx_base.specs.declared.command.Value.{Value};
+ghost use Rattle.std.specs.Prelude.{◌≡◌, ◌<◌, [], true, false, is_some, IfOk, IfSome};
 ghost use Rattle.cx_base.specs.declared.role.Kind.TheVariants as kind;
-ghost use Rattle.cx_model.specs.Names.{names_value};
-ghost use Rattle.cx_model.specs.Replica.{ReplicaDurable, ReplicaVolatile, replica_rules, replica_after, replica_fits};
+ghost use Rattle.cx_model.specs.Replica.{ReplicaDurable, ReplicaVolatile, held, is_whole, replica_rules};
 ghost use Rattle.cx_model.specs.Rules.{opened};
-ghost use Rattle.cx_msg.specs.Records.{fits as record_fits};
 
 use crate::machine::Machine;
 use crate::sending::{ask_next, tell_held};
-use cx_base::{Cluster, NoMemory, Order, RoleId, SLOTS, Value, Why};
+use crate::wanted::Wanted;
+use cx_base::{Cluster, NoMemory, Order, RoleId, Why};
 use cx_keeper::Keeper;
 use cx_model::Deferred;
 use cx_msg::{Datagram, Msg, Record};
 use cx_rlog::Log;
-use cx_role::{Outbox, Role, StepFault, WakeFault, is_for, names_value};
+use cx_role::{Outbox, Role, StepFault, WakeFault, is_for};
 use std::alloc::Global;
 use std::marker::Model;
 
-/// A replica: the chosen values in slot order, those that came before their turn, what executing leaves, and the reads
-/// that wait, at most 64.
+/// A replica: the chosen values in slot order, from a first slot on, those that came before their turn, what executing
+/// leaves, and the reads that wait, at most 64.
 #[derive(Drop)]
 pub struct Replica {
     pub(crate) alloc: Global,
@@ -30,7 +27,10 @@ pub struct Replica {
     pub(crate) live: bool,
     pub(crate) log: Log,
     pub(crate) machine: Machine,
+    pub(crate) wanted: Wanted,
     pub(crate) deferred: Vec<Deferred>,
+    // The greatest slot that the replica before this one asked for.
+    pub(crate) fetched: u64,
 }
 
 impl Model for Replica {
@@ -41,100 +41,63 @@ impl Model for Replica {
 
     ghost Value = { Running ReplicaDurable ReplicaVolatile };
 
-    ghost view = { λ r. replica_view r.cluster r.me r.live r.log r.deferred.items };
+    ghost view = { λ r.
+        replica_view r.cluster r.me r.live r.log r.machine.left r.wanted r.deferred.items r.fetched };
 
-    ghost invariant = { λ r. IsSound r.cluster r.me r.log r.machine.left r.deferred.items };
+    ghost invariant = { λ r. IsSound r.cluster r.me r.live r.log r.machine.left r.wanted r.deferred.items };
 }
 
 impl Replica {
     /// How many slots it holds: all below it. It takes no memory.
     pub fn held(&self) -> u64
-        ensures { result ≡ length self.now.durable.log }
+        ensures { result ≡ held self.now.durable }
     {
         self.log.held()
     }
 
-    /// A replica that has no records.
+    /// A replica that has no records, before it takes a step.
     fn new(alloc: Global, cluster: &Cluster, me: RoleId) -> Result<Self, NoMemory>
         requires kind { me.kind ≡ kind.Replica }
         requires place { me.index < cluster.now.replicas }
-        ensures { IfOk result (λ replica. replica ≡ opened replica_rules cluster.now me []) }
+        ensures { IfOk result (λ replica. replica ≡ record (opened replica_rules cluster.now me []) { live = false }) }
     {
         Ok(Replica {
             alloc,
             cluster: *cluster,
             me,
-            live: true,
+            live: false,
             log: Log::new(alloc)?,
             machine: Machine::new(alloc),
+            wanted: Wanted::new(),
             deferred: Vec::new(alloc),
+            fetched: 0,
         })
     }
 
-    /// What its records left, as in a replica that was just opened. It takes no memory.
+    /// What its records left, before it takes a step again. It takes no memory.
     fn stopped(self) -> Self
-        ensures { result ≡ record self { live = true; volatile = replica_rules.fresh self.cluster } }
+        ensures { result ≡ record self { live = false; volatile = replica_rules.fresh self.cluster } }
     {
         let mut replica = self;
-        replica.live = true;
+        replica.live = false;
         replica.log.forget_early();
         replica.deferred.clear();
+        replica.fetched = 0;
         replica
     }
 
-    /// Whether it could have appended this record. It takes no memory.
-    fn fits(&self, what: &Record) -> bool
-        ensures { result ≡ replica_fits self.now.cluster self.now.me self.now.durable what.now }
+    /// It takes steps from now on, where its list is whole. It takes no memory.
+    fn started(self) -> Option<Self>
+        ensures some { IfSome result (λ replica. replica ≡ record self { live = true }) }
+        ensures whole { is_some result ≡ is_whole self.durable }
     {
-        match what {
-            Record::Log { values } => {
-                let values = values.as_slice();
-                names_values(&self.cluster, values)
-                    && self.log.held() + values.len() as u64 <= SLOTS
-            }
-            _ => false,
+        let mut replica = self;
+        if !replica.wanted.is_whole() {
+            return None;
         }
+        replica.live = true;
+        Some(replica)
     }
-
-    /// The replica once it remembers a record that it could have appended, before it has taken anything.
-    fn remember(self, what: &Record) -> Result<Self, NoMemory>
-        requires ranges { IsTrue (record_fits what.now) }
-        requires own { replica_fits self.cluster self.me self.durable what.now ≡ true }
-        requires none_early { self.volatile.early ≡ [] }
-        ensures { IfOk result (λ replica. replica ≡ record self { durable = replica_after self.durable what.now }) }
-    {
-        let Record::Log { values } = what else {
-            return Ok(self);
-        };
-        let Replica {
-            alloc,
-            cluster,
-            me,
-            live,
-            mut log,
-            mut machine,
-            deferred,
-        } = self;
-        let values = values.as_slice();
-        machine.replay(alloc, log.held(), values)?;
-        log.restore(alloc, values)?;
-        Ok(Replica {
-            alloc,
-            cluster,
-            me,
-            live,
-            log,
-            machine,
-            deferred,
-        })
-    }
-}
-
-// Whether the clients of all commands of values are in the cluster.
-fn names_values(cluster: &Cluster, values: &[Value]) -> bool
-    ensures { result ≡ list_all (λ (v : Value). names_value cluster.now v) values.now }
-{
-    values.iter().all(|value| names_value(cluster, value))
 }
 
 impl Role for Replica {
@@ -163,7 +126,12 @@ impl Role for Replica {
             }
             replica = replica.remember(record)?;
         }
-        Ok(replica)
+        match replica.started() {
+            Some(replica) => Ok(replica),
+            None => Err(WakeFault::Record {
+                index: records.len(),
+            }),
+        }
     }
 
     fn take<K: Keeper>(

@@ -1,8 +1,8 @@
 //! A replica's log: the chosen values in slot order, and those that came before their turn.
 //!
-//! Its theorems are: the log is the list of its values; `Log::take` tells exactly whether a slot is
-//! past, next, early or beyond the window; a value for the next slot brings with it those that wait
-//! for it.
+//! Its theorems are: the log is the list of its values from its first slot on; `Log::take` tells exactly
+//! whether a slot is past, next, early or beyond the window; a value for the next slot brings with it
+//! those that wait for it.
 #![tactic(auto)]
 
 mod early;

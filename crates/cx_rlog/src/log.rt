@@ -1,8 +1,8 @@
 //! The log of a replica.
 
-ghost use Rattle.std.specs.Prelude.{◌≡◌, ◌+◌, ◌-◌, ◌++◌, ◌<◌, ◌≤◌, ◌^◌, [], length, slice_get, IfOk, OnErr, OnOk};
+ghost use Rattle.std.specs.Prelude.{◌≡◌, ◌+◌, ◌-◌, ◌++◌, ◌<◌, ◌≤◌, ◌^◌, [], length, IfOk, OnErr, OnOk};
 ghost use Rattle.cx_base.specs.Log.{ready_values, still_early};
-ghost use Rattle.cx_rlog.specs.State.{IsReady, LogState};
+ghost use Rattle.cx_rlog.specs.State.{IsReady, LogState, from_slot, held, value_in};
 ghost use Rattle.cx_rlog.specs.Taken.{early_after, taken_at};
 ghost use Rattle.cx_rlog.specs.declared.taken.Taken.TheVariants.{Early};
 
@@ -14,10 +14,12 @@ use cx_ring::Ring;
 use std::alloc::Global;
 use std::marker::Model;
 
-/// The chosen values in slot order, and those that came before their turn (VLDB 2021: replicas execute in slot order).
+/// The chosen values in slot order, from a first slot on, and those that came before their turn (VLDB 2021: replicas
+/// execute in slot order; forgetting values is this project's own).
 /// Slots are below 2^40, and a value waits at most 31 slots ahead (this project's own limits).
 #[derive(Drop)]
 pub struct Log {
+    first: u64,
     // A batch of one short command is held in place here.
     list: Vec<Packed>,
     // Its window begins at the slots held.
@@ -31,18 +33,24 @@ impl Model for Log {
 
     ghost Value = { LogState };
 
-    ghost view = { λ log. record { list = log.list.items; early = log.early.items; spare = log.spare } };
+    ghost view = { λ log. record {
+      first = log.first;
+      list = log.list.items;
+      early = log.early.items;
+      spare = log.spare;
+    } };
 
     ghost invariant = { λ log.
-        IsLog (vec_len log.list) (vec_capacity log.list) log.spare log.early.first log.early.items };
+        IsLog log.first (vec_len log.list) (vec_capacity log.list) log.spare log.early.first log.early.items };
 }
 
 impl Log {
     /// The empty log.
     pub fn new(alloc: Global) -> Result<Self, NoMemory>
-        ensures { IfOk result (λ log. log ≡ record { list = []; early = []; spare = 0 }) }
+        ensures { IfOk result (λ log. log ≡ record { first = 0; list = []; early = []; spare = 0 }) }
     {
         Ok(Log {
+            first: 0,
             list: Vec::new(alloc),
             early: Ring::new(alloc, 0),
             spare: 0,
@@ -51,17 +59,27 @@ impl Log {
 
     /// How many slots are held: all below it. It takes no memory.
     pub fn held(&self) -> u64
-        ensures held { result ≡ length self.now.list }
+        ensures held { result ≡ held self.now }
         ensures short { result ≤ 2 ^ 40 }
     {
-        self.list.len() as u64
+        self.first + self.list.len() as u64
     }
 
-    /// The value of a slot, where it is held.
-    pub fn value(&self, alloc: Global, slot: u64) -> Result<Option<Value>, NoMemory>
-        ensures { IfOk result (λ value. value ≡ slice_get self.now.list slot) }
+    /// The first slot whose value it has, or the number of slots held where it has none. It takes no memory.
+    pub fn first(&self) -> u64
+        ensures { result ≡ self.now.first }
     {
-        match self.list.get(slot as usize) {
+        self.first
+    }
+
+    /// The value of a slot, where it has one.
+    pub fn value(&self, alloc: Global, slot: u64) -> Result<Option<Value>, NoMemory>
+        ensures { IfOk result (λ value. value ≡ value_in self.now slot) }
+    {
+        if slot < self.first {
+            return Ok(None);
+        }
+        match self.list.get((slot - self.first) as usize) {
             Some(packed) => Ok(Some(packed.value(alloc)?)),
             None => Ok(None),
         }
@@ -72,13 +90,13 @@ impl Log {
     /// yet. Only a value that waits takes memory.
     pub fn take(&mut self, alloc: Global, slot: u64, value: &Value) -> Result<Taken, NoMemory>
         requires { slot < 2 ^ 40 }
-        ensures answer { IfOk result (λ taken. taken ≡ taken_at (length self.old.list) slot) }
+        ensures answer { IfOk result (λ taken. taken ≡ taken_at (held self.old) slot) }
         ensures early { IfOk result (λ taken.
             self.new ≡ record self.old { early = early_after taken slot value.now self.old.early }) }
         ensures err { OnErr result (self.new ≡ self.old) }
-        ensures spared { OnErr result (taken_at (length self.old.list) slot ≡ Early) }
+        ensures spared { OnErr result (taken_at (held self.old) slot ≡ Early) }
     {
-        let held = self.list.len() as u64;
+        let held = self.first + self.list.len() as u64;
         if slot < held {
             return Ok(Taken::Past);
         }
@@ -99,15 +117,16 @@ impl Log {
         alloc: Global,
         value: &Value,
     ) -> Result<Few<Value, 1, WINDOW_LENGTH>, NoMemory>
-        requires { length self.old.list < 2 ^ 40 }
-        ensures values { IfOk result (λ values. values ≡ ready_values (length self.old.list) self.old.early value.now) }
+        requires { held self.old < 2 ^ 40 }
+        ensures values { IfOk result (λ values. values ≡ ready_values (held self.old) self.old.early value.now) }
         ensures ready { IfOk result (IsReady self.new) }
         ensures room { IfOk result (λ values. length values ≤ self.new.spare) }
-        ensures short { IfOk result (λ values. length self.new.list + length values ≤ 2 ^ 40) }
+        ensures short { IfOk result (λ values. held self.new + length values ≤ 2 ^ 40) }
+        ensures first { self.new.first ≡ self.old.first }
         ensures list { self.new.list ≡ self.old.list }
         ensures early { self.new.early ≡ self.old.early }
     {
-        let held = self.list.len() as u64;
+        let held = self.held();
         let values = early::ready(alloc, &self.early, held, value)?;
         if self.spare < values.len() {
             self.list.reserve(values.len())?;
@@ -120,15 +139,16 @@ impl Log {
     pub fn put(&mut self, values: Few<Value, 1, WINDOW_LENGTH>)
         requires ready { IsReady self.old values }
         requires room { length values ≤ self.old.spare }
-        requires short { length self.old.list + length values ≤ 2 ^ 40 }
+        requires short { held self.old + length values ≤ 2 ^ 40 }
+        ensures first { self.new.first ≡ self.old.first }
         ensures list { self.new.list ≡ self.old.list ++ values }
-        ensures early { self.new.early ≡ still_early (length self.new.list) self.old.early }
+        ensures early { self.new.early ≡ still_early (held self.new) self.old.early }
         ensures spare { self.new.spare ≡ self.old.spare - length values }
     {
         let values = values.into_vec();
         self.spare -= values.len();
         hold_all(&mut self.list, values);
-        let held = self.list.len() as u64;
+        let held = self.first + self.list.len() as u64;
         self.early.raise(held);
     }
 
@@ -142,15 +162,45 @@ impl Log {
     /// Holds more values, while none waits: for a log that is opened from its records.
     pub fn restore(&mut self, alloc: Global, values: &[Value]) -> Result<(), NoMemory>
         requires none_early { self.old.early ≡ [] }
-        requires short { length self.old.list + length values.now ≤ 2 ^ 40 }
-        ensures ok { OnOk result (self.new ≡ record { list = self.old.list ++ values.now; early = []; spare = 0 }) }
+        requires short { held self.old + length values.now ≤ 2 ^ 40 }
+        ensures ok { OnOk result (self.new
+            ≡ record self.old { list = self.old.list ++ values.now; early = []; spare = 0 }) }
         ensures err { OnErr result (self.new ≡ self.old) }
     {
         let mut more = hold_copies(alloc, values)?;
         self.list.append(&mut more)?;
-        self.early.raise(self.list.len() as u64);
+        self.early.raise(self.first + self.list.len() as u64);
         self.spare = 0;
         Ok(())
+    }
+
+    /// Begins at a slot, before it has a value: for a log that is opened from its records. It takes no memory.
+    pub fn restore_at(&mut self, first: u64)
+        requires none { self.old.list ≡ [] }
+        requires none_early { self.old.early ≡ [] }
+        requires later { self.old.first ≤ first }
+        requires short { first ≤ 2 ^ 40 }
+        ensures { self.new ≡ record self.old { first = first } }
+    {
+        self.first = first;
+        self.early.raise(first);
+    }
+
+    /// A copy without the values below a slot, which takes no more memory than its values need.
+    pub fn copy_from(&self, alloc: Global, first: u64) -> Result<Self, NoMemory>
+        requires later { self.now.first ≤ first }
+        requires within { first ≤ held self.now }
+        ensures { IfOk result (λ log. log ≡ from_slot first self.now) }
+    {
+        let values = &self.list[(first - self.first) as usize..];
+        let list = copy_all(alloc, values)?;
+        let early = self.early.copy(alloc)?;
+        Ok(Log {
+            first,
+            list,
+            early,
+            spare: 0,
+        })
     }
 }
 
@@ -160,6 +210,7 @@ impl Duplicate for Log {
         list.reserve(self.spare)?;
         let early = self.early.copy(alloc)?;
         Ok(Log {
+            first: self.first,
             list,
             early,
             spare: self.spare,

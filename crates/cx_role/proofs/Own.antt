@@ -11,14 +11,19 @@ one_more : (fits : Bool) (i : ℕ) (before after : Option ℕ) → (if fits then
 one_more true i before after none rest = rest none
 one_more false i before after none rest = absurd cc
 
+-- a list that isn't refused at its end is whole
+is_whole : (whole : Bool) (i : ℕ) → (if whole then None else Some i) ≡ None → whole ≡ true
+is_whole true i none = refl
+is_whole false i none = absurd cc
+
 module _ {D V : Type 0} (rules : Rules D V) (c : Cluster) (me : RoleId) where
-  none_refused : (d : D) (i : ℕ) (rs : List Record) → FitAlong rules c me d rs → refused_from rules c me d i rs ≡ None
-  none_refused d i [] fit = refl
-  none_refused d i (r ∷ rs) fit = rw fit.0 (none_refused (rules.after d r) (i + 1) rs fit.1)
+  none_refused : (d : D) (i : ℕ) (rs : List Record) → rules.whole d ≡ true → FitAlong rules c me d rs → refused_from rules c me d i rs ≡ None
+  none_refused d i [] whole fit = rw whole refl
+  none_refused d i (r ∷ rs) whole fit = rw fit.0.0 (none_refused (rules.after d r) (i + 1) rs fit.0.1 fit.1)
 
   goes_on : (d : D) (i : ℕ) (rs more : List Record) → refused_from rules c me d i rs ≡ None → FitAlong rules c me (folded_from rules d rs) more
       → refused_from rules c me d i (rs ++ more) ≡ None
-  goes_on d i [] more none fit = none_refused d i more fit
+  goes_on d i [] more none fit = none_refused d i more (is_whole (rules.whole d) i none) fit
   goes_on d i (r ∷ rs) more none fit = one_more (rules.fits c me d r) i _ _ none (λ rest. goes_on (rules.after d r) (i + 1) rs more rest fit)
 
   pub own_open : (rs more : List Record) → refused rules c me rs ≡ None → FitAlong rules c me (folded rules rs) more → refused rules c me (rs ++ more) ≡ None

@@ -1,4 +1,6 @@
 pub mod Outbox
 pub mod Own
+pub mod Prelude
 pub mod Role
+pub mod Snap
 pub mod Wake

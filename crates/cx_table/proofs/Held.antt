@@ -10,8 +10,9 @@ use Rattle.std.proofs.lemmas.Bool.Decides.{nat_tests}
 use Rattle.std.proofs.lemmas.Option.{same_Some}
 use Rattle.indexmap.specs.IndexMap.{IndexMap, IsUnique, insert_entry, set_value_at, with_value_at}
 use Rattle.indexmap.proofs.CallerLemmas.{keys-with_value_at, updates-with_value_at}
+use Rattle.cx_base.specs.Lists.{rises}
 use Rattle.cx_base.specs.Noted.{Table, are_rising, comes_before, floor_of}
-use Rattle.cx_table.specs.Entries.{IsEntryAt, IsHeld, IsRoomAt, are_above, floor_in, notes_in, of_client, rise, room_in}
+use Rattle.cx_table.specs.Entries.{IsEntryAt, IsHeld, IsRoomAt, are_above, floor_in, notes_in, of_client, room_in}
 use Rattle.cx_table.specs.Entries.{rooms_in}
 use Rattle.cx_table.specs.State.{KeepsRoom, TakesRoom, room_for}
 use Rattle.cx_table.specs.declared.entry.Entry.{Entry}
@@ -66,7 +67,7 @@ module _ (client : ℕ) (entry : Entry) (es ns : List (ℕ × Entry)) (changed :
       go (inr t) = rw (other_entry k t) (omega arith)
 
   -- the entry holds what another table has of the client, which has of all others what the old one has
-  pub held_by : (t u : Table) → IsHeld t es → are_rising 0 u.floors ≡ true → rise comes_before u.notes ≡ true
+  pub held_by : (t u : Table) → IsHeld t es → are_rising 0 u.floors ≡ true → rises comes_before u.notes ≡ true
       → are_above u ≡ true
       → ((k : ℕ) → floor_of k u.floors ≡ (if client == k then entry.floor else floor_of k t.floors))
       → ((k : ℕ) → of_client k u.notes ≡ (if client == k then entry.notes.items else of_client k t.notes)) → IsHeld u ns

@@ -7,8 +7,9 @@ use Rattle.std.specs.List.Sorted.{IsPartitionedBy}
 use Rattle.std.proofs.lemmas.Bool.{and_parts, cases_Bool}
 use Rattle.std.proofs.lemmas.Bool.Decides.{nat_tests}
 use Rattle.cx_base.specs.declared.command.Answered.{Answered}
+use Rattle.cx_base.specs.Lists.{rises}
 use Rattle.cx_base.specs.Noted.{comes_before, noted_for, with_note}
-use Rattle.cx_table.specs.Entries.{IsPlace, above, are_of, is_lower, rise}
+use Rattle.cx_table.specs.Entries.{IsPlace, above, are_of, is_lower}
 
 -- what is so of each is so of one
 pub all_at : {A : Type 0} (p : A → Bool) (list : List A) (i : ℕ) (d : A) → list_all p list ≡ true → i < length list
@@ -35,11 +36,11 @@ and_false false = refl
 
 -- whether answers of one client rise is seen by their numbers
 pub rise_by_number : (client : ℕ) (notes : List Answered) → are_of client notes ≡ true
-    → rise comes_before notes ≡ rise is_lower notes
+    → rises comes_before notes ≡ rises is_lower notes
 rise_by_number client [] own = refl
 rise_by_number client (a ∷ notes) own =
     let o = and_parts (a.client == client) (are_of client notes) own in
-    ap (λ b. b && rise comes_before notes) (all_lower client a notes o.0 o.1) ∙ ap (λ b. list_all (is_lower a) notes && b) (rise_by_number client notes o.1)
+    ap (λ b. b && rises comes_before notes) (all_lower client a notes o.0 o.1) ∙ ap (λ b. list_all (is_lower a) notes && b) (rise_by_number client notes o.1)
   where
     all_lower : (client : ℕ) (a : Answered) (notes : List Answered) → (a.client == client) ≡ true
         → are_of client notes ≡ true → list_all (comes_before a) notes ≡ list_all (is_lower a) notes
@@ -49,16 +50,16 @@ rise_by_number client (a ∷ notes) own =
         ap (λ t. t && list_all (comes_before a) notes) (by_number a b (same_client client a b one o.0)) ∙ ap (λ t. nat_lt a.seq b.seq && t) (all_lower client a notes one o.1)
 
 -- those of lower numbers stand in front
-pub parted : (seq : ℕ) (notes : List Answered) → rise is_lower notes ≡ true
+pub parted : (seq : ℕ) (notes : List Answered) → rises is_lower notes ≡ true
     → IsPartitionedBy (λ (a : Answered). nat_lt a.seq seq) notes
 parted seq [] rising i j d ij l low = absurd (omega arith)
 parted seq (a ∷ notes) rising zero zero d ij l low = low
 parted seq (a ∷ notes) rising zero (suc j) d ij l low =
-    let r = and_parts (list_all (is_lower a) notes) (rise is_lower notes) rising in
+    let r = and_parts (list_all (is_lower a) notes) (rises is_lower notes) rising in
     let less : nat_lt a.seq (get_or notes j d).seq ≡ true = all_at (is_lower a) notes j d r.0 (omega arith) in
     grind (arith, nat_tests, less, low)
 parted seq (a ∷ notes) rising (suc i) zero d ij l low = absurd (omega arith)
-parted seq (a ∷ notes) rising (suc i) (suc j) d ij l low = parted seq notes (and_parts (list_all (is_lower a) notes) (rise is_lower notes) rising).1 i j d (omega arith) (omega arith) low
+parted seq (a ∷ notes) rising (suc i) (suc j) d ij l low = parted seq notes (and_parts (list_all (is_lower a) notes) (rises is_lower notes) rising).1 i j d (omega arith) (omega arith) low
 
 place_after : (seq : ℕ) (a : Answered) (notes : List Answered) (place : ℕ) → IsPlace seq (a ∷ notes) (suc place)
     → IsPlace seq notes place
@@ -80,12 +81,12 @@ none_behind client seq a (b ∷ notes) lower high =
 
 -- what is noted for a number is at its place
 pub found : (client seq : ℕ) (notes : List Answered) (place : ℕ) → are_of client notes ≡ true
-    → rise is_lower notes ≡ true → IsPlace seq notes place
+    → rises is_lower notes ≡ true → IsPlace seq notes place
     → noted_for client seq notes ≡ answer_at seq (slice_get notes place)
 found client seq [] place own rising is = refl
 found client seq (a ∷ notes) zero own rising is =
     let o = and_parts (a.client == client) (are_of client notes) own in
-    let r = and_parts (list_all (is_lower a) notes) (rise is_lower notes) rising in
+    let r = and_parts (list_all (is_lower a) notes) (rises is_lower notes) rising in
     go (cases_Bool (a.seq == seq)) o.0 (none_behind client seq a notes r.0 (is.1 0 a (omega arith) (omega arith)))
   where
     go : ((a.seq == seq) ≡ true) ⊎ ((a.seq == seq) ≡ false) → (a.client == client) ≡ true
@@ -95,7 +96,7 @@ found client seq (a ∷ notes) zero own rising is =
     go (inr e) s none = rw (s, e) none
 found client seq (a ∷ notes) (suc place) own rising is =
     let o = and_parts (a.client == client) (are_of client notes) own in
-    let r = and_parts (list_all (is_lower a) notes) (rise is_lower notes) rising in
+    let r = and_parts (list_all (is_lower a) notes) (rises is_lower notes) rising in
     let low : nat_lt a.seq seq ≡ true = is.0 0 a (omega arith) (omega arith) in
     let other : (a.seq == seq) ≡ false = grind (arith, nat_tests, low) in
     rw (o.0, other) (found client seq notes place o.1 r.1 (place_after seq a notes place is))
@@ -133,12 +134,12 @@ abbrev pub ends_at_most : ℕ → Option Answered → Bool
 ends_at_most floor None = true
 ends_at_most floor (Some a) = nat_le a.seq floor
 
-pub up_to : (floor : ℕ) (notes : List Answered) → rise is_lower notes ≡ true
+pub up_to : (floor : ℕ) (notes : List Answered) → rises is_lower notes ≡ true
     → list_all (λ (a : Answered). nat_le a.seq floor) notes ≡ ends_at_most floor (slice_get notes (length notes - 1))
 up_to floor [] rising = refl
 up_to floor (a ∷ []) rising = and_true (nat_le a.seq floor)
 up_to floor (a ∷ b ∷ notes) rising =
-    let r = and_parts (list_all (is_lower a) (b ∷ notes)) (rise is_lower (b ∷ notes)) rising in
+    let r = and_parts (list_all (is_lower a) (b ∷ notes)) (rises is_lower (b ∷ notes)) rising in
     let less = (and_parts (is_lower a b) (list_all (is_lower a) notes) r.0).0 in
     let long : length (a ∷ b ∷ notes) - 1 ≡ suc (length (b ∷ notes) - 1) = omega arith in
     rw long (lower (nat_le b.seq floor) (list_all (λ (x : Answered). nat_le x.seq floor) notes) less refl ∙ up_to floor (b ∷ notes) r.1)

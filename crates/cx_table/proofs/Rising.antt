@@ -5,8 +5,8 @@ use Rattle.std.specs.List.{list_all}
 use Rattle.std.proofs.lemmas.Bool.{and_from, and_parts, cases_Bool}
 use Rattle.std.proofs.lemmas.Bool.Decides.{nat_tests}
 use Rattle.cx_base.specs.declared.command.Answered.{Answered}
+use Rattle.cx_base.specs.Lists.{rises}
 use Rattle.cx_base.specs.Noted.{comes_before, is_answer_of, noted_for, with_note}
-use Rattle.cx_table.specs.Entries.{rise}
 
 -- what is so of each is so of each that is left
 pub all_left : {A : Type 0} (p q : A → Bool) (list : List A) → list_all p list ≡ true
@@ -22,15 +22,15 @@ all_left p q (x ∷ list) all =
     go (inr t) first rest = rw t rest
 
 pub rise_left : (before : Answered → Answered → Bool) (q : Answered → Bool) (notes : List Answered)
-    → rise before notes ≡ true → rise before (filter q notes) ≡ true
+    → rises before notes ≡ true → rises before (filter q notes) ≡ true
 rise_left before q [] rising = refl
 rise_left before q (a ∷ notes) rising =
-    let parts = and_parts (list_all (before a) notes) (rise before notes) rising in
+    let parts = and_parts (list_all (before a) notes) (rises before notes) rising in
     go (cases_Bool (q a)) (all_left (before a) q notes parts.0) (rise_left before q notes parts.1)
   where
     go : (q a ≡ true) ⊎ (q a ≡ false) → list_all (before a) (filter q notes) ≡ true
-        → rise before (filter q notes) ≡ true → rise before (filter q (a ∷ notes)) ≡ true
-    go (inl t) first rest = rw t (and_from (list_all (before a) (filter q notes)) (rise before (filter q notes)) first rest)
+        → rises before (filter q notes) ≡ true → rises before (filter q (a ∷ notes)) ≡ true
+    go (inl t) first rest = rw t (and_from (list_all (before a) (filter q notes)) (rises before (filter q notes)) first rest)
     go (inr t) first rest = rw t rest
 
 -- a number that has no answer has none among those that are left
@@ -63,11 +63,11 @@ in_front a [] all = refl
 in_front a (b ∷ notes) all = rw (and_parts (comes_before a b) (list_all (comes_before a) notes) all).0 refl
 
 -- which answers are left with one more
-pub left_with : (q : Answered → Bool) (a : Answered) (notes : List Answered) → rise comes_before notes ≡ true
+pub left_with : (q : Answered → Bool) (a : Answered) (notes : List Answered) → rises comes_before notes ≡ true
     → filter q (with_note a notes) ≡ (if q a then with_note a (filter q notes) else filter q notes)
 left_with q a [] rising = refl
 left_with q a (b ∷ notes) rising =
-    let parts = and_parts (list_all (comes_before b) notes) (rise comes_before notes) rising in
+    let parts = and_parts (list_all (comes_before b) notes) (rises comes_before notes) rising in
     go (cases_Bool (comes_before a b)) (cases_Bool (q a)) (cases_Bool (q b)) parts.0 (left_with q a notes parts.1)
   where
     go : (comes_before a b ≡ true) ⊎ (comes_before a b ≡ false) → (q a ≡ true) ⊎ (q a ≡ false)
@@ -102,20 +102,20 @@ comes_behind : (a b : Answered) → comes_before a b ≡ false → is_answer_of 
 comes_behind a b h k = grind (arith, nat_tests, h, k)
 
 pub rise_with : (a : Answered) (notes : List Answered) → noted_for a.client a.seq notes ≡ None
-    → rise comes_before notes ≡ true → rise comes_before (with_note a notes) ≡ true
+    → rises comes_before notes ≡ true → rises comes_before (with_note a notes) ≡ true
 rise_with a [] new rising = refl
-rise_with a (b ∷ notes) new rising = go (cases_Bool (is_answer_of a.client a.seq b)) (cases_Bool (comes_before a b)) (and_parts (list_all (comes_before b) notes) (rise comes_before notes) rising) new (rise_with a notes)
+rise_with a (b ∷ notes) new rising = go (cases_Bool (is_answer_of a.client a.seq b)) (cases_Bool (comes_before a b)) (and_parts (list_all (comes_before b) notes) (rises comes_before notes) rising) new (rise_with a notes)
   where
     go : (is_answer_of a.client a.seq b ≡ true) ⊎ (is_answer_of a.client a.seq b ≡ false)
         → (comes_before a b ≡ true) ⊎ (comes_before a b ≡ false)
-        → (list_all (comes_before b) notes ≡ true) × (rise comes_before notes ≡ true)
+        → (list_all (comes_before b) notes ≡ true) × (rises comes_before notes ≡ true)
         → noted_for a.client a.seq (b ∷ notes) ≡ None
-        → (noted_for a.client a.seq notes ≡ None → rise comes_before notes ≡ true
-        → rise comes_before (with_note a notes) ≡ true)
-        → rise comes_before (with_note a (b ∷ notes)) ≡ true
+        → (noted_for a.client a.seq notes ≡ None → rises comes_before notes ≡ true
+        → rises comes_before (with_note a notes) ≡ true)
+        → rises comes_before (with_note a (b ∷ notes)) ≡ true
     go (inl s) h p none rest = (let held : Some b ≡ None = rw s at none in cc)
     go (inr s) (inl h) p none rest =
-        rw h (and_from (list_all (comes_before a) (b ∷ notes)) (rise comes_before (b ∷ notes)) (and_from (comes_before a b) (list_all (comes_before a) notes) h (before_all a b notes h p.0)) rising)
+        rw h (and_from (list_all (comes_before a) (b ∷ notes)) (rises comes_before (b ∷ notes)) (and_from (comes_before a b) (list_all (comes_before a) notes) h (before_all a b notes h p.0)) rising)
     go (inr s) (inr h) p none rest =
         let later : noted_for a.client a.seq notes ≡ None = rw s at none in
-        rw h (and_from (list_all (comes_before b) (with_note a notes)) (rise comes_before (with_note a notes)) (all_with (comes_before b) a notes (comes_behind a b h s) p.0) (rest later p.1))
+        rw h (and_from (list_all (comes_before b) (with_note a notes)) (rises comes_before (with_note a notes)) (all_with (comes_before b) a notes (comes_behind a b h s) p.0) (rest later p.1))

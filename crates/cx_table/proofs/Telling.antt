@@ -8,11 +8,12 @@ use Rattle.std.proofs.lemmas.Bool.{and_from, and_parts, both_ways, cases_Bool, e
 use Rattle.std.proofs.lemmas.Bool.Decides.{nat_tests}
 use Rattle.cx_base.specs.declared.command.Answered.{Answered}
 use Rattle.cx_base.specs.declared.command.Floor.{Floor}
+use Rattle.cx_base.specs.Lists.{rises}
 use Rattle.cx_base.specs.Noted.{Table, are_rising, comes_before, floor_of, is_answer_of, is_done, is_settled, noted_for}
 use Rattle.cx_base.specs.Noted.{still_noted, with_answer, with_floor, with_note, with_told}
 use Rattle.cx_base.proofs.Used.{none_placed, same_client, still_rising, turned_test}
 use Rattle.cx_table.specs.Entries.{IsHeld, above, are_above, are_of, floor_in, is_above, is_lower, notes_in, of_client}
-use Rattle.cx_table.specs.Entries.{raised, rise}
+use Rattle.cx_table.specs.Entries.{raised}
 use Rattle.cx_table.specs.Judged.{is_new, judge_in, judge_of, judge_noted}
 use Rattle.cx_table.specs.declared.entry.Entry.{Entry}
 use Rattle.cx_table.specs.declared.judge.Judge.TheVariants as judge
@@ -188,7 +189,7 @@ module _ (t : Table) (es : List (ℕ × Entry)) (held : IsHeld t es) (client : �
   pub entry_own : are_of client entry.notes.items ≡ true
   entry_own = rw entry_notes (own_of client t.notes)
 
-  pub entry_rise : rise is_lower entry.notes.items ≡ true
+  pub entry_rise : rises is_lower entry.notes.items ≡ true
   entry_rise = rw entry_notes (sym (rise_by_number client (of_client client t.notes) (own_of client t.notes)) ∙ rise_left comes_before (λ (a : Answered). a.client == client) t.notes held.notes_rise)
 
   pub entry_noted : (seq : ℕ) → noted_for client seq entry.notes.items ≡ noted_for client seq t.notes

@@ -1,10 +1,12 @@
 -- What is held of each client, and how it is the table that contracts see.
-use Rattle.std.specs.Prelude.{◌≡◌, ℕ, ◌-◌, ◌≤◌, ◌==◌, ◌&&◌, Bool, true, false, List, [], ◌∷◌, Option, None, Some}
+use Rattle.std.specs.Prelude.{◌≡◌, ℕ, ◌-◌, ◌≤◌, ◌==◌, Bool, true, false, List, [], ◌∷◌, Option, None, Some}
 use Rattle.std.specs.Prelude.{max, nat_eq, nat_lt, filter, slice_get, vec_capacity, vec_len}
 use Rattle.std.specs.List.{list_all}
 use Rattle.std.specs.List.Sorted.{IsPartitionPoint}
 use Rattle.std.specs.Map.{lookup}
 use Rattle.cx_base.specs.declared.command.Answered.{Answered}
+use Rattle.cx_base.specs.declared.command.Note.{Note}
+use Rattle.cx_base.specs.Lists.{rises}
 use Rattle.cx_base.specs.Noted.{Table, are_rising, comes_before, floor_of}
 use Rattle.cx_table.specs.State.{Room}
 use Rattle.cx_table.specs.declared.entry.Entry.{Entry}
@@ -16,6 +18,18 @@ of_client client notes = filter (λ (a : Answered). a.client == client) notes
 -- whether all answers are a client's
 abbrev pub are_of : ℕ → List Answered → Bool
 are_of client notes = list_all (λ (a : Answered). a.client == client) notes
+
+-- the answer to a client's number
+abbrev pub answer_of : ℕ → Note → Answered
+answer_of client n = record { client = client; seq = n.seq; at = n.at; reply = n.reply }
+
+-- whether a note is of a lower number than another
+abbrev pub has_lower : Note → Note → Bool
+has_lower n later = nat_lt n.seq later.seq
+
+-- whether all notes are of numbers above a floor
+abbrev pub are_notes_above : ℕ → List Note → Bool
+are_notes_above floor notes = list_all (λ (n : Note). nat_lt floor n.seq) notes
 
 -- whether an answer is to a lower number than another
 abbrev pub is_lower : Answered → Answered → Bool
@@ -30,11 +44,6 @@ abbrev pub IsPlace : ℕ → List Answered → ℕ → Type 0
 IsPlace seq notes place =
     IsPartitionPoint (λ (a : Answered). nat_lt a.seq seq ≡ true)
     (λ (a : Answered). nat_lt a.seq seq ≡ false) notes place
-
--- whether each answer comes before all that stand after it, by an order
-abbrev pub rise : (Answered → Answered → Bool) → List Answered → Bool
-rise before [] = true
-rise before (a ∷ notes) = list_all (before a) notes && rise before notes
 
 -- whether a client told a floor, and its number is above that
 abbrev pub is_above : ℕ → Option ℕ → Bool
@@ -82,7 +91,7 @@ pub record IsRoomAt (client count : ℕ) (entries : List (ℕ × Entry)) (place 
 -- floors
 pub record IsHeld (t : Table) (entries : List (ℕ × Entry)) : Type 0 where
   pub floors_rise : are_rising 0 t.floors ≡ true
-  pub notes_rise : rise comes_before t.notes ≡ true
+  pub notes_rise : rises comes_before t.notes ≡ true
   pub above : are_above t ≡ true
   pub floors : (client : ℕ) → floor_in (lookup (nat_eq client) entries) ≡ floor_of client t.floors
   pub notes : (client : ℕ) → notes_in (lookup (nat_eq client) entries) ≡ of_client client t.notes

@@ -5,8 +5,9 @@ ghost use Rattle.std.specs.Prelude.{length, nat_le, nat_lt, slice_get, vec_capac
 ghost use Rattle.std.specs.List.{list_all};
 ghost use Rattle.std.specs.Option.{option_copied};
 ghost use Rattle.cx_base.specs.declared.command.Answered.{Answered as Note};
+ghost use Rattle.cx_base.specs.Lists.{rises};
 ghost use Rattle.cx_base.specs.Noted.{is_done, noted_for, with_note};
-ghost use Rattle.cx_table.specs.Entries.{IsPlace, above, are_of, is_lower, raised, rise, room_in};
+ghost use Rattle.cx_table.specs.Entries.{IsPlace, above, are_of, is_lower, raised, room_in};
 ghost use Rattle.cx_table.specs.Judged.{judge_in};
 
 use crate::judge::Judge;
@@ -22,7 +23,7 @@ pub struct Entry {
 
 // How many answers are to lower numbers.
 fn place_of(notes: &[Answered], seq: u64) -> usize
-    requires { rise is_lower notes.now ≡ true }
+    requires { rises is_lower notes.now ≡ true }
     ensures place { IsPlace seq notes.now result }
     ensures inside { result ≤ length notes.now }
 {
@@ -38,7 +39,7 @@ fn note_at(notes: &[Answered], place: usize) -> Option<&Answered>
 /// What is noted for a client's number, among its answers.
 fn find(notes: &[Answered], client: u16, seq: u64) -> Option<&Answered>
     requires own { are_of client notes.now ≡ true }
-    requires rise { rise is_lower notes.now ≡ true }
+    requires rise { rises is_lower notes.now ≡ true }
     ensures { option_copied result ≡ noted_for client seq notes.now }
 {
     let note = note_at(notes, place_of(notes, seq))?;
@@ -58,7 +59,7 @@ fn is_done(floor: Option<u64>, seq: u64) -> bool
 /// What a client's entry says of one of its numbers.
 pub fn judge(entry: &Entry, client: u16, seq: u64) -> Judge
     requires own { are_of client entry.now.notes.items ≡ true }
-    requires rise { rise is_lower entry.now.notes.items ≡ true }
+    requires rise { rises is_lower entry.now.notes.items ≡ true }
     ensures { result ≡ judge_in entry.now.floor entry.now.notes.items client seq }
 {
     if is_done(entry.floor, seq) {
@@ -75,7 +76,7 @@ pub fn judge(entry: &Entry, client: u16, seq: u64) -> Judge
 
 // Whether all answers are to numbers up to a floor.
 fn are_up_to(notes: &[Answered], floor: u64) -> bool
-    requires { rise is_lower notes.now ≡ true }
+    requires { rises is_lower notes.now ≡ true }
     ensures { result ≡ list_all (λ (a : Note). nat_le a.seq floor) notes.now }
 {
     match notes.last() {
@@ -87,7 +88,7 @@ fn are_up_to(notes: &[Answered], floor: u64) -> bool
 // One answer more, in its place. There is room for it.
 fn insert(notes: &mut Vec<Answered>, answer: &Answered)
     requires own { are_of answer.now.client notes.old.items ≡ true }
-    requires rise { rise is_lower notes.old.items ≡ true }
+    requires rise { rises is_lower notes.old.items ≡ true }
     requires new { noted_for answer.now.client answer.now.seq notes.old.items ≡ None }
     requires room { vec_len notes.old < vec_capacity notes.old }
     ensures items { notes.new.items ≡ with_note answer.now notes.old.items }
@@ -109,7 +110,7 @@ fn insert(notes: &mut Vec<Answered>, answer: &Answered)
 
 // Drops the answers to numbers up to a floor.
 fn drop_settled(notes: &mut Vec<Answered>, floor: u64)
-    requires { rise is_lower notes.old.items ≡ true }
+    requires { rises is_lower notes.old.items ≡ true }
     ensures items { notes.new.items ≡ above floor notes.old.items }
     ensures len { vec_len notes.new ≤ vec_len notes.old }
     ensures capacity { vec_capacity notes.new ≡ vec_capacity notes.old }
@@ -146,7 +147,7 @@ pub fn make_room(entry: &mut Entry, count: usize) -> Result<(), NoMemory>
 
 /// The client tells a floor.
 pub fn tell(entry: &mut Entry, floor: u64)
-    requires { rise is_lower entry.old.notes.items ≡ true }
+    requires { rises is_lower entry.old.notes.items ≡ true }
     ensures floor { entry.new.floor ≡ Some (raised entry.old.floor floor) }
     ensures notes { entry.new.notes.items ≡ above floor entry.old.notes.items }
     ensures len { vec_len entry.new.notes ≤ vec_len entry.old.notes }
@@ -159,7 +160,7 @@ pub fn tell(entry: &mut Entry, floor: u64)
 /// The client's new number is answered, and tells a floor. There is room for its answer.
 pub fn note(entry: &mut Entry, answer: &Answered, floor: u64)
     requires own { are_of answer.now.client entry.old.notes.items ≡ true }
-    requires rise { rise is_lower entry.old.notes.items ≡ true }
+    requires rise { rises is_lower entry.old.notes.items ≡ true }
     requires new { noted_for answer.now.client answer.now.seq entry.old.notes.items ≡ None }
     requires room { vec_len entry.old.notes < vec_capacity entry.old.notes }
     ensures floor { entry.new.floor ≡ Some (raised entry.old.floor floor) }

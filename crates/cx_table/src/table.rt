@@ -1,7 +1,11 @@
 //! The client table of a replica.
 
-ghost use Rattle.std.specs.Prelude.{◌≡◌, ◌+◌, ◌<◌, ◌≤◌, [], false, IsOk, IsSome, OnErr, OnOk};
-ghost use Rattle.cx_base.specs.Noted.{floor_of, new_table, with_answer, with_told};
+ghost use Rattle.std.specs.Prelude.{◌≡◌, ◌+◌, ◌++◌, ◌∷◌, ◌<◌, ◌≤◌, [], false, true, length, map};
+ghost use Rattle.std.specs.Prelude.{IsOk, IsSome, OnErr, OnOk};
+ghost use Rattle.cx_base.specs.declared.command.Floor.{Floor as FloorOf};
+ghost use Rattle.cx_base.specs.Lists.{rises};
+ghost use Rattle.cx_base.specs.Noted.{are_rising, comes_before, floor_of, new_table, with_answer, with_told};
+ghost use Rattle.cx_table.specs.Entries.{answer_of, are_above, are_notes_above, has_lower, of_client};
 ghost use Rattle.cx_table.specs.Judged.{is_new, judge_of};
 ghost use Rattle.cx_table.specs.State.{KeepsRoom, TakesRoom, room_for};
 ghost use Rattle.cx_table.specs.declared.judge.Judge.TheVariants as judge;
@@ -10,7 +14,7 @@ use crate::entries::{place_of, room_at};
 use crate::entry::{self, Entry};
 use crate::judge::Judge;
 use crate::shown;
-use cx_base::{Answered, Floor, NoMemory, Reply};
+use cx_base::{Answered, Floor, NoMemory, Note, Reply};
 use cx_ring::Told;
 use indexmap::IndexMap;
 use std::alloc::Global;
@@ -75,6 +79,49 @@ impl Table {
             Some(entry) => entry::judge(entry, client, seq),
             None => Judge::New,
         }
+    }
+
+    /// The greatest floor that a client told, if it told one. It takes no memory.
+    pub fn floor(&self, client: u16) -> Option<u64>
+        ensures { result ≡ floor_of client self.now.table.floors }
+    {
+        match self.entries.get(&client) {
+            Some(entry) => entry.floor,
+            None => None,
+        }
+    }
+
+    /// The answers to a client's numbers above its floor, by rising number. The clients of floors rise, the answers
+    /// stand by their clients and numbers, and each is above its client's floor. It takes no memory.
+    pub fn notes(&self, client: u16) -> &[Answered]
+        ensures notes { result.now ≡ of_client client self.now.table.notes }
+        ensures floors_rise { are_rising 0 self.now.table.floors ≡ true }
+        ensures notes_rise { rises comes_before self.now.table.notes ≡ true }
+        ensures above { are_above self.now.table ≡ true }
+    {
+        match self.entries.get(&client) {
+            Some(entry) => entry.notes.as_slice(),
+            None => &[],
+        }
+    }
+
+    /// Notes what is known of one more client, whose number is above all others': the greatest floor that it told, and
+    /// the answers to numbers above that. It is for a table that is opened from records. Out of memory, some of it may
+    /// be noted.
+    pub fn push(&mut self, client: u16, floor: u64, notes: &[Note]) -> Result<(), NoMemory>
+        requires some { 1 ≤ length notes.now }
+        requires behind { are_rising 0 (self.old.table.floors ++ record { client = client; floor = floor } ∷ []) ≡ true }
+        requires rise { rises has_lower notes.now ≡ true }
+        requires above { are_notes_above floor notes.now ≡ true }
+        ensures floors { OnOk result (self.new.table.floors
+            ≡ self.old.table.floors ++ record { client = client; floor = floor } ∷ []) }
+        ensures notes { OnOk result (self.new.table.notes ≡ self.old.table.notes ++ map (answer_of client) notes.now) }
+    {
+        let _rising = self.notes(client);
+        for note in notes {
+            self.note(client, note.seq, floor, note.at, &note.reply)?;
+        }
+        Ok(())
     }
 
     /// Notes the answer of a client's new number, one more than its slot and the reply, and that the client told a

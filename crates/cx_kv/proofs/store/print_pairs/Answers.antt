@@ -11,7 +11,7 @@ loop-place-preserved c =
     let p = c.at.result.now in
     let out = c.loop-place.out.items in
     let next : i + 1 ≡ suc i = omega arith in
-    let more = drop_at pairs i p (rw (← c.len-place-end.ensures) c.loop-place-test.true) c.at.ensures in (
+    let more = drop_at pairs i p (rw (← c.len-place-end.ensures.len) c.loop-place-test.true) c.at.ensures in (
       ap (λ (l : List ℕ). l ++ map_text (drop (i + 1) pairs)) c.in_ok-print_pair.ensures.ok
           ∙ append_assoc out (pair_text p) (map_text (drop (i + 1) pairs))
           ∙ ap (λ (k : ℕ). out ++ (pair_text p ++ map_text (drop k pairs))) next

@@ -1,4 +1,4 @@
-use Rattle.std.proofs.Common.{◌≡◌, true, [], drop}
+use Rattle.std.proofs.Common.{◌≡◌, false, [], drop}
 use Rattle.cx_model.specs.Replica.{replica_rules}
 use Rattle.cx_model.specs.Rules.{folded_from, refused_from}
 use Rattle.cx_replica.proofs.replica.ReplicaRole.reopen.Given as goal
@@ -7,9 +7,10 @@ abbrev pub invariant-loop-index : goal.invariant-loop-index
 invariant-loop-index l = record {
   cluster : l.replica.cluster ≡ l.fn.self.cluster;
   me : l.replica.me ≡ l.fn.self.me;
-  live : l.replica.live ≡ true;
+  live : l.replica.live ≡ false;
   none_early : l.replica.volatile.early ≡ [];
   none_deferred : l.replica.volatile.deferred ≡ [];
+  none_fetched : l.replica.volatile.fetched ≡ 0;
   folded : folded_from replica_rules l.replica.durable (drop l.index l.records)
       ≡ folded_from replica_rules l.fn.self.durable l.records;
   refused : refused_from replica_rules l.fn.self.cluster l.fn.self.me l.replica.durable l.index (drop l.index l.records)

@@ -1,0 +1,16 @@
+use Rattle.std.proofs.Common.{◌≡◌, ◌≤◌, ◌++◌, ◌-◌, true, map, drop}
+use Rattle.cx_keeper.specs.Keeper.{all_fit}
+use Rattle.cx_model.specs.Replica.{pieces}
+use Rattle.cx_msg.specs.declared.kept.Record.TheVariants as kept
+use Rattle.cx_replica.proofs.snap.push_pairs.Given as goal
+
+abbrev pub invariant-loop-left : goal.invariant-loop-left
+invariant-loop-left l = record {
+  within : l.left ≤ l.count;
+  items : l.records.items ++ map (λ ps. kept.Pairs ps) (pieces 255 (drop (l.count - l.left) l.machine.left.map))
+      ≡ l.fn.records.items ++ map (λ ps. kept.Pairs ps) (pieces 255 l.machine.left.map);
+  fit : all_fit l.records.items ≡ true;
+}
+
+abbrev pub decreases-loop-left : goal.decreases-loop-left
+decreases-loop-left l = l.left

@@ -1,0 +1,16 @@
+-- The ranges of rounds.
+use Rattle.std.proofs.Common.{◌≡◌, true, arith}
+use Rattle.std.proofs.lemmas.Bool.Decides.{nat_tests}
+use Rattle.cx_base.specs.declared.round.Round.{Round}
+use Rattle.cx_base.specs.Round.{is_before}
+use Rattle.cx_field.specs.Fields.{round, round0}
+
+pub real_or_none : (i : Round) → round.fits i ≡ true → round0.fits i ≡ true
+unfolding round round0
+real_or_none i h = grind (arith, nat_tests)
+
+-- what is above a round is a round
+pub real_above : (i w : Round) → round.fits i ≡ true → round0.fits w ≡ true → is_before i w ≡ true
+    → round.fits w ≡ true
+unfolding round round0
+real_above i w real fit before = grind (arith, nat_tests)

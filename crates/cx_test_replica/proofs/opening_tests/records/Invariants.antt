@@ -1,0 +1,6 @@
+use Rattle.std.proofs.Common.{◌≡◌, true}
+use Rattle.cx_keeper.specs.Keeper.{all_fit}
+use Rattle.cx_test_replica.proofs.opening_tests.records.Given as goal
+
+abbrev pub invariant-loop-letter : goal.invariant-loop-letter
+invariant-loop-letter l = all_fit l.list.items ≡ true
