@@ -1,21 +1,12 @@
 -- An acceptor keeps a vote that it may keep.
-use Rattle.std.specs.Prelude.{◌≡◌, ℕ, ◌&&◌, true, nat_lt, refl}
-use Rattle.std.proofs.lemmas.Bool.{and_parts, le-leb, ltb-false}
-use Rattle.cx_base.specs.declared.command.Value.{Value}
-use Rattle.cx_base.specs.declared.role.RoleId.{RoleId}
-use Rattle.cx_base.specs.declared.round.Round.{Round}
-use Rattle.cx_base.specs.Role.{same_role}
-use Rattle.cx_base.specs.Round.{is_before}
-use Rattle.cx_field.specs.Fields.{in_window}
-use Rattle.cx_msg.specs.Letter.{Letter}
+use Rattle.cx_role.proofs.Common.{◌≡◌, ℕ, ◌&&◌, true, nat_lt, refl, and_parts, le-leb, Value, RoleId, Round, same_role}
+use Rattle.cx_role.proofs.Common.{is_before, in_window, Letter, Take, names, names_round, names_value, by_test, Running}
+use Rattle.cx_role.proofs.Common.{outcome_of, MayKeep}
+use Rattle.cx_role.proofs.Common.msg
+use Rattle.cx_role.proofs.Named.{body_named}
+use Rattle.std.proofs.lemmas.Bool.{ltb-false}
 use Rattle.cx_msg.specs.LetterParts.{PartsFit}
-use Rattle.cx_msg.specs.declared.input.Input.TheVariants.{Take}
-use Rattle.cx_msg.specs.declared.message.Msg.TheVariants as msg
 use Rattle.cx_model.specs.Acceptor.{AcceptorDurable, acceptor_rules, is_of, phase2a_row, vote_at}
-use Rattle.cx_model.specs.Names.{names, names_body, names_role, names_round, names_value}
-use Rattle.cx_model.specs.Outcome.{by_test}
-use Rattle.cx_model.specs.Rules.{Running, outcome_of}
-use Rattle.cx_role.specs.Role.{MayKeep}
 
 module _ (s : Running AcceptorDurable (Unit {0})) (i : Round) (n cw : ℕ) (v : Value) where
   phase2a_fit : (from : RoleId) → names_round s.cluster i ≡ true → names_value s.cluster v ≡ true
@@ -25,15 +16,13 @@ module _ (s : Running AcceptorDurable (Unit {0})) (i : Round) (n cw : ℕ) (v : 
       by_test Fits (is_before i s.durable.promise) _ _ (λ _. tt) (λ high.
       by_test Fits (nat_lt n s.durable.cw) _ _ (λ _. tt) (λ low.
       by_test Fits (is_of i (vote_at n s.durable.votes)) _ _ (λ _. tt) (λ new.
-      rw (named, values, high, le-leb s.durable.cw n (ltb-false n s.durable.cw low), inside, new) refl)))
+      (rw (named, values, high, le-leb s.durable.cw n (ltb-false n s.durable.cw low), inside, new) refl, refl))))
 
   -- the record of a vote that was asked for is one that the acceptor may append
   pub vote_fit : (l : Letter) → l.msg ≡ msg.Phase2A i n cw v → PartsFit l.from l.to l.msg
       → MayKeep acceptor_rules s (outcome_of acceptor_rules s (Take l))
   vote_fit l is parts =
       by_test (MayKeep acceptor_rules s) (same_role l.to s.me && names s.cluster l) _ _ (λ ours.
-      let a = and_parts (same_role l.to s.me) (names s.cluster l) ours in
-      let b = and_parts (names_role s.cluster l.from && names_role s.cluster l.to) (names_body s.cluster l.msg) a.1 in
-      let named = and_parts (names_round s.cluster i) (names_value s.cluster v) (rw is at b.1) in
+      let named = and_parts (names_round s.cluster i) (names_value s.cluster v) (rw is at (body_named s.cluster s.me l ours)) in
       let fit = rw is at parts in
       rw is (phase2a_fit l.from named.0 named.1 fit.4)) (λ _. tt)

@@ -1,26 +1,15 @@
 -- An acceptor stays sound.
-use Rattle.std.specs.Prelude.{◌≡◌, ◌≤◌, ◌<◌, ℕ, ◌+◌, ◌^◌, ◌&&◌, Bool, true, not, nat_le, nat_lt, max, List, [], ◌∷◌, refl}
-use Rattle.std.proofs.Common.{arith}
-use Rattle.std.proofs.lemmas.Bool.{and_from, and_parts}
-use Rattle.std.proofs.lemmas.Bool.Decides.{nat_tests}
-use Rattle.cx_base.specs.declared.cluster.Cluster.{Cluster}
-use Rattle.cx_base.specs.declared.command.Value.{Value}
-use Rattle.cx_base.specs.declared.role.Kind.TheVariants.{Acceptor}
-use Rattle.cx_base.specs.declared.role.RoleId.{RoleId}
-use Rattle.cx_base.specs.declared.round.Round.{Round}
-use Rattle.cx_base.specs.Role.{role}
-use Rattle.cx_base.specs.Round.{is_before, no_round}
+use Rattle.cx_role.proofs.Common.{◌≡◌, ◌≤◌, ◌<◌, ℕ, ◌+◌, ◌^◌, ◌&&◌, Bool, true, not, nat_le, nat_lt, max, List, [], ◌∷◌}
+use Rattle.cx_role.proofs.Common.{refl, arith, and_from, and_parts, nat_tests, Cluster, Value, Acceptor, RoleId, Round}
+use Rattle.cx_role.proofs.Common.{role, is_before, no_round, Record, Vote, in_window, names_round, names_value, by_test}
+use Rattle.cx_role.proofs.Common.kept
+use Rattle.cx_role.proofs.Ranges.{real_or_none}
 use Rattle.cx_wire.specs.Format.{u16, u32, u64}
-use Rattle.cx_msg.specs.declared.kept.Record.{Record}
-use Rattle.cx_msg.specs.declared.kept.Record.TheVariants as kept
-use Rattle.cx_field.specs.declared.parts.Vote.{Vote}
-use Rattle.cx_field.specs.Fields.{mark, round, round0, slot, value, in_window}
+use Rattle.cx_field.specs.Fields.{mark, round, round0, slot, value}
 use Rattle.cx_field.specs.Ranges.{slots_rise, vote_in_range}
 use Rattle.cx_msg.specs.Records.{fits, kept_record}
 use Rattle.cx_field.proofs.Rising.{rises-filter}
 use Rattle.cx_model.specs.Acceptor.{AcceptorDurable, acceptor_after, acceptor_fits, votes_from, vote_at, is_of}
-use Rattle.cx_model.specs.Names.{names_round, names_value}
-use Rattle.cx_model.specs.Outcome.{by_test}
 use Rattle.cx_acceptor.specs.Sound.{IsSound}
 use Rattle.cx_acceptor.proofs.VoteLaws.{all_in, all_with, rising_with}
 
@@ -31,10 +20,6 @@ max_fits a b f g = grind (arith, nat_tests)
 next_fits : (s : ℕ) → slot.fits s ≡ true → mark.fits (s + 1) ≡ true
 unfolding slot mark u64
 next_fits s h = grind (arith, nat_tests)
-
-real_or_none : (i : Round) → round.fits i ≡ true → round0.fits i ≡ true
-unfolding round round0
-real_or_none i h = grind (arith, nat_tests)
 
 window_of_both : (a b s : ℕ) → nat_le a s ≡ true → in_window b s ≡ true → in_window (max a b) s ≡ true
 window_of_both a b s from inside = grind (arith, nat_tests)
@@ -133,12 +118,6 @@ pub vote_fits : (i : Round) (s cw : ℕ) (v : Value) → round.fits i ≡ true �
     → value.fits v ≡ true → fits (kept.Vote i s cw v) ≡ true
 unfolding kept_record
 vote_fits i s cw v real in_slots in_marks fit = rw (real, in_slots, in_marks, fit) refl
-
--- a promise above a round is a round
-pub promise_real : (i p : Round) → round.fits i ≡ true → round0.fits p ≡ true → is_before i p ≡ true
-    → round.fits p ≡ true
-unfolding round round0
-promise_real i p real fit before = grind (arith, nat_tests)
 
 pub empty_sound : (me : RoleId) → me ≡ role Acceptor me.index
     → IsSound me (record { promise = no_round; cw = 0; votes = []; top = 0 })

@@ -1,18 +1,15 @@
 -- Votes by rising slot.
-use Rattle.std.specs.Prelude.{◌≡◌, ◌≤◌, ◌<◌, ℕ, suc, ◌+◌, ◌==◌, Bool, true, false, not, nat_le, nat_lt, position, if◌then◌else◌, List, [], ◌∷◌, length, Option, refl}
-use Rattle.std.specs.List.{insert, list_all, position_or_len}
+use Rattle.cx_role.proofs.Common.{◌≡◌, ◌≤◌, ◌<◌, ℕ, suc, ◌+◌, ◌==◌, Bool, true, false, not, nat_le, nat_lt, position}
+use Rattle.cx_role.proofs.Common.{if◌then◌else◌, List, [], ◌∷◌, length, Option, refl, list_all, get_or, set, ap, sym}
+use Rattle.cx_role.proofs.Common.{◌∙◌, arith, and_from, and_parts, eqb-true, nat_tests, Vote, by_test, either_way}
+use Rattle.std.specs.List.{insert, position_or_len}
 use Rattle.std.specs.Option.{unwrap_or}
-use Rattle.std.proofs.Common.{get_or, set, ap, sym, ◌∙◌, arith}
-use Rattle.std.proofs.lemmas.Bool.{and_from, and_parts, eqb-true}
-use Rattle.std.proofs.lemmas.Bool.Decides.{nat_tests}
 use Rattle.std.proofs.lemmas.List.Recursion.{is_position_or_len}
 use Rattle.std.proofs.lemmas.List.Sums.{prefix_len-le-length}
-use Rattle.cx_field.specs.declared.parts.Vote.{Vote}
 use Rattle.cx_field.specs.Fields.{votes}
 use Rattle.cx_field.specs.Ranges.{slots_rise, vote_in_range}
 use Rattle.cx_field.proofs.ListLaws.{votes_fit}
 use Rattle.cx_model.specs.Acceptor.{with_vote}
-use Rattle.cx_model.specs.Outcome.{by_test, either_way}
 
 abbrev pub all_in : ℕ → List Vote → Bool
 all_in cw vs = list_all (λ (v : Vote). vote_in_range cw v) vs

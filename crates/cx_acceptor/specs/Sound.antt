@@ -1,10 +1,6 @@
 -- What is so of every acceptor.
-use Rattle.std.specs.Prelude.{◌≡◌, IsTrue}
-use Rattle.std.specs.List.{list_all}
-use Rattle.cx_base.specs.declared.role.Kind.TheVariants.{Acceptor}
-use Rattle.cx_base.specs.declared.role.RoleId.{RoleId}
-use Rattle.cx_base.specs.Role.{role}
-use Rattle.cx_field.specs.declared.parts.Vote.{Vote}
+use Rattle.std.specs.Prelude.{◌≡◌}
+use Rattle.cx_role.specs.Prelude.{IsTrue, list_all, Acceptor, RoleId, role, Vote}
 use Rattle.cx_field.specs.Fields.{mark, round0}
 use Rattle.cx_field.specs.Ranges.{slots_rise, vote_in_range}
 use Rattle.cx_model.specs.Acceptor.{AcceptorDurable}

@@ -25,8 +25,8 @@ pub struct Acceptor {
 }
 
 impl Model for Acceptor {
+    ghost use Rattle.cx_role.specs.Prelude.{Running};
     ghost use Rattle.cx_model.specs.Acceptor.{AcceptorDurable};
-    ghost use Rattle.cx_model.specs.Rules.{Running};
     ghost use Rattle.cx_acceptor.specs.Sound.{IsSound};
 
     ghost Value = { Running AcceptorDurable (Unit {0}) };

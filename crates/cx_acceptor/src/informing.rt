@@ -1,11 +1,9 @@
 //! The rows of how many slots are chosen.
 
-ghost use Rattle.std.specs.Prelude.{◌≡◌, [], true, IsTrue};
-ghost use Rattle.cx_base.specs.declared.role.Kind.{Kind};
-ghost use Rattle.cx_base.specs.Role.{role};
+ghost use Rattle.std.specs.Prelude.{◌≡◌};
+ghost use Rattle.cx_role.specs.Prelude.{[], IsTrue, Kind, role, IsReply, IsStep};
 ghost use Rattle.cx_model.specs.Acceptor.{acceptor_rules, inform_row, pre_read_row};
 ghost use Rattle.cx_field.specs.Fields as field;
-ghost use Rattle.cx_role.specs.Role.{IsReply, IsStep};
 
 use crate::Acceptor;
 use cx_base::{NoMemory, RoleId, Round, Why};
@@ -25,7 +23,6 @@ impl Acceptor {
         mark: u64,
         out: &mut Outbox,
     ) -> Result<Why, StepFault>
-        requires live { self.old.live ≡ true }
         requires empty { out.old.list ≡ [] }
         requires sender { from ≡ role Kind.Leader from.index }
         requires round { IsTrue (field.round.fits round) }

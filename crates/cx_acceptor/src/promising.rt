@@ -1,13 +1,10 @@
 //! The row of a promise.
 
-ghost use Rattle.std.specs.Prelude.{◌≡◌, ◌∷◌, [], true, IfOk, IsTrue};
-ghost use Rattle.cx_base.specs.declared.role.Kind.{Kind};
-ghost use Rattle.cx_base.specs.Role.{role};
-ghost use Rattle.cx_base.specs.Round.{is_before};
+ghost use Rattle.std.specs.Prelude.{◌≡◌, ◌∷◌};
+ghost use Rattle.cx_role.specs.Prelude.{[], true, IfOk, IsTrue, Kind, role, is_before, replied, IsReply};
+ghost use Rattle.cx_role.specs.Prelude.{IsStep};
 ghost use Rattle.cx_model.specs.Acceptor.{acceptor_rules, nack_to, phase1a_row};
-ghost use Rattle.cx_model.specs.Outcome.{replied};
 ghost use Rattle.cx_field.specs.Fields as field;
-ghost use Rattle.cx_role.specs.Role.{IsReply, IsStep};
 
 use crate::Acceptor;
 use cx_base::{Few, NoMemory, RoleId, Round, Why, copy_all};
@@ -26,7 +23,6 @@ impl Acceptor {
         round: Round,
         out: &mut Outbox,
     ) -> Result<Why, StepFault>
-        requires live { self.old.live ≡ true }
         requires empty { out.old.list ≡ [] }
         requires sender { from ≡ role Kind.Leader from.index }
         requires round { IsTrue (field.round.fits round) }

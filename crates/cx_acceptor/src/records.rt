@@ -1,10 +1,9 @@
 //! What an acceptor remembers of its records.
 
-ghost use Rattle.std.specs.Prelude.{◌≡◌, [], true, OnOk, OnErr, IsTrue};
-ghost use Rattle.cx_base.specs.declared.role.Kind.{Kind};
+ghost use Rattle.std.specs.Prelude.{◌≡◌};
+ghost use Rattle.cx_role.specs.Prelude.{[], true, OnOk, OnErr, IsTrue, Kind, opened};
+ghost use Rattle.cx_role.specs.Prelude.kept;
 ghost use Rattle.cx_model.specs.Acceptor.{acceptor_rules, acceptor_after, acceptor_fits};
-ghost use Rattle.cx_model.specs.Rules.{opened};
-ghost use Rattle.cx_msg.specs.declared.kept.Record.TheVariants as kept;
 ghost use Rattle.cx_field.specs.Fields as field;
 ghost use Rattle.cx_msg.specs.Records.{fits as record_fits};
 

@@ -1,9 +1,8 @@
 //! The votes of an acceptor: at most one at each slot, by rising slot.
 
-ghost use Rattle.std.specs.Prelude.{◌≡◌, ◌≤◌, ◌<◌, nat_le, position, vec_len, vec_capacity};
+ghost use Rattle.std.specs.Prelude.{◌≡◌, ◌≤◌, ◌<◌};
+ghost use Rattle.cx_role.specs.Prelude.{nat_le, position, vec_len, vec_capacity, Vote, in_window};
 ghost use Rattle.cx_model.specs.Acceptor.{is_of, vote_at, votes_from, with_vote};
-ghost use Rattle.cx_field.specs.declared.parts.Vote.{Vote};
-ghost use Rattle.cx_field.specs.Fields.{in_window};
 
 use cx_base::{Round, WINDOW};
 use cx_field::Vote;

@@ -1,12 +1,9 @@
 //! The row of a vote.
 
-ghost use Rattle.std.specs.Prelude.{◌≡◌, [], true, IsTrue};
-ghost use Rattle.cx_base.specs.declared.role.Kind.{Kind};
-ghost use Rattle.cx_base.specs.Role.{role};
+ghost use Rattle.std.specs.Prelude.{◌≡◌};
+ghost use Rattle.cx_role.specs.Prelude.{[], IsTrue, Kind, role, in_window, IsStep};
 ghost use Rattle.cx_model.specs.Acceptor.{acceptor_rules, phase2a_row};
 ghost use Rattle.cx_field.specs.Fields as field;
-ghost use Rattle.cx_field.specs.Fields.{in_window};
-ghost use Rattle.cx_role.specs.Role.{IsStep};
 
 use crate::Acceptor;
 use crate::votes::{has_vote, keep_from, place};
@@ -29,7 +26,6 @@ impl Acceptor {
         value: &Value,
         out: &mut Outbox,
     ) -> Result<Why, StepFault>
-        requires live { self.old.live ≡ true }
         requires empty { out.old.list ≡ [] }
         requires sender { from ≡ role Kind.Proxy from.index }
         requires round { IsTrue (field.round.fits round) }

@@ -1,14 +1,8 @@
 -- What a batcher is not asked for.
-use Rattle.std.proofs.Common.{◌≡◌, refl}
-use Rattle.cx_base.specs.declared.cluster.Cluster.{Cluster}
-use Rattle.cx_base.specs.declared.command.Command.{Command}
-use Rattle.cx_base.specs.declared.role.RoleId.{RoleId}
-use Rattle.cx_base.specs.declared.round.Round.{Round}
+use Rattle.cx_role.proofs.Common.{◌≡◌, refl, Cluster, Command, RoleId, Round, Msg, answered}
+use Rattle.cx_role.proofs.Common.msg
 use Rattle.cx_base.specs.declared.why.Why.TheVariants.{Stranger}
-use Rattle.cx_msg.specs.declared.message.Msg.{Msg}
-use Rattle.cx_msg.specs.declared.message.Msg.TheVariants as msg
 use Rattle.cx_model.specs.Batcher.{BatcherVolatile, batcher_takes}
-use Rattle.cx_model.specs.Outcome.{answered}
 
 -- what is neither a command nor a round
 pub other_takes : (c : Cluster) (me : RoleId) (v : BatcherVolatile) (m : Msg)

@@ -1,14 +1,10 @@
 -- A batcher and the commands that it holds.
-use Rattle.std.specs.Prelude.{◌≡◌, ℕ, ◌<◌, Bool, List, length, IsTrue}
-use Rattle.std.specs.List.{list_all}
-use Rattle.cx_base.specs.declared.cluster.Cluster.{Cluster}
-use Rattle.cx_base.specs.declared.command.Command.{Command}
+use Rattle.std.specs.Prelude.{◌≡◌, ◌<◌}
+use Rattle.cx_role.specs.Prelude.{ℕ, Bool, List, length, IsTrue, list_all, Cluster, Command, RoleId, Round}
+use Rattle.cx_role.specs.Prelude.{Running}
 use Rattle.cx_base.specs.declared.role.Kind.TheVariants.{Batcher}
-use Rattle.cx_base.specs.declared.role.RoleId.{RoleId}
-use Rattle.cx_base.specs.declared.round.Round.{Round}
 use Rattle.cx_field.specs.Fields.{command}
 use Rattle.cx_model.specs.Batcher.{BatcherVolatile}
-use Rattle.cx_model.specs.Rules.{Running}
 
 -- a batcher, and fewer commands than a batch, each in its ranges
 pub record CanWait (batch : ℕ) (me : RoleId) (waiting : List Command) : Type 0 where

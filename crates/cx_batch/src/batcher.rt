@@ -1,13 +1,11 @@
 //! The batcher.
 
-ghost use Rattle.std.specs.Prelude.{◌≡◌, ◌≤◌, ◌++◌, ◌∷◌, [], vec_len, OnOk, OnErr, IsTrue};
-ghost use Rattle.std.specs.List.{list_all};
-ghost use Rattle.cx_base.specs.declared.command.Command.{Command};
-ghost use Rattle.cx_base.specs.declared.role.Kind.TheVariants as kind;
+ghost use Rattle.std.specs.Prelude.{◌≡◌, ◌≤◌, ◌++◌, ◌∷◌};
+ghost use Rattle.cx_role.specs.Prelude.{[], vec_len, OnOk, OnErr, IsTrue, list_all, Command};
+ghost use Rattle.cx_role.specs.Prelude.{opened, IsReply, Replies};
+ghost use Rattle.cx_role.specs.Prelude.kind;
 ghost use Rattle.cx_field.specs.Fields as field;
-ghost use Rattle.cx_model.specs.Rules.{opened};
 ghost use Rattle.cx_model.specs.Batcher.{BatcherVolatile, batcher_rules, batch_to, submit_row, leads_row};
-ghost use Rattle.cx_role.specs.Role.{IsReply, Replies};
 
 use cx_base::{Cluster, Command, Duplicate, Few, NoMemory, Order, RoleId, Round, Why};
 use cx_keeper::Keeper;
@@ -28,7 +26,7 @@ pub struct Batcher {
 }
 
 impl Model for Batcher {
-    ghost use Rattle.cx_model.specs.Rules.{Running};
+    ghost use Rattle.cx_role.specs.Prelude.{Running};
     ghost use Rattle.cx_model.specs.Batcher.{BatcherVolatile};
     ghost use Rattle.cx_batch.specs.Waiting.{CanWait, batcher_view};
 

@@ -1,9 +1,8 @@
 //! The unbatcher.
 
-ghost use Rattle.std.specs.Prelude.{◌≡◌, ◌≤◌, ◌++◌, [], length, map, IfOk, OnErr, IsTrue};
-ghost use Rattle.std.specs.List.{list_all};
-ghost use Rattle.cx_base.specs.declared.command.Answered.{Answered};
-ghost use Rattle.cx_base.specs.declared.role.Kind.TheVariants as kind;
+ghost use Rattle.std.specs.Prelude.{◌≡◌, ◌≤◌, ◌++◌};
+ghost use Rattle.cx_role.specs.Prelude.{length, map, IsTrue, list_all, Answered};
+ghost use Rattle.cx_role.specs.Prelude.kind;
 ghost use Rattle.cx_field.specs.Fields as field;
 ghost use Rattle.cx_model.specs.Unbatcher.{unbatcher_rules, answer_to};
 
@@ -24,8 +23,8 @@ pub struct Unbatcher {
 
 impl Model for Unbatcher {
     ghost use Rattle.std.specs.Prelude.{◌≡◌};
-    ghost use Rattle.cx_base.specs.declared.role.Kind.TheVariants as kind;
-    ghost use Rattle.cx_model.specs.Rules.{Running};
+    ghost use Rattle.cx_role.specs.Prelude.{Running};
+    ghost use Rattle.cx_role.specs.Prelude.kind;
 
     ghost Value = { Running (Unit {0}) (Unit {0}) };
 

@@ -1,13 +1,9 @@
 -- Values at rising slots, found by their slots.
-use Rattle.std.specs.Prelude.{◌≡◌, ◌≤◌, ◌<◌, ◌+◌, ◌-◌, ◌==◌, ℕ, zero, suc, Bool, true, false, max, nat_le, map, filter}
-use Rattle.std.specs.Prelude.{List, [], ◌∷◌, ◌++◌, drop, Some, All, refl}
-use Rattle.std.proofs.Common.{ap, arith, ◌∙◌, subst, inl, inr, append_assoc}
-use Rattle.std.proofs.lemmas.Bool.{cases_Bool}
-use Rattle.std.proofs.lemmas.Bool.Decides.{nat_tests}
+use Rattle.cx_role.proofs.Common.{◌≡◌, ◌≤◌, ◌<◌, ◌+◌, ◌-◌, ◌==◌, ℕ, zero, suc, Bool, true, false, max, nat_le, map}
+use Rattle.cx_role.proofs.Common.{filter, List, [], ◌∷◌, ◌++◌, drop, Some, All, refl, ap, arith, ◌∙◌, subst, inl, inr}
+use Rattle.cx_role.proofs.Common.{append_assoc, cases_Bool, nat_tests, All-head, All-tail, filter-append, Placed}
+use Rattle.cx_role.proofs.Common.{numbers}
 use Rattle.std.proofs.lemmas.List.{append-nil, map-append}
-use Rattle.std.proofs.lemmas.List.Elements.{All-head, All-tail, filter-append}
-use Rattle.cx_base.specs.declared.command.Placed.{Placed}
-use Rattle.cx_base.specs.Lists.{numbers}
 use Rattle.cx_ring.specs.Ring.{value_at, with_value, values_from}
 use Rattle.cx_leader.specs.Proposing.{only}
 

@@ -1,21 +1,10 @@
 -- What a leader takes, it keeps no record of.
-use Rattle.std.specs.Prelude.{◌≡◌, ◌&&◌, List, [], ◌∷◌, ◌++◌, Option, None, Some, refl}
-use Rattle.std.proofs.Common.{arith, subst, sym}
-use Rattle.cx_base.specs.declared.cluster.Cluster.{Cluster}
-use Rattle.cx_base.specs.declared.command.Command.{Command}
-use Rattle.cx_base.specs.declared.role.RoleId.{RoleId}
-use Rattle.cx_base.specs.Role.{same_role}
-use Rattle.cx_msg.specs.Letter.{Letter}
+use Rattle.cx_role.proofs.Common.{◌≡◌, ◌&&◌, List, [], ◌∷◌, ◌++◌, Option, None, Some, refl, arith, subst, sym, Cluster}
+use Rattle.cx_role.proofs.Common.{Command, RoleId, same_role, Letter, Record, Entry, Msg, live_entries, names, Outcome}
+use Rattle.cx_role.proofs.Common.{either_way, IsFit}
+use Rattle.cx_role.proofs.Common.msg
 use Rattle.cx_msg.specs.declared.input.Input.TheVariants as input
-use Rattle.cx_msg.specs.declared.kept.Record.{Record}
-use Rattle.cx_field.specs.declared.parts.Entry.{Entry}
-use Rattle.cx_msg.specs.declared.message.Msg.{Msg}
-use Rattle.cx_msg.specs.declared.message.Msg.TheVariants as msg
 use Rattle.cx_model.specs.Leader.{LeaderDurable, LeaderVolatile, matched_by, match_counted, promise_counted, propose_in, informed_in, leader_takes, leader_row, leader_rules}
-use Rattle.cx_model.specs.Matched.{live_entries}
-use Rattle.cx_model.specs.Names.{names}
-use Rattle.cx_model.specs.Outcome.{Outcome, either_way}
-use Rattle.cx_model.specs.Rules.{IsFit}
 
 abbrev KeepsNone : Outcome LeaderVolatile → Type 0
 KeepsNone o = o.kept ≡ None

@@ -1,12 +1,8 @@
 -- Slots in a ring and in the list of those that were noted.
-use Rattle.std.specs.Prelude.{◌≡◌, ◌==◌, ℕ, ◌&&◌, ◌||◌, nat_le, is_some, filter, List, [], ◌∷◌, ◌++◌, refl}
-use Rattle.std.proofs.Common.{ap, arith, sym, ◌∙◌, inl, inr}
-use Rattle.std.proofs.lemmas.Bool.{cases_Bool, eqb-true}
-use Rattle.std.proofs.lemmas.Bool.Decides.{nat_tests}
-use Rattle.std.proofs.lemmas.List.Folds.{list_any-append}
+use Rattle.cx_role.proofs.Common.{◌≡◌, ◌==◌, ℕ, ◌&&◌, ◌||◌, nat_le, is_some, filter, List, [], ◌∷◌, ◌++◌, refl, ap}
+use Rattle.cx_role.proofs.Common.{arith, sym, ◌∙◌, inl, inr, cases_Bool, eqb-true, nat_tests, list_any-append, is_in}
 use Rattle.std.proofs.lemmas.Map.Views.{any-filter_same}
 use Rattle.cx_base.proofs.Used.{or_false}
-use Rattle.cx_base.specs.Grid.{is_in}
 use Rattle.cx_ring.specs.Ring.{value_at, with_value, values_from}
 use Rattle.cx_leader.specs.Knowing.{AreSame}
 

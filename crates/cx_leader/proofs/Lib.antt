@@ -5,4 +5,3 @@ pub mod MatchLaws
 pub mod Opened
 pub mod PromiseLaws
 pub mod Proposed
-pub mod Sends

@@ -1,19 +1,12 @@
 -- What matchmakers reported, one answer after the other.
-use Rattle.std.specs.Prelude.{◌≡◌, ◌≤◌, ℕ, Bool, true, false, ◌&&◌, if◌then◌else◌, nat_lt, nat_le, filter, List, [], ◌∷◌, ◌++◌, All, refl}
-use Rattle.std.specs.List.{list_all}
-use Rattle.std.proofs.Common.{ap, append_assoc, arith, sym, ◌∙◌}
-use Rattle.std.proofs.lemmas.Bool.{and_parts, and_from, lt-ltb, ltb-true}
+use Rattle.cx_role.proofs.Common.{◌≡◌, ◌≤◌, ℕ, Bool, true, false, ◌&&◌, if◌then◌else◌, nat_lt, nat_le, filter, List, []}
+use Rattle.cx_role.proofs.Common.{◌∷◌, ◌++◌, All, refl, list_all, ap, append_assoc, arith, sym, ◌∙◌, and_parts}
+use Rattle.cx_role.proofs.Common.{and_from, lt-ltb, ltb-true, list_all-append, filter-append, All-filter, All-head}
+use Rattle.cx_role.proofs.Common.{All-tail, Cluster, Round, Entry, MatchAnswer, entries_told, live_entries, names_entry}
+use Rattle.cx_role.proofs.Common.{names_round, names_grid}
 use Rattle.std.proofs.lemmas.List.{append-nil}
-use Rattle.std.proofs.lemmas.List.Folds.{list_all-append}
-use Rattle.std.proofs.lemmas.List.Elements.{filter-append, All-filter, All-head, All-tail}
-use Rattle.cx_base.specs.declared.cluster.Cluster.{Cluster}
-use Rattle.cx_base.specs.declared.round.Round.{Round}
-use Rattle.cx_field.specs.declared.parts.Entry.{Entry}
-use Rattle.cx_model.specs.declared.states.MatchAnswer.{MatchAnswer}
 use Rattle.cx_model.specs.Leader.{reaching, greatest_of, held_by}
-use Rattle.cx_model.specs.Matched.{entries_told, live_entries}
 use Rattle.cx_model.specs.Matchmaker.{entries_from}
-use Rattle.cx_model.specs.Names.{names_entry, names_round, names_grid}
 use Rattle.cx_phase1.specs.Counting.{are_ids}
 use Rattle.cx_leader.specs.State.{is_named}
 

@@ -1,15 +1,8 @@
 -- A leader that was just opened.
-use Rattle.std.specs.Prelude.{◌≡◌, ◌<◌, ◌≤◌, ◌+◌, ◌^◌, ℕ, zero, suc, true, nat_lt, map, length, All, IsTrue, refl}
-use Rattle.std.proofs.Common.{ap, arith, sym}
-use Rattle.std.proofs.lemmas.Bool.{ltb-true}
-use Rattle.std.proofs.lemmas.List.Elements.{All-nil, All-cons}
-use Rattle.cx_base.specs.declared.cluster.Cluster.{Cluster}
-use Rattle.cx_base.specs.declared.role.Kind.{Kind}
-use Rattle.cx_base.specs.declared.role.Kind.TheVariants as kind
-use Rattle.cx_base.specs.declared.role.RoleId.{RoleId}
-use Rattle.cx_base.specs.Lists.{numbers, below}
-use Rattle.cx_base.specs.Role.{role}
-use Rattle.cx_model.specs.Names.{names_role}
+use Rattle.cx_role.proofs.Common.{◌≡◌, ◌<◌, ◌≤◌, ◌+◌, ◌^◌, ℕ, zero, suc, true, nat_lt, map, length, All, IsTrue, refl}
+use Rattle.cx_role.proofs.Common.{ap, arith, sym, ltb-true, All-nil, All-cons, Cluster, Kind, RoleId, numbers, below}
+use Rattle.cx_role.proofs.Common.{role, names_role}
+use Rattle.cx_role.proofs.Common.kind
 use Rattle.cx_leader.specs.State.{IsHeld}
 
 -- a role of a leader's kind is the leader of its index

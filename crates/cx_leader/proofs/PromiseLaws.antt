@@ -1,13 +1,7 @@
 -- The row of an acceptor's answer, by what the answer comes to.
-use Rattle.std.specs.Prelude.{◌≡◌, ◌&&◌, ℕ, Bool, true, false, List, [], ◌∷◌, ◌++◌, Some, refl}
-use Rattle.cx_base.specs.declared.cluster.Cluster.{Cluster}
-use Rattle.cx_base.specs.declared.role.RoleId.{RoleId}
-use Rattle.cx_base.specs.declared.round.Round.{Round}
-use Rattle.cx_field.specs.declared.parts.Entry.{Entry}
-use Rattle.cx_field.specs.declared.parts.Vote.{Vote}
-use Rattle.cx_model.specs.declared.states.Promised.{Promised}
+use Rattle.cx_role.proofs.Common.{◌≡◌, ◌&&◌, ℕ, Bool, true, false, List, [], ◌∷◌, ◌++◌, Some, refl, Cluster, RoleId}
+use Rattle.cx_role.proofs.Common.{Round, Entry, Vote, Promised, live_entries, is_member_of, rows_whole}
 use Rattle.cx_model.specs.Leader.{LeaderDurable, LeaderVolatile, is_promising, is_own, phase1b_row}
-use Rattle.cx_model.specs.Matched.{live_entries, is_member_of, rows_whole}
 use Rattle.cx_model.specs.Plan.{has_promised, promised_by}
 use Rattle.cx_phase1.specs.Counting.{Counting, told_by, counted_by}
 use Rattle.cx_phase1.specs.declared.told.Told.TheVariants.{Same, Unasked, Whole}

@@ -1,14 +1,10 @@
 -- What a leader proposed stays one value a slot.
-use Rattle.std.specs.Prelude.{◌≡◌, ◌≢◌, ◌≤◌, ◌<◌, ◌+◌, ◌-◌, ◌^◌, ◌==◌, ℕ, Bool, true, false, max, map, List, [], ◌∷◌, ◌++◌}
-use Rattle.std.specs.Prelude.{length, None, Some, All, IsTrue, refl, if◌then◌else◌}
-use Rattle.std.proofs.Common.{ap, arith, ◌∙◌}
+use Rattle.cx_role.proofs.Common.{◌≡◌, ◌≢◌, ◌≤◌, ◌<◌, ◌+◌, ◌-◌, ◌^◌, ◌==◌, ℕ, Bool, true, false, max, map, List, []}
+use Rattle.cx_role.proofs.Common.{◌∷◌, ◌++◌, length, None, Some, All, IsTrue, refl, if◌then◌else◌, ap, arith, ◌∙◌}
+use Rattle.cx_role.proofs.Common.{All-nil, All-cons, All-push, All-filter, All-head, All-tail, Placed, Value, numbers}
+use Rattle.cx_role.proofs.Common.{Plan}
 use Rattle.std.proofs.lemmas.Bool.{or_parts, eqb-false}
-use Rattle.std.proofs.lemmas.List.Elements.{All-nil, All-cons, All-push, All-filter, All-head, All-tail}
-use Rattle.cx_base.specs.declared.command.Placed.{Placed}
-use Rattle.cx_base.specs.declared.command.Value.{Value}
-use Rattle.cx_base.specs.Lists.{numbers}
 use Rattle.cx_field.specs.Fields as field
-use Rattle.cx_model.specs.declared.states.Plan.{Plan}
 use Rattle.cx_model.specs.Leader.{without_known}
 use Rattle.cx_model.specs.Plan.{placed_from}
 use Rattle.cx_phase1.specs.Planned.{IsPlan}

@@ -1,6 +1,6 @@
 -- The slots of a window that are known to be chosen, as contracts see them.
-use Rattle.std.specs.Prelude.{◌≡◌, ℕ, max, nat_le, filter, List, [], ◌∷◌, ◌++◌}
-use Rattle.cx_base.specs.Grid.{is_in}
+use Rattle.std.specs.Prelude.{◌≡◌, ◌∷◌, ◌++◌}
+use Rattle.cx_role.specs.Prelude.{ℕ, max, nat_le, filter, List, [], is_in}
 
 -- where the window begins, and the slots in the order in which they were noted
 pub record Knowing : Type 0 where

@@ -1,16 +1,11 @@
 -- What a leader knows of its first phase.
-use Rattle.std.specs.Prelude.{List, [], ◌∷◌, ◌++◌, Option, map}
-use Rattle.std.specs.Option.{option_map, option_map_or}
-use Rattle.cx_base.specs.declared.cluster.Cluster.{Cluster}
-use Rattle.cx_base.specs.declared.role.RoleId.{RoleId}
-use Rattle.cx_base.specs.declared.why.Why.TheVariants as why
-use Rattle.cx_field.specs.declared.parts.Entry.{Entry}
-use Rattle.cx_model.specs.declared.states.MatchAnswer.{MatchAnswer}
-use Rattle.cx_model.specs.declared.states.Mode.TheVariants as mode
-use Rattle.cx_model.specs.declared.states.Promised.{Promised}
+use Rattle.std.specs.Prelude.{◌∷◌, ◌++◌}
+use Rattle.cx_role.specs.Prelude.{List, [], Option, map, option_map, Cluster, RoleId, Entry, MatchAnswer}
+use Rattle.cx_role.specs.Prelude.{Promised, live_entries, members_of, Outcome, answered, replied}
+use Rattle.cx_role.specs.Prelude.why
+use Rattle.cx_role.specs.Prelude.mode
+use Rattle.std.specs.Option.{option_map_or}
 use Rattle.cx_model.specs.Leader.{LeaderVolatile, finish, phase1a_to}
-use Rattle.cx_model.specs.Matched.{live_entries, members_of}
-use Rattle.cx_model.specs.Outcome.{Outcome, answered, replied}
 use Rattle.cx_phase1.specs.Counting.{Counting, told_by}
 use Rattle.cx_phase1.specs.declared.told.Told.{Told}
 use Rattle.cx_phase1.specs.declared.told.Told.TheVariants as told

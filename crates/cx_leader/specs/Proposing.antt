@@ -1,18 +1,11 @@
 -- What a leader proposed, as contracts see it.
-use Rattle.std.specs.Prelude.{◌≡◌, ◌≤◌, ◌<◌, ◌+◌, ◌-◌, ◌^◌, ℕ, Bool, true, false, nat_le, max, map, filter}
-use Rattle.std.specs.Prelude.{List, [], ◌∷◌, ◌++◌, All, Option, None, Some, IsTrue}
-use Rattle.cx_base.specs.declared.command.Placed.{Placed}
-use Rattle.cx_base.specs.declared.command.Value.{Value}
-use Rattle.cx_base.specs.declared.cluster.Cluster.{Cluster}
-use Rattle.cx_base.specs.declared.role.Kind.TheVariants.{Leader}
-use Rattle.cx_base.specs.Lists.{numbers}
-use Rattle.cx_base.specs.Role.{role}
-use Rattle.cx_model.specs.declared.states.Plan.{Plan}
+use Rattle.std.specs.Prelude.{◌≡◌, ◌≤◌, ◌<◌, ◌+◌, ◌-◌, ◌^◌, ◌∷◌, ◌++◌}
+use Rattle.cx_role.specs.Prelude.{ℕ, Bool, true, false, nat_le, max, map, filter, List}
+use Rattle.cx_role.specs.Prelude.{[], All, Option, None, Some, IsTrue, Placed, Value, Cluster, Leader}
+use Rattle.cx_role.specs.Prelude.{numbers, role, Plan, Entry, Letter}
 use Rattle.cx_model.specs.Leader.{are_known, propose_to}
 use Rattle.cx_model.specs.Plan.{placed_from}
-use Rattle.cx_field.specs.declared.parts.Entry.{Entry}
 use Rattle.cx_field.specs.Fields as field
-use Rattle.cx_msg.specs.Letter.{Letter}
 use Rattle.cx_phase1.specs.Window.{IsWindow, is_used_up}
 use Rattle.cx_ring.specs.Ring.{RingState}
 

@@ -1,22 +1,14 @@
 -- What the parts of a leader owe one another.
-use Rattle.std.specs.Prelude.{◌≡◌, ◌≤◌, ◌<◌, ◌+◌, ◌^◌, ◌==◌, ℕ, Bool, true, ◌&&◌, ◌||◌, not, is_some, length}
-use Rattle.std.specs.Prelude.{Option, None, Some, IsTrue, List, All}
-use Rattle.std.specs.List.{list_all}
-use Rattle.std.specs.Option.{option_map}
-use Rattle.cx_base.specs.declared.cluster.Cluster.{Cluster}
-use Rattle.cx_base.specs.declared.role.Kind.TheVariants as kind
-use Rattle.cx_base.specs.declared.round.Round.{Round}
-use Rattle.cx_base.specs.Role.{role}
+use Rattle.std.specs.Prelude.{◌≡◌, ◌≤◌, ◌<◌, ◌+◌, ◌^◌, ◌==◌, ◌&&◌, ◌||◌}
+use Rattle.cx_role.specs.Prelude.{ℕ, Bool, true, not, is_some, length}
+use Rattle.cx_role.specs.Prelude.{Option, None, Some, IsTrue, List, All, list_all, option_map, Cluster, Round, role}
+use Rattle.cx_role.specs.Prelude.{Entry, MatchAnswer, live_entries, names_entry, Running}
+use Rattle.cx_role.specs.Prelude.kind
 use Rattle.cx_collect.specs.Collecting.{Collecting}
 use Rattle.cx_field.specs.Fields as field
-use Rattle.cx_field.specs.declared.parts.Entry.{Entry}
-use Rattle.cx_model.specs.declared.states.MatchAnswer.{MatchAnswer}
 use Rattle.cx_model.specs.declared.states.Mode.{Mode}
 use Rattle.cx_model.specs.Collection.{is_off}
 use Rattle.cx_model.specs.Leader.{LeaderDurable, LeaderVolatile, is_idle, is_matching, is_promising}
-use Rattle.cx_model.specs.Matched.{live_entries}
-use Rattle.cx_model.specs.Names.{names_entry}
-use Rattle.cx_model.specs.Rules.{Running}
 use Rattle.cx_phase1.specs.Counting.{Counting}
 use Rattle.cx_leader.specs.Promising.{live_of, promises_of}
 use Rattle.cx_leader.specs.Proposing.{Proposing}

@@ -1,6 +1,6 @@
 -- What a node that tends its roles asks of a leader.
-use Rattle.std.specs.Prelude.{Bool, not, ◌&&◌, nat_lt, nat_le, filter, length, is_some}
-use Rattle.cx_base.specs.declared.cluster.Cluster.{Cluster}
+use Rattle.std.specs.Prelude.{◌&&◌}
+use Rattle.cx_role.specs.Prelude.{Bool, not, nat_lt, nat_le, filter, length, is_some, Cluster}
 use Rattle.cx_model.specs.Collection.{is_off, is_retired}
 use Rattle.cx_model.specs.Leader.{LeaderDurable, LeaderVolatile, are_known, is_leading, is_settled}
 use Rattle.cx_model.specs.Matched.{enough}

@@ -1,8 +1,8 @@
 //! What the matchmakers reported (JSys 2021): the greatest watermark, and the entries that are not retired.
 
-ghost use Rattle.std.specs.Prelude.{◌≡◌, ◌∷◌, ◌++◌, [], not, IfOk};
-ghost use Rattle.cx_base.specs.Round.{is_before};
-ghost use Rattle.cx_model.specs.Matched.{later_round, is_counted, greatest_watermark, live_entries};
+ghost use Rattle.std.specs.Prelude.{◌≡◌, ◌∷◌, ◌++◌};
+ghost use Rattle.cx_role.specs.Prelude.{[], not, IfOk, is_before, later_round, is_counted};
+ghost use Rattle.cx_role.specs.Prelude.{greatest_watermark, live_entries};
 ghost use Rattle.cx_model.specs.Matchmaker.{entries_from};
 
 use cx_base::{NoMemory, Round};

@@ -1,8 +1,8 @@
 //! How many slots the replicas hold. What f + 1 of them hold is never lost (this project's own).
 
-ghost use Rattle.std.specs.Prelude.{◌≡◌, ◌≤◌, ◌<◌, ◌^◌, [], IsTrue};
+ghost use Rattle.std.specs.Prelude.{◌≡◌, ◌≤◌, ◌<◌, ◌^◌};
+ghost use Rattle.cx_role.specs.Prelude.{[], Replies};
 ghost use Rattle.cx_model.specs.Leader.{reaching, held_by, held_row, leader_rules};
-ghost use Rattle.cx_role.specs.Role.{Replies};
 
 use crate::Leader;
 use cx_base::{RoleId, Why};

@@ -1,9 +1,8 @@
 //! The slots of a window that are known to be chosen.
 
-ghost use Rattle.std.specs.Prelude.{◌≡◌, ◌≤◌, ◌<◌, ◌+◌, ◌^◌, ◌++◌, ◌∷◌, [], filter, nat_le, OnOk, OnErr};
-ghost use Rattle.std.specs.List.{list_all};
-ghost use Rattle.cx_base.specs.Grid.{is_in};
-ghost use Rattle.cx_base.specs.Lists.{numbers};
+ghost use Rattle.std.specs.Prelude.{◌≡◌, ◌≤◌, ◌<◌, ◌+◌, ◌^◌, ◌++◌, ◌∷◌};
+ghost use Rattle.cx_role.specs.Prelude.{[], filter, nat_le, OnOk, OnErr, list_all};
+ghost use Rattle.cx_role.specs.Prelude.{is_in, numbers};
 ghost use Rattle.cx_leader.specs.Knowing.{Knowing, noted, known_from};
 
 use cx_base::NoMemory;

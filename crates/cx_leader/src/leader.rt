@@ -1,12 +1,10 @@
 //! The leader's state.
 
-ghost use Rattle.std.specs.Prelude.{◌≡◌, ◌<◌, [], IfOk, IsTrue, true};
-ghost use Rattle.cx_base.specs.Role.{role};
-ghost use Rattle.cx_base.specs.declared.role.Kind.TheVariants as kind;
+ghost use Rattle.std.specs.Prelude.{◌≡◌, ◌<◌};
+ghost use Rattle.cx_role.specs.Prelude.{[], IfOk, IsTrue, true, role, names, IsReply};
+ghost use Rattle.cx_role.specs.Prelude.kind;
 ghost use Rattle.cx_leader.specs.State.{own_fits};
 ghost use Rattle.cx_model.specs.Leader.{LeaderDurable, LeaderVolatile, is_idle, leader_takes, leader_rules};
-ghost use Rattle.cx_model.specs.Names.{names};
-ghost use Rattle.cx_role.specs.Role.{IsReply};
 
 use crate::opening::{last_begun, none_held};
 use crate::proposals::Proposals;
@@ -41,7 +39,7 @@ pub struct Leader {
 }
 
 impl Model for Leader {
-    ghost use Rattle.cx_model.specs.Rules.{Running};
+    ghost use Rattle.cx_role.specs.Prelude.{Running};
     ghost use Rattle.cx_model.specs.Leader.{LeaderDurable, LeaderVolatile};
     ghost use Rattle.cx_leader.specs.State.{IsLeader, leader_view};
 

@@ -1,14 +1,12 @@
 //! What a leader that leads does: it proposes what its first phase reported, or what it proposed in the round before,
 //! gives each batch a slot, and notes which slots are chosen (VLDB 2021).
 
-ghost use Rattle.std.specs.Prelude.{◌≡◌, ◌++◌, [], Some, map, IsTrue, OnOk, OnErr};
-ghost use Rattle.cx_base.specs.declared.role.Kind.{Kind as KindOf};
-ghost use Rattle.cx_base.specs.Lists.{below};
-ghost use Rattle.cx_base.specs.Role.{role};
+ghost use Rattle.std.specs.Prelude.{◌≡◌, ◌++◌};
+ghost use Rattle.cx_role.specs.Prelude.{[], Some, map, IsTrue, OnOk, OnErr, Kind as KindOf, below, role};
+ghost use Rattle.cx_role.specs.Prelude.{IsReply};
 ghost use Rattle.cx_field.specs.Fields as field;
 ghost use Rattle.cx_model.specs.Leader.{leads_to, lead_with, batch_row, chosen_in_row, leader_rules};
 ghost use Rattle.cx_phase1.specs.Planned.{IsPlan};
-ghost use Rattle.cx_role.specs.Role.{IsReply};
 ghost use Rattle.cx_leader.specs.Proposing.{propose_sends};
 
 use crate::Leader;

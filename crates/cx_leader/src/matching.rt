@@ -1,13 +1,10 @@
 //! A leader that asks the matchmakers which grids earlier rounds used (JSys 2021).
 
-ghost use Rattle.std.specs.Prelude.{◌≡◌, ◌++◌, ◌∷◌, [], Some, IsTrue};
-ghost use Rattle.std.specs.List.{list_all};
+ghost use Rattle.std.specs.Prelude.{◌≡◌, ◌++◌, ◌∷◌};
+ghost use Rattle.cx_role.specs.Prelude.{[], Some, IsTrue, list_all, live_entries, names_entry};
+ghost use Rattle.cx_role.specs.Prelude.{Entry as EntryOf, IsReply};
 ghost use Rattle.cx_model.specs.Leader.{is_matching, bypass, finish, matched_by, match_counted, match_b_row};
 ghost use Rattle.cx_model.specs.Leader.{leader_rules};
-ghost use Rattle.cx_model.specs.Matched.{live_entries};
-ghost use Rattle.cx_model.specs.Names.{names_entry};
-ghost use Rattle.cx_field.specs.declared.parts.Entry.{Entry as EntryOf};
-ghost use Rattle.cx_role.specs.Role.{IsReply};
 ghost use Rattle.cx_leader.specs.Promising.{ask_row, with_answer};
 ghost use Rattle.cx_leader.specs.State.{is_named};
 

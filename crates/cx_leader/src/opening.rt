@@ -1,10 +1,8 @@
 //! What a leader that is opened begins with.
 
-ghost use Rattle.std.specs.Prelude.{◌≡◌, None, map, IfOk, IfErr, IsTrue};
-ghost use Rattle.cx_base.specs.Lists.{below};
-ghost use Rattle.cx_keeper.specs.Keeper.{all_fit};
+ghost use Rattle.std.specs.Prelude.{◌≡◌};
+ghost use Rattle.cx_role.specs.Prelude.{None, map, IfOk, IfErr, IsTrue, below, all_fit, folded_from, refused_from};
 ghost use Rattle.cx_model.specs.Leader.{leader_rules};
-ghost use Rattle.cx_model.specs.Rules.{folded_from, refused_from};
 ghost use Rattle.cx_role.specs.Wake.{IsWakeFault};
 ghost use Rattle.cx_leader.specs.State.{own_fits};
 

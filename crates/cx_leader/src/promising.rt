@@ -1,10 +1,9 @@
 //! A leader that asks the acceptors of earlier grids to promise its round (VLDB 2021).
 
-ghost use Rattle.std.specs.Prelude.{◌≡◌, ◌&&◌, [], Some, IsTrue};
-ghost use Rattle.cx_model.specs.declared.states.Promised.{Promised};
+ghost use Rattle.std.specs.Prelude.{◌≡◌, ◌&&◌};
+ghost use Rattle.cx_role.specs.Prelude.{[], Some, IsTrue, Promised, IsReply};
 ghost use Rattle.cx_model.specs.Leader.{is_promising, is_own, phase1b_row, leader_rules};
 ghost use Rattle.cx_field.specs.Fields as field;
-ghost use Rattle.cx_role.specs.Role.{IsReply};
 ghost use Rattle.cx_leader.specs.Promising.{promised_row};
 
 use crate::Leader;

@@ -1,7 +1,7 @@
 //! What a leader proposed, and what it knows to be chosen.
 
-ghost use Rattle.std.specs.Prelude.{◌≡◌, ◌≤◌, ◌<◌, ◌+◌, ◌^◌, ◌++◌, true, length, IsTrue, IfOk, OnOk, OnErr};
-ghost use Rattle.cx_base.specs.Grid.{is_in};
+ghost use Rattle.std.specs.Prelude.{◌≡◌, ◌≤◌, ◌<◌, ◌+◌, ◌^◌, ◌++◌};
+ghost use Rattle.cx_role.specs.Prelude.{true, length, IsTrue, IfOk, OnOk, OnErr, is_in};
 ghost use Rattle.cx_field.specs.Fields as field;
 ghost use Rattle.cx_model.specs.Leader.{are_known, without_known};
 ghost use Rattle.cx_model.specs.Plan.{placed_from};

@@ -1,8 +1,7 @@
 //! Who refuses a leader's round, and reports a greater one.
 
-ghost use Rattle.std.specs.Prelude.{◌≡◌, []};
+ghost use Rattle.cx_role.specs.Prelude.{[], Replies};
 ghost use Rattle.cx_model.specs.Leader.{nack_row, match_nack_row, leader_rules};
-ghost use Rattle.cx_role.specs.Role.{Replies};
 
 use crate::Leader;
 use crate::entries::later;

@@ -1,9 +1,9 @@
 //! How a leader retires the rounds below its own (JSys 2021): a column of its grid learns how many slots enough
 //! replicas hold (this project's own), then f + 1 matchmakers forget the earlier rounds.
 
-ghost use Rattle.std.specs.Prelude.{◌≡◌, ◌<◌, ◌&&◌, []};
+ghost use Rattle.std.specs.Prelude.{◌≡◌, ◌<◌, ◌&&◌};
+ghost use Rattle.cx_role.specs.Prelude.{[], IsReply, Replies};
 ghost use Rattle.cx_model.specs.Leader.{is_leading, is_own, collect_row, informed_row, garbage_b_row, leader_rules};
-ghost use Rattle.cx_role.specs.Role.{IsReply, Replies};
 
 use crate::Leader;
 use crate::rounds::{is_same, round_of};

@@ -1,11 +1,10 @@
 //! Which rounds follow one another, and the orders to begin one.
 
-ghost use Rattle.std.specs.Prelude.{◌≡◌, ◌==◌, ◌&&◌, ◌+◌, [], true, Some, IsTrue};
-ghost use Rattle.cx_base.specs.Round.{same_round};
+ghost use Rattle.std.specs.Prelude.{◌≡◌, ◌==◌, ◌&&◌, ◌+◌};
+ghost use Rattle.cx_role.specs.Prelude.{[], true, Some, IsTrue, same_round, names_round};
+ghost use Rattle.cx_role.specs.Prelude.{names_grid, IsStep, MayKeep};
 ghost use Rattle.cx_model.specs.Leader.{round_of, follows, begin_in, lead_row, change_row, leader_rules};
-ghost use Rattle.cx_model.specs.Names.{names_round, names_grid};
 ghost use Rattle.cx_field.specs.Fields as field;
-ghost use Rattle.cx_role.specs.Role.{IsStep, MayKeep};
 
 use crate::Leader;
 use crate::sending::{ask_matchmakers, matchmakers};

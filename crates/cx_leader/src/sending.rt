@@ -1,12 +1,10 @@
 //! What a leader sends to several roles, by rising index. Room in the outbox was taken beforehand.
 
-ghost use Rattle.std.specs.Prelude.{◌≡◌, ◌≤◌, ◌+◌, ◌++◌, ◌*◌, ◌^◌, map, IsTrue};
-ghost use Rattle.cx_base.specs.declared.role.Kind.{Kind as KindOf};
-ghost use Rattle.cx_base.specs.Lists.{below};
-ghost use Rattle.cx_base.specs.Role.{role};
+ghost use Rattle.std.specs.Prelude.{◌≡◌, ◌≤◌, ◌+◌, ◌++◌, ◌*◌, ◌^◌};
+ghost use Rattle.cx_role.specs.Prelude.{map, IsTrue, Kind as KindOf, below, role};
+ghost use Rattle.cx_role.specs.Prelude.{members_of, members_in};
 ghost use Rattle.cx_field.specs.Fields as field;
 ghost use Rattle.cx_model.specs.Leader.{match_a_to, phase1a_to, leads_to, propose_to, inform_to, garbage_a_to};
-ghost use Rattle.cx_model.specs.Matched.{members_of, members_in};
 ghost use Rattle.cx_leader.specs.Proposing.{IsSlot};
 
 use cx_base::{Cluster, Grid, Kind, Round, Value};

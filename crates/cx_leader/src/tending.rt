@@ -1,6 +1,7 @@
 //! What a node that tends its roles asks of a leader. Nothing here takes memory.
 
-ghost use Rattle.std.specs.Prelude.{◌≡◌, nat_lt, filter, length};
+ghost use Rattle.std.specs.Prelude.{◌≡◌};
+ghost use Rattle.cx_role.specs.Prelude.{nat_lt, filter, length};
 ghost use Rattle.cx_leader.specs.Tending.{is_new, has_heard, can_collect, has_open, is_spent};
 
 use crate::Leader;

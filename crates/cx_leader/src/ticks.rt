@@ -1,10 +1,10 @@
 //! What a leader asks again while it waits.
 
-ghost use Rattle.std.specs.Prelude.{◌≡◌, ◌≤◌, ◌+◌, ◌*◌, ◌++◌, [], Some, IsTrue};
-ghost use Rattle.cx_model.specs.declared.states.Mode.TheVariants as mode;
+ghost use Rattle.std.specs.Prelude.{◌≡◌, ◌≤◌, ◌+◌, ◌*◌, ◌++◌};
+ghost use Rattle.cx_role.specs.Prelude.{[], Some, IsTrue, IsReply};
+ghost use Rattle.cx_role.specs.Prelude.mode;
 ghost use Rattle.cx_model.specs.Leader.{stage_sends, tick_in, leader_rules};
 ghost use Rattle.cx_field.specs.Fields as field;
-ghost use Rattle.cx_role.specs.Role.{IsReply};
 
 use crate::Leader;
 use crate::sending::{

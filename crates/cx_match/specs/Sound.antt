@@ -1,8 +1,6 @@
 -- What is so of every matchmaker.
-use Rattle.std.specs.Prelude.{◌≡◌, ◌||◌, nat_le, length, IsTrue}
-use Rattle.cx_base.specs.declared.role.Kind.TheVariants.{Matchmaker}
-use Rattle.cx_base.specs.declared.role.RoleId.{RoleId}
-use Rattle.cx_base.specs.Role.{role}
+use Rattle.std.specs.Prelude.{◌≡◌, ◌||◌}
+use Rattle.cx_role.specs.Prelude.{nat_le, length, IsTrue, Matchmaker, RoleId, role}
 use Rattle.cx_field.specs.Fields.{round0, entries}
 use Rattle.cx_model.specs.Matchmaker.{MatchmakerDurable, has_round}
 

@@ -1,10 +1,9 @@
 //! The entries of a matchmaker: rounds with their grids, in rising order.
 
-ghost use Rattle.std.specs.Prelude.{◌≡◌, ◌<◌, ◌≤◌, vec_len, vec_capacity, IfOk, IsTrue};
-ghost use Rattle.std.specs.List.{list_all, list_any};
-ghost use Rattle.cx_base.specs.Round.{is_before};
+ghost use Rattle.std.specs.Prelude.{◌≡◌, ◌<◌, ◌≤◌};
+ghost use Rattle.cx_role.specs.Prelude.{vec_len, vec_capacity, IfOk, IsTrue, list_all, list_any};
+ghost use Rattle.cx_role.specs.Prelude.{is_before, Entry};
 ghost use Rattle.cx_model.specs.Matchmaker.{entries_before, entries_from, greatest, has_round, with_own};
-ghost use Rattle.cx_field.specs.declared.parts.Entry.{Entry};
 ghost use Rattle.cx_field.specs.Fields as field;
 
 use cx_base::{Few, Grid, NoMemory, Round, copy_all};

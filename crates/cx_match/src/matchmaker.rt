@@ -23,8 +23,8 @@ pub struct Matchmaker {
 }
 
 impl Model for Matchmaker {
+    ghost use Rattle.cx_role.specs.Prelude.{Running};
     ghost use Rattle.cx_model.specs.Matchmaker.{MatchmakerDurable};
-    ghost use Rattle.cx_model.specs.Rules.{Running};
     ghost use Rattle.cx_match.specs.Sound.{IsSound};
 
     ghost Value = { Running MatchmakerDurable (Unit {0}) };

@@ -1,9 +1,8 @@
 //! What a matchmaker remembers of its records.
 
-ghost use Rattle.std.specs.Prelude.{◌≡◌, [], true, OnOk, OnErr, IsTrue};
-ghost use Rattle.cx_base.specs.declared.role.Kind.{Kind};
+ghost use Rattle.std.specs.Prelude.{◌≡◌};
+ghost use Rattle.cx_role.specs.Prelude.{[], true, OnOk, OnErr, IsTrue, Kind, opened};
 ghost use Rattle.cx_model.specs.Matchmaker.{matchmaker_rules, matchmaker_after, matchmaker_fits};
-ghost use Rattle.cx_model.specs.Rules.{opened};
 ghost use Rattle.cx_msg.specs.Records.{fits as record_fits};
 
 use crate::Matchmaker;

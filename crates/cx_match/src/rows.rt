@@ -1,11 +1,9 @@
 //! The rows of a matchmaker.
 
-ghost use Rattle.std.specs.Prelude.{◌≡◌, [], true, IsTrue};
-ghost use Rattle.cx_base.specs.declared.role.Kind.{Kind};
-ghost use Rattle.cx_base.specs.Role.{role};
+ghost use Rattle.std.specs.Prelude.{◌≡◌};
+ghost use Rattle.cx_role.specs.Prelude.{[], IsTrue, Kind, role, IsReply, IsStep};
 ghost use Rattle.cx_model.specs.Matchmaker.{garbage_a_row, matchmaker_rules, match_a_row, match_read_row};
 ghost use Rattle.cx_field.specs.Fields as field;
-ghost use Rattle.cx_role.specs.Role.{IsReply, IsStep};
 
 use crate::Matchmaker;
 use crate::entries::{earlier, has_entry, has_later, last_round, retire, told};
@@ -26,7 +24,6 @@ impl Matchmaker {
         grid: Grid,
         out: &mut Outbox,
     ) -> Result<Why, StepFault>
-        requires live { self.old.live ≡ true }
         requires empty { out.old.list ≡ [] }
         requires sender { from ≡ role Kind.Leader from.index }
         requires round { IsTrue (field.round.fits round) }
@@ -83,7 +80,6 @@ impl Matchmaker {
         grid: Grid,
         out: &mut Outbox,
     ) -> Result<Why, StepFault>
-        requires live { self.old.live ≡ true }
         requires empty { out.old.list ≡ [] }
         requires sender { from ≡ role Kind.Leader from.index }
         requires round { IsTrue (field.round.fits round) }

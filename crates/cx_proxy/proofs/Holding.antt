@@ -1,12 +1,9 @@
 -- What a proxy leader holds, step by step.
-use Rattle.std.proofs.Common.{◌≡◌, ℕ, ◌+◌, ◌<◌, ◌≤◌, ◌^◌, ◌==◌, Bool, true, max, List, [], ◌∷◌, All, Some, inl, inr, refl, sym, subst, arith}
-use Rattle.std.specs.Prelude.{nat_le, nat_lt}
-use Rattle.std.proofs.lemmas.Bool.{and_parts, cases_Bool}
-use Rattle.std.proofs.lemmas.Bool.Decides.{nat_tests}
-use Rattle.std.proofs.lemmas.List.Elements.{All-filter, All-head, All-tail, filter_passes}
-use Rattle.cx_base.specs.declared.role.RoleId.{RoleId}
-use Rattle.cx_field.specs.Fields.{mark, in_window}
-use Rattle.cx_model.specs.declared.states.Pending.{Pending}
+use Rattle.cx_role.proofs.Common.{◌≡◌, ℕ, ◌+◌, ◌<◌, ◌≤◌, ◌^◌, ◌==◌, Bool, true, max, List, [], ◌∷◌, All, Some, inl, inr}
+use Rattle.cx_role.proofs.Common.{refl, sym, subst, arith, nat_le, nat_lt, and_parts, cases_Bool, nat_tests, All-filter}
+use Rattle.cx_role.proofs.Common.{All-head, All-tail, RoleId, in_window, Pending}
+use Rattle.std.proofs.lemmas.List.Elements.{filter_passes}
+use Rattle.cx_field.specs.Fields.{mark}
 use Rattle.cx_model.specs.Proxy.{pending_at}
 use Rattle.cx_ring.specs.Ring.{RingState, IsNear, raised}
 use Rattle.cx_ring.proofs.Window.{All-with_value}

@@ -1,9 +1,8 @@
 -- How many receive a value.
-use Rattle.std.proofs.Common.{◌≡◌, ℕ, zero, suc, ◌+◌, ◌-◌, ◌<◌, ◌≤◌, Bool, true, false, ◌==◌, ◌||◌, List, [], ◌∷◌, ◌++◌, filter, map, length, refl, ap, append_assoc, length-append, arith}
-use Rattle.std.proofs.lemmas.Bool.Decides.{nat_tests}
+use Rattle.cx_role.proofs.Common.{◌≡◌, ℕ, zero, suc, ◌+◌, ◌-◌, ◌<◌, ◌≤◌, Bool, true, false, ◌==◌, ◌||◌, List, [], ◌∷◌}
+use Rattle.cx_role.proofs.Common.{◌++◌, filter, map, length, refl, ap, append_assoc, length-append, arith, nat_tests}
+use Rattle.cx_role.proofs.Common.{is_in, numbers, below}
 use Rattle.std.proofs.lemmas.List.{length-map}
-use Rattle.cx_base.specs.Grid.{is_in}
-use Rattle.cx_base.specs.Lists.{numbers, below}
 use Rattle.cx_grid.proofs.Crossing.{numbers_more}
 
 -- one of two tests passes at most as often as both

@@ -1,24 +1,14 @@
 -- The rows of a proxy leader, as its code takes them.
-use Rattle.std.proofs.Common.{◌≡◌, ℕ, ◌≤◌, Bool, true, false, max, if◌then◌else◌, List, [], ◌∷◌, ◌&&◌, not, length, map, Option, None, Some, Result, Ok, Err, IsErr, refl, ap, ◌∙◌, sym, arith}
-use Rattle.std.specs.Prelude.{nat_lt}
-use Rattle.std.proofs.lemmas.Bool.Decides.{nat_tests}
-use Rattle.cx_base.specs.declared.cluster.Cluster.{Cluster}
-use Rattle.cx_base.specs.declared.role.RoleId.{RoleId}
-use Rattle.cx_base.specs.declared.round.Round.{Round}
-use Rattle.cx_base.specs.declared.why.Why.{Why}
-use Rattle.cx_base.specs.declared.why.Why.TheVariants as why
-use Rattle.cx_base.specs.Grid.{is_in}
-use Rattle.cx_base.specs.Round.{is_before, same_round}
+use Rattle.cx_role.proofs.Common.{◌≡◌, ℕ, ◌≤◌, Bool, true, false, max, if◌then◌else◌, List, [], ◌∷◌, ◌&&◌, not, length}
+use Rattle.cx_role.proofs.Common.{map, Option, None, Some, Result, Ok, Err, IsErr, refl, ap, ◌∙◌, sym, arith, nat_lt}
+use Rattle.cx_role.proofs.Common.{nat_tests, Cluster, RoleId, Round, Why, is_in, is_before, same_round, Letter, Record}
+use Rattle.cx_role.proofs.Common.{Pending, Outcome, answered, replied, Running, refused_from, IsReply}
+use Rattle.cx_role.proofs.Common.why
 use Rattle.cx_grid.specs.Quorum.{with_mark}
-use Rattle.cx_msg.specs.Letter.{Letter}
-use Rattle.cx_msg.specs.declared.kept.Record.{Record}
-use Rattle.cx_model.specs.declared.states.Pending.{Pending}
-use Rattle.cx_model.specs.Outcome.{Outcome, answered, replied}
 use Rattle.cx_model.specs.Proxy.{ProxyVolatile, proxy_rules, pending_at, raised_to, phase2a_to, column_for, ask, propose_over, vote_counted, vote_for}
-use Rattle.cx_model.specs.Rules.{Running, refused_from}
 use Rattle.cx_ring.specs.Ring.{RingState, raised}
 use Rattle.cx_ring.proofs.Window.{value_at-from}
-use Rattle.cx_role.specs.Role.{IsReply, takes_no_memory}
+use Rattle.cx_role.specs.Role.{takes_no_memory}
 use Rattle.cx_proxy.specs.Declined.{declined, declined_over, uncounted}
 use Rattle.cx_proxy.specs.Holds.{proxy_view}
 use Rattle.cx_proxy.specs.Rows.{proposed, voted}

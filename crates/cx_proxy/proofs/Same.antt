@@ -1,8 +1,6 @@
 -- The model's words on pending values are the ring's.
-use Rattle.std.proofs.Common.{◌≡◌, ℕ, ◌==◌, true, false, if◌then◌else◌, List, [], ◌∷◌, Option, Some, refl, ap, arith}
-use Rattle.std.proofs.lemmas.Bool.Decides.{nat_tests}
-use Rattle.cx_model.specs.declared.states.Pending.{Pending}
-use Rattle.cx_model.specs.Outcome.{by_test}
+use Rattle.cx_role.proofs.Common.{◌≡◌, ℕ, ◌==◌, true, false, if◌then◌else◌, List, [], ◌∷◌, Option, Some, refl, ap}
+use Rattle.cx_role.proofs.Common.{arith, nat_tests, Pending, by_test}
 use Rattle.cx_model.specs.Proxy.{pending_at, with_pending}
 use Rattle.cx_proxy.specs.Slots.{slot_of}
 use Rattle.cx_ring.specs.Ring.{value_at, with_value}

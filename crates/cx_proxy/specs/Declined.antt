@@ -1,11 +1,8 @@
 -- Why a proxy leader does not ask for a value, and does not count a vote.
-use Rattle.std.specs.Prelude.{ℕ, ◌&&◌, not, nat_lt, max, if◌then◌else◌, Option, None, Some}
-use Rattle.cx_base.specs.declared.why.Why.{Why}
+use Rattle.std.specs.Prelude.{◌&&◌, if◌then◌else◌}
+use Rattle.cx_role.specs.Prelude.{ℕ, not, nat_lt, max, Option, None, Some, Why, Round, is_in}
+use Rattle.cx_role.specs.Prelude.{is_before, same_round, Pending}
 use Rattle.cx_base.specs.declared.why.Why.TheVariants.{Done, Old, Past, Same, Unasked}
-use Rattle.cx_base.specs.declared.round.Round.{Round}
-use Rattle.cx_base.specs.Grid.{is_in}
-use Rattle.cx_base.specs.Round.{is_before, same_round}
-use Rattle.cx_model.specs.declared.states.Pending.{Pending}
 use Rattle.cx_model.specs.Proxy.{pending_at}
 use Rattle.cx_ring.specs.Ring.{RingState}
 

@@ -1,6 +1,5 @@
 -- At which slot a value is pending, and a ring with one value more.
-use Rattle.std.specs.Prelude.{ℕ}
-use Rattle.cx_model.specs.declared.states.Pending.{Pending}
+use Rattle.cx_role.specs.Prelude.{ℕ, Pending}
 use Rattle.cx_model.specs.Proxy.{with_pending}
 use Rattle.cx_ring.specs.Ring.{RingState}
 

@@ -1,8 +1,7 @@
 //! The ring of pending values, at most one a slot.
 
-ghost use Rattle.std.specs.Prelude.{◌≡◌, ◌+◌, ◌<◌, ◌≤◌, true, None, Some};
-ghost use Rattle.std.specs.Option.{option_copied};
-ghost use Rattle.cx_model.specs.declared.states.Pending.{Pending};
+ghost use Rattle.std.specs.Prelude.{◌≡◌, ◌+◌, ◌<◌, ◌≤◌};
+ghost use Rattle.cx_role.specs.Prelude.{true, None, Some, option_copied, Pending};
 ghost use Rattle.cx_model.specs.Proxy.{pending_at};
 ghost use Rattle.cx_proxy.specs.Declined.{declined, uncounted};
 ghost use Rattle.cx_proxy.specs.Slots.{ring_with, slot_of};

@@ -1,10 +1,9 @@
 //! The proxy leader.
 
-ghost use Rattle.std.specs.Prelude.{◌≡◌, ◌<◌, []};
-ghost use Rattle.cx_base.specs.declared.role.Kind.TheVariants as kind;
+ghost use Rattle.std.specs.Prelude.{◌≡◌, ◌<◌};
+ghost use Rattle.cx_role.specs.Prelude.{[], opened, IsReply};
+ghost use Rattle.cx_role.specs.Prelude.kind;
 ghost use Rattle.cx_model.specs.Proxy.{ProxyVolatile, proxy_rules};
-ghost use Rattle.cx_model.specs.Rules.{opened};
-ghost use Rattle.cx_role.specs.Role.{IsReply};
 ghost use Rattle.cx_proxy.specs.Holds.{IsPending};
 ghost use Rattle.cx_proxy.specs.Rows.{proposed, voted};
 
@@ -31,7 +30,7 @@ pub struct Proxy {
 }
 
 impl Model for Proxy {
-    ghost use Rattle.cx_model.specs.Rules.{Running};
+    ghost use Rattle.cx_role.specs.Prelude.{Running};
     ghost use Rattle.cx_model.specs.Proxy.{ProxyVolatile};
     ghost use Rattle.cx_proxy.specs.Holds.{Holds, proxy_view};
 

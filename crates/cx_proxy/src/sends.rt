@@ -1,9 +1,9 @@
 //! What a proxy leader sends for a pending value: a value goes to several receivers, each of which gets its own copy.
 
-ghost use Rattle.std.specs.Prelude.{◌≡◌, ◌<◌, ◌≤◌, ◌+◌, ◌*◌, ◌%◌, ◌++◌, ◌∷◌, [], length, map, OnErr, OnOk, All};
-ghost use Rattle.cx_base.specs.declared.role.Kind.TheVariants as kind;
-ghost use Rattle.cx_base.specs.Lists.{numbers};
-ghost use Rattle.cx_model.specs.declared.states.Pending.{Pending};
+ghost use Rattle.std.specs.Prelude.{◌≡◌, ◌<◌, ◌≤◌, ◌+◌, ◌*◌, ◌%◌, ◌++◌, ◌∷◌};
+ghost use Rattle.cx_role.specs.Prelude.{[], length, map, OnErr, OnOk, All};
+ghost use Rattle.cx_role.specs.Prelude.{numbers, Pending};
+ghost use Rattle.cx_role.specs.Prelude.kind;
 ghost use Rattle.cx_model.specs.Proxy.{phase2a_to, column_for, members_for, announcement};
 ghost use Rattle.cx_model.specs.Proxy.{again_for, again_at, pending_at};
 ghost use Rattle.cx_proxy.specs.Holds.{IsPending};

@@ -1,17 +1,8 @@
 -- Which acceptors were counted, and the rows that they make.
-use Rattle.std.proofs.Common.{◌≡◌, ℕ, ◌==◌, Bool, ◌&&◌, ◌||◌, false, List, [], ◌∷◌, ◌++◌, refl, ap, sym, ◌∙◌, arith}
-use Rattle.std.specs.Prelude.{nat_lt}
-use Rattle.std.specs.List.{list_all, list_any}
-use Rattle.std.proofs.lemmas.List.Folds.{list_any-append}
-use Rattle.std.proofs.lemmas.Bool.{eqb-true}
-use Rattle.std.proofs.lemmas.Bool.Decides.{nat_tests}
-use Rattle.cx_base.specs.Grid.{is_in}
-use Rattle.cx_base.specs.Lists.{below}
+use Rattle.cx_role.proofs.Common.{◌≡◌, ℕ, ◌==◌, Bool, ◌&&◌, ◌||◌, false, List, [], ◌∷◌, ◌++◌, refl, ap, sym, ◌∙◌, arith}
+use Rattle.cx_role.proofs.Common.{nat_lt, list_all, list_any, list_any-append, eqb-true, nat_tests, is_in, below, Entry}
+use Rattle.cx_role.proofs.Common.{Acked, rows_whole, by_test}
 use Rattle.cx_grid.specs.Quorum.{row_of, with_mark}
-use Rattle.cx_field.specs.declared.parts.Entry.{Entry}
-use Rattle.cx_model.specs.declared.states.Acked.{Acked}
-use Rattle.cx_model.specs.Matched.{rows_whole}
-use Rattle.cx_model.specs.Outcome.{by_test}
 use Rattle.cx_model.specs.Reader.{acked_by, has_acked}
 
 -- whole rows depend on which acceptors were counted alone

@@ -1,10 +1,9 @@
 -- The map of reads, seen as their list.
-use Rattle.std.proofs.Common.{◌≡◌, Bool, true, ◌==◌, ◌&&◌, not, List, [], ◌∷◌, Option, None, Some, if◌then◌else◌, refl, sym, ap, cond}
+use Rattle.cx_role.proofs.Common.{◌≡◌, Bool, true, ◌==◌, ◌&&◌, not, List, [], ◌∷◌, Option, None, Some, if◌then◌else◌}
+use Rattle.cx_role.proofs.Common.{refl, sym, ap, cond, and_parts, eqb-true, Token, by_test}
 use Rattle.std.specs.Map.{lookup}
-use Rattle.std.proofs.lemmas.Bool.{and_parts, cond_both, eqb-true, not-false, not-true}
+use Rattle.std.proofs.lemmas.Bool.{cond_both, not-false, not-true}
 use Rattle.indexmap.specs.IndexMap.{insert_entry, shift_remove_entry}
-use Rattle.cx_field.specs.declared.parts.Token.{Token}
-use Rattle.cx_model.specs.Outcome.{by_test}
 use Rattle.cx_model.specs.Reader.{Reading, reading_of, with_reading, without_reading}
 use Rattle.cx_model.specs.Request.{same_read}
 use Rattle.cx_reader.specs.declared.reads.Id.{Id}

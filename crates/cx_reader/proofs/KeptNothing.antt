@@ -1,21 +1,10 @@
 -- A reader keeps no record, whatever an acceptor answers.
-use Rattle.std.proofs.Common.{◌≡◌, ℕ, ◌&&◌, not, ◌++◌, ◌∷◌, [], Option, None, Some, refl, sym, subst}
-use Rattle.cx_base.specs.declared.cluster.Cluster.{Cluster}
-use Rattle.cx_base.specs.declared.role.RoleId.{RoleId}
-use Rattle.cx_base.specs.declared.round.Round.{Round}
-use Rattle.cx_base.specs.Role.{same_role}
-use Rattle.cx_base.specs.Round.{same_round}
-use Rattle.cx_field.specs.declared.parts.Token.{Token}
-use Rattle.cx_msg.specs.Letter.{Letter}
-use Rattle.cx_msg.specs.declared.input.Input.TheVariants.{Take}
-use Rattle.cx_msg.specs.declared.kept.Record.{Record}
-use Rattle.cx_msg.specs.declared.message.Msg.TheVariants as msg
-use Rattle.cx_model.specs.Matched.{greatest_watermark, live_entries, is_member_of, rows_whole}
-use Rattle.cx_model.specs.Names.{names}
-use Rattle.cx_model.specs.Outcome.{Outcome, either_way}
+use Rattle.cx_role.proofs.Common.{◌≡◌, ℕ, ◌&&◌, not, ◌++◌, ◌∷◌, [], Option, None, Some, refl, sym, subst, Cluster}
+use Rattle.cx_role.proofs.Common.{RoleId, Round, same_role, same_round, Token, Letter, Take, Record, greatest_watermark}
+use Rattle.cx_role.proofs.Common.{live_entries, is_member_of, rows_whole, names, Outcome, either_way, IsFit, Running}
+use Rattle.cx_role.proofs.Common.{outcome_of, MayKeep}
+use Rattle.cx_role.proofs.Common.msg
 use Rattle.cx_model.specs.Reader.{Reading, ReaderVolatile, acked_by, has_acked, is_matched, pre_read_ack_row, reader_rules, reading_of}
-use Rattle.cx_model.specs.Rules.{IsFit, Running, outcome_of}
-use Rattle.cx_role.specs.Role.{MayKeep}
 
 abbrev KeepsNothing : Outcome ReaderVolatile → Type 0
 KeepsNothing row = row.kept ≡ None

@@ -1,15 +1,8 @@
 -- What is so of the live entries, answer by answer.
-use Rattle.std.specs.Prelude.{◌≡◌, ℕ, Bool, true, ◌&&◌, ◌||◌, List, [], ◌∷◌, filter, refl}
-use Rattle.std.specs.List.{list_any}
-use Rattle.std.proofs.Common.{ap, ◌∙◌, sym}
-use Rattle.std.proofs.lemmas.List.Folds.{list_any-append}
-use Rattle.cx_base.specs.declared.round.Round.{Round}
-use Rattle.cx_base.specs.Grid.{is_in}
-use Rattle.cx_field.specs.declared.parts.Entry.{Entry}
-use Rattle.cx_model.specs.declared.states.MatchAnswer.{MatchAnswer}
-use Rattle.cx_model.specs.Matched.{entries_told, is_member_of}
+use Rattle.cx_role.proofs.Common.{◌≡◌, ℕ, Bool, true, ◌&&◌, ◌||◌, List, [], ◌∷◌, filter, refl, list_any, ap, ◌∙◌, sym}
+use Rattle.cx_role.proofs.Common.{list_any-append, Round, is_in, Entry, MatchAnswer, entries_told, is_member_of}
+use Rattle.cx_role.proofs.Common.{by_test}
 use Rattle.cx_model.specs.Matchmaker.{entries_from}
-use Rattle.cx_model.specs.Outcome.{by_test}
 use Rattle.cx_reader.specs.Live.{is_live, some_live, some_live_with}
 
 any-filter : {A : Type 0} (p q : A → Bool) (xs : List A) → list_any p (filter q xs) ≡ list_any (λ x. q x && p x) xs

@@ -1,13 +1,7 @@
 -- How a reader is opened.
-use Rattle.std.proofs.Common.{◌≡◌, ◌≤◌, List, [], ◌∷◌, length, Some, refl, ap, sym, arith}
-use Rattle.cx_base.specs.declared.cluster.Cluster.{Cluster}
-use Rattle.cx_base.specs.declared.role.Kind.{Kind}
-use Rattle.cx_base.specs.declared.role.Kind.TheVariants.{Reader}
-use Rattle.cx_base.specs.declared.role.RoleId.{RoleId}
-use Rattle.cx_base.specs.Role.{role}
-use Rattle.cx_msg.specs.declared.kept.Record.{Record}
+use Rattle.cx_role.proofs.Common.{◌≡◌, ◌≤◌, List, [], ◌∷◌, length, Some, refl, ap, sym, arith, Cluster, Kind, Reader}
+use Rattle.cx_role.proofs.Common.{RoleId, role, Record, refused_from}
 use Rattle.cx_model.specs.Reader.{reader_rules}
-use Rattle.cx_model.specs.Rules.{refused_from}
 
 -- a role of a reader's kind is the reader of its index
 pub reader_itself : (me : RoleId) → me.kind ≡ Reader → role Reader me.index ≡ me

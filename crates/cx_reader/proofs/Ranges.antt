@@ -1,17 +1,9 @@
 -- The ranges of what a read sends.
-use Rattle.std.proofs.Common.{◌≡◌, ℕ, ◌<◌, true, max, List, [], ◌∷◌, ◌++◌, refl, arith}
-use Rattle.std.specs.Prelude.{nat_lt}
-use Rattle.std.proofs.lemmas.Bool.{and_parts, lt-ltb}
-use Rattle.std.proofs.lemmas.Bool.Decides.{nat_tests}
-use Rattle.std.proofs.lemmas.List.Folds.{list_all-append}
-use Rattle.cx_base.specs.declared.round.Round.{Round}
-use Rattle.cx_base.specs.Round.{is_before, no_round}
+use Rattle.cx_role.proofs.Common.{◌≡◌, ℕ, ◌<◌, true, max, List, [], ◌∷◌, ◌++◌, refl, arith, nat_lt, and_parts, lt-ltb}
+use Rattle.cx_role.proofs.Common.{nat_tests, list_all-append, Round, is_before, no_round, Acked, MatchAnswer}
+use Rattle.cx_role.proofs.Common.{greatest_watermark, either_way}
 use Rattle.cx_wire.specs.Format.{u16, u32, u64}
 use Rattle.cx_field.specs.Fields.{mark, round0}
-use Rattle.cx_model.specs.declared.states.Acked.{Acked}
-use Rattle.cx_model.specs.declared.states.MatchAnswer.{MatchAnswer}
-use Rattle.cx_model.specs.Matched.{greatest_watermark}
-use Rattle.cx_model.specs.Outcome.{either_way}
 use Rattle.cx_model.specs.Reader.{greatest_mark}
 use Rattle.cx_reader.specs.InProgress.{are_told, is_ack, are_acks}
 

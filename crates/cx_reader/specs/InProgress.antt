@@ -1,11 +1,7 @@
 -- What is so of every read in progress.
-use Rattle.std.specs.Prelude.{◌≡◌, ℕ, ◌&&◌, nat_lt, Bool, List, IsTrue}
-use Rattle.std.specs.List.{list_all}
-use Rattle.cx_base.specs.Grid.{is_in}
+use Rattle.std.specs.Prelude.{◌≡◌, ◌&&◌}
+use Rattle.cx_role.specs.Prelude.{ℕ, nat_lt, Bool, List, IsTrue, list_all, is_in, Token, Acked, MatchAnswer}
 use Rattle.cx_field.specs.Fields.{mark, round0, token}
-use Rattle.cx_field.specs.declared.parts.Token.{Token}
-use Rattle.cx_model.specs.declared.states.Acked.{Acked}
-use Rattle.cx_model.specs.declared.states.MatchAnswer.{MatchAnswer}
 use Rattle.cx_model.specs.Reader.{has_acked}
 
 -- whether the watermarks of matchmakers' answers are in their range

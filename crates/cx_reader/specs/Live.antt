@@ -1,10 +1,6 @@
 -- Which of the entries that were reported are live.
-use Rattle.std.specs.Prelude.{ℕ, Bool, not, ◌&&◌, List}
-use Rattle.std.specs.List.{list_any}
-use Rattle.cx_base.specs.declared.round.Round.{Round}
-use Rattle.cx_base.specs.Grid.{is_in}
-use Rattle.cx_base.specs.Round.{is_before}
-use Rattle.cx_field.specs.declared.parts.Entry.{Entry}
+use Rattle.std.specs.Prelude.{◌&&◌}
+use Rattle.cx_role.specs.Prelude.{ℕ, Bool, not, List, list_any, Round, is_in, is_before, Entry}
 
 -- whether an entry isn't retired
 abbrev pub is_live : Round → Entry → Bool

@@ -1,6 +1,6 @@
 -- The reads in progress, each under its token.
-use Rattle.std.specs.Prelude.{◌≡◌, map, List, [], ◌∷◌}
-use Rattle.cx_field.specs.declared.parts.Token.{Token}
+use Rattle.std.specs.Prelude.{◌≡◌, ◌∷◌}
+use Rattle.cx_role.specs.Prelude.{map, List, [], Token}
 use Rattle.cx_model.specs.Reader.{Reading}
 use Rattle.cx_reader.specs.declared.reads.Id.{Id}
 

@@ -1,12 +1,10 @@
 //! What the matchmakers answered (JSys 2021): the greatest watermark, and the grids that are not retired.
 
-ghost use Rattle.std.specs.Prelude.{◌≡◌, true};
-ghost use Rattle.std.specs.List.{list_any};
-ghost use Rattle.cx_model.specs.declared.states.MatchAnswer.{MatchAnswer as AnswerOf};
-ghost use Rattle.cx_model.specs.Matched.{later_round, is_counted, greatest_watermark, entries_told};
-ghost use Rattle.cx_model.specs.Matched.{live_entries, is_member_of, rows_whole};
+ghost use Rattle.std.specs.Prelude.{◌≡◌};
+ghost use Rattle.cx_role.specs.Prelude.{true, list_any, MatchAnswer as AnswerOf, later_round, is_counted};
+ghost use Rattle.cx_role.specs.Prelude.{greatest_watermark, entries_told, live_entries, is_member_of, rows_whole};
+ghost use Rattle.cx_role.specs.Prelude.{Entry as EntryOf};
 ghost use Rattle.cx_model.specs.Matchmaker.{entries_from};
-ghost use Rattle.cx_field.specs.declared.parts.Entry.{Entry as EntryOf};
 ghost use Rattle.cx_reader.specs.Live.{is_live, some_live, some_live_with};
 
 use cx_base::Round;

@@ -1,10 +1,9 @@
 //! The reader.
 
-ghost use Rattle.std.specs.Prelude.{◌≡◌, [], IsTrue};
-ghost use Rattle.cx_base.specs.Role.{role};
-ghost use Rattle.cx_base.specs.declared.role.Kind.TheVariants as kind;
+ghost use Rattle.std.specs.Prelude.{◌≡◌};
+ghost use Rattle.cx_role.specs.Prelude.{[], IsTrue, role, opened};
+ghost use Rattle.cx_role.specs.Prelude.kind;
 ghost use Rattle.cx_model.specs.Reader.{ReaderVolatile, reader_rules, token};
-ghost use Rattle.cx_model.specs.Rules.{opened};
 ghost use Rattle.cx_field.specs.Fields as field;
 
 use crate::reading::Reading;
@@ -29,9 +28,8 @@ pub struct Reader {
 }
 
 impl Model for Reader {
-    ghost use Rattle.cx_base.specs.Role.{role};
-    ghost use Rattle.cx_base.specs.declared.role.Kind.TheVariants as kind;
-    ghost use Rattle.cx_model.specs.Rules.{Running};
+    ghost use Rattle.cx_role.specs.Prelude.{role, Running};
+    ghost use Rattle.cx_role.specs.Prelude.kind;
     ghost use Rattle.cx_model.specs.Reader.{ReaderVolatile};
 
     ghost Value = { Running (Unit {0}) ReaderVolatile };

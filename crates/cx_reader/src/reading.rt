@@ -1,14 +1,11 @@
 //! One read in progress.
 
-ghost use Rattle.std.specs.Prelude.{◌≡◌, ◌≤◌, ◌<◌, ◌++◌, ◌∷◌, [], map, true, IsTrue, IfOk};
-ghost use Rattle.std.specs.List.{list_any};
-ghost use Rattle.cx_base.specs.Role.{role};
-ghost use Rattle.cx_base.specs.declared.role.Kind.{Kind as KindOf};
-ghost use Rattle.cx_model.specs.Matched.{greatest_watermark, is_counted, is_member_of, live_entries};
-ghost use Rattle.cx_model.specs.Matched.{members_of, rows_whole};
+ghost use Rattle.std.specs.Prelude.{◌≡◌, ◌≤◌, ◌<◌, ◌++◌, ◌∷◌};
+ghost use Rattle.cx_role.specs.Prelude.{[], map, true, IsTrue, IfOk, list_any, role};
+ghost use Rattle.cx_role.specs.Prelude.{Kind as KindOf, greatest_watermark, is_counted, is_member_of, live_entries};
+ghost use Rattle.cx_role.specs.Prelude.{members_of, rows_whole, Entry};
 ghost use Rattle.cx_model.specs.Reader.{acked_by, greatest_mark, has_acked, is_matched, pre_read_to, read_to, reading};
 ghost use Rattle.cx_field.specs.Fields as field;
-ghost use Rattle.cx_field.specs.declared.parts.Entry.{Entry};
 
 use crate::matched;
 use cx_base::{Cluster, Duplicate, Key, Kind, NoMemory, Round};

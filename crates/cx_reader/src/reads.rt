@@ -1,7 +1,7 @@
 //! The reads in progress.
 
-ghost use Rattle.std.specs.Prelude.{◌≡◌, [], length, OnOk, OnErr};
-ghost use Rattle.std.specs.Option.{option_copied};
+ghost use Rattle.std.specs.Prelude.{◌≡◌};
+ghost use Rattle.cx_role.specs.Prelude.{[], length, OnOk, OnErr, option_copied};
 ghost use Rattle.cx_model.specs.Reader.{reading_of, with_reading, without_reading};
 ghost use Rattle.cx_reader.specs.Reads.{id_of};
 
@@ -35,7 +35,7 @@ pub struct Reads {
 }
 
 impl Model for Reads {
-    ghost use Rattle.std.specs.Prelude.{List};
+    ghost use Rattle.cx_role.specs.Prelude.{List};
     ghost use Rattle.cx_model.specs.Reader.{Reading as InProgress};
     ghost use Rattle.cx_reader.specs.Reads.{reads_of, AreNamed};
 

@@ -1,16 +1,13 @@
 //! What a reader does with what it is asked and answered. Memory is taken first, so that running out of it leaves
 //! everything as it was.
 
-ghost use Rattle.std.specs.Prelude.{◌≡◌, ◌≤◌, ◌<◌, ◌+◌, ◌*◌, ◌++◌, [], map, IsTrue};
-ghost use Rattle.cx_base.specs.Lists.{below};
-ghost use Rattle.cx_base.specs.Role.{role};
-ghost use Rattle.cx_base.specs.declared.role.Kind.{Kind as KindOf};
-ghost use Rattle.cx_model.specs.Matched.{live_entries};
+ghost use Rattle.std.specs.Prelude.{◌≡◌, ◌≤◌, ◌<◌, ◌+◌, ◌*◌, ◌++◌};
+ghost use Rattle.cx_role.specs.Prelude.{[], map, IsTrue, below, role, Kind as KindOf};
+ghost use Rattle.cx_role.specs.Prelude.{live_entries, IsReply};
 ghost use Rattle.cx_model.specs.Reader.{match_ack_counted, match_ack_row, match_read_to, pre_read_ack_row};
 ghost use Rattle.cx_model.specs.Reader.{pre_read_counted, read_matched, read_req_row, reader_rules, reading_of};
 ghost use Rattle.cx_model.specs.Reader.{send_read};
 ghost use Rattle.cx_field.specs.Fields as field;
-ghost use Rattle.cx_role.specs.Role.{IsReply};
 
 use crate::reader::Reader;
 use crate::reading::Reading;

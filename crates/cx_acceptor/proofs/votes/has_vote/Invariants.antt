@@ -1,4 +1,4 @@
-use Rattle.std.proofs.Common.{◌≡◌, drop}
+use Rattle.cx_role.proofs.Common.{◌≡◌, drop}
 use Rattle.cx_model.specs.Acceptor.{is_of, vote_at}
 use Rattle.cx_acceptor.proofs.votes.has_vote.Given as goal
 

@@ -1,4 +1,4 @@
-use Rattle.std.proofs.Common.{◌≡◌, length, arith, ◌∙◌, sym}
+use Rattle.cx_role.proofs.Common.{◌≡◌, length, arith, ◌∙◌, sym}
 use Rattle.std.proofs.lemmas.Bool.{eq-eqb, ne_eqb}
 use Rattle.cx_acceptor.proofs.VoteLaws.{first_within, is_first_from, with_set, with_insert}
 use Rattle.cx_acceptor.proofs.votes.place.Goals as goal

@@ -1,6 +1,4 @@
-use Rattle.std.proofs.Common.{◌≡◌, ◌≤◌, ◌+◌, ◌++◌, true, map, drop, length}
-use Rattle.std.specs.List.{list_all}
-use Rattle.cx_base.specs.declared.command.Answered.{Answered}
+use Rattle.cx_role.proofs.Common.{◌≡◌, ◌≤◌, ◌+◌, ◌++◌, true, map, drop, length, list_all, Answered}
 use Rattle.cx_model.specs.Unbatcher.{answer_to}
 use Rattle.cx_field.specs.Fields.{answered}
 use Rattle.cx_batch.proofs.unbatcher.answer_all.Given as goal

@@ -1,4 +1,4 @@
-use Rattle.std.proofs.Common.{length}
+use Rattle.cx_role.proofs.Common.{length}
 use Rattle.cx_leader.proofs.entries.+watermark.Given as goal
 
 abbrev pub decreases-watermark : goal.decreases-watermark

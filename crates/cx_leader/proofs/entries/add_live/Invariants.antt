@@ -1,4 +1,4 @@
-use Rattle.std.proofs.Common.{◌≡◌, ◌++◌, drop}
+use Rattle.cx_role.proofs.Common.{◌≡◌, ◌++◌, drop}
 use Rattle.cx_model.specs.Matchmaker.{entries_from}
 use Rattle.cx_leader.proofs.entries.add_live.Given as goal
 

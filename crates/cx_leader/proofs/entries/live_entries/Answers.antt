@@ -1,7 +1,5 @@
-use Rattle.std.proofs.Common.{List, ◌++◌, ◌∷◌, [], sym, ap, ◌∙◌}
+use Rattle.cx_role.proofs.Common.{List, ◌++◌, ◌∷◌, [], sym, ap, ◌∙◌, MatchAnswer, entries_told}
 use Rattle.std.proofs.lemmas.List.{append-nil}
-use Rattle.cx_model.specs.declared.states.MatchAnswer.{MatchAnswer}
-use Rattle.cx_model.specs.Matched.{entries_told}
 use Rattle.cx_model.specs.Matchmaker.{entries_from}
 use Rattle.cx_phase1.proofs.Walks.{carried_out}
 use Rattle.cx_leader.proofs.MatchLaws.{entries_from-push}

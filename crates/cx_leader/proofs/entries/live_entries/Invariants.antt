@@ -1,5 +1,4 @@
-use Rattle.std.proofs.Common.{◌≡◌, ◌++◌, drop}
-use Rattle.cx_model.specs.Matched.{entries_told}
+use Rattle.cx_role.proofs.Common.{◌≡◌, ◌++◌, drop, entries_told}
 use Rattle.cx_model.specs.Matchmaker.{entries_from}
 use Rattle.cx_leader.proofs.entries.live_entries.Given as goal
 

@@ -1,5 +1,4 @@
-use Rattle.std.proofs.Common.{◌≡◌, drop}
-use Rattle.std.specs.Prelude.{max, nat_le, filter}
+use Rattle.cx_role.proofs.Common.{◌≡◌, drop, max, nat_le, filter}
 use Rattle.cx_model.specs.Leader.{reaching, greatest_of, held_by}
 use Rattle.cx_leader.proofs.holding.held_by.Given as goal
 

@@ -1,8 +1,5 @@
-use Rattle.std.proofs.Common.{ap, arith, sym, ◌∙◌}
-use Rattle.std.proofs.lemmas.Bool.{and_parts, and_from}
+use Rattle.cx_role.proofs.Common.{ap, arith, sym, ◌∙◌, and_parts, and_from, all_fit, ◌==◌}
 use Rattle.std.proofs.lemmas.Grind.{common_steps}
-use Rattle.cx_keeper.specs.Keeper.{all_fit}
-use Rattle.std.specs.Prelude.{◌==◌}
 use Rattle.cx_field.specs.Fields as field
 use Rattle.cx_msg.specs.Records.{kept_record}
 use Rattle.cx_phase1.proofs.Walks.{next_left}

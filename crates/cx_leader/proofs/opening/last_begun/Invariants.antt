@@ -1,8 +1,5 @@
-use Rattle.std.proofs.Common.{◌≡◌, drop}
-use Rattle.std.specs.Prelude.{IsTrue}
-use Rattle.cx_keeper.specs.Keeper.{all_fit}
+use Rattle.cx_role.proofs.Common.{◌≡◌, drop, IsTrue, all_fit, folded_from, refused_from}
 use Rattle.cx_model.specs.Leader.{leader_rules}
-use Rattle.cx_model.specs.Rules.{folded_from, refused_from}
 use Rattle.cx_leader.specs.State.{own_fits}
 use Rattle.cx_leader.proofs.opening.last_begun.Given as goal
 

@@ -1,5 +1,4 @@
-use Rattle.std.proofs.Common.{◌≡◌, ◌-◌, ◌++◌, map}
-use Rattle.cx_base.specs.Lists.{numbers, below}
+use Rattle.cx_role.proofs.Common.{◌≡◌, ◌-◌, ◌++◌, map, numbers, below}
 use Rattle.cx_leader.proofs.opening.none_held.Given as goal
 
 abbrev pub invariant-loop : goal.invariant-loop

@@ -1,6 +1,4 @@
-use Rattle.std.proofs.Common.{◌≡◌, ◌+◌, ◌++◌, true, drop, map}
-use Rattle.cx_base.specs.declared.command.Placed.{Placed}
-use Rattle.cx_base.specs.Lists.{numbers}
+use Rattle.cx_role.proofs.Common.{◌≡◌, ◌+◌, ◌++◌, true, drop, map, Placed, numbers}
 use Rattle.cx_model.specs.Plan.{placed_from}
 use Rattle.cx_leader.proofs.proposals.placed.Given as goal
 

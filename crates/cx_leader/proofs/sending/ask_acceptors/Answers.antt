@@ -1,9 +1,6 @@
-use Rattle.std.proofs.Common.{ℕ, arith, sym, ◌∙◌}
-use Rattle.cx_base.specs.Role.{role}
-use Rattle.cx_base.specs.declared.role.Kind.TheVariants.{Leader}
+use Rattle.cx_role.proofs.Common.{ℕ, arith, sym, ◌∙◌, role, Leader, is_member_of}
 use Rattle.cx_model.specs.Leader.{phase1a_to}
-use Rattle.cx_model.specs.Matched.{is_member_of}
-use Rattle.cx_leader.proofs.Sends.{sent_on_passed, sent_on_failed}
+use Rattle.cx_role.proofs.Sends.{sent_on_passed, sent_on_failed}
 use Rattle.cx_leader.proofs.sending.ask_acceptors.Goals as goal
 use Rattle.cx_leader.proofs.sending.ask_acceptors.Goals.{then-asks, else-asks}
 
@@ -15,11 +12,13 @@ loop-acceptor-preserved c =
     let n = c.args.cluster.now.acceptors in
     elim c.if-asks.branch [
       | then-asks w ↦ record {
-        list = rw (w.out-is, w.push.ensures.list, w.phase1a.ensures) (sent_on_passed asked send loop.out.list _ loop.acceptor n c.loop-acceptor-test.true (sym c.asks.ensures ∙ w.if-asks.true) loop.invariant.list);
+        list = rw (w.out-is, w.push.ensures.list, w.phase1a.ensures)
+            (sent_on_passed send loop.out.list _ loop.acceptor n c.loop-acceptor-test.true asked (sym c.asks.ensures ∙ w.if-asks.true) loop.invariant.list);
         spare = rw w.out-is (omega arith);
       }
       | else-asks w ↦ record {
-        list = rw w.out-is (sent_on_failed asked send loop.out.list _ loop.acceptor n c.loop-acceptor-test.true (sym c.asks.ensures ∙ w.if-asks.false) loop.invariant.list);
+        list = rw w.out-is
+            (sent_on_failed send loop.out.list _ loop.acceptor n c.loop-acceptor-test.true asked (sym c.asks.ensures ∙ w.if-asks.false) loop.invariant.list);
         spare = rw w.out-is (omega arith);
       }
     ]

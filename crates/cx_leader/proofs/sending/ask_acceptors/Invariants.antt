@@ -1,9 +1,6 @@
-use Rattle.std.proofs.Common.{◌≡◌, ◌≤◌, ◌+◌, ◌-◌, ◌++◌, map, filter}
-use Rattle.cx_base.specs.Lists.{numbers}
-use Rattle.cx_base.specs.Role.{role}
-use Rattle.cx_base.specs.declared.role.Kind.TheVariants.{Leader}
+use Rattle.cx_role.proofs.Common.{◌≡◌, ◌≤◌, ◌+◌, ◌-◌, ◌++◌, map, filter, numbers, role, Leader, is_member_of}
+use Rattle.cx_role.proofs.Common.{members_of}
 use Rattle.cx_model.specs.Leader.{phase1a_to}
-use Rattle.cx_model.specs.Matched.{is_member_of, members_of}
 use Rattle.cx_leader.proofs.sending.ask_acceptors.Given as goal
 
 abbrev pub invariant-loop-acceptor : goal.invariant-loop-acceptor

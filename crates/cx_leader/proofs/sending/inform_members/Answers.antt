@@ -1,9 +1,6 @@
-use Rattle.std.proofs.Common.{ℕ, arith, sym, ◌∙◌}
-use Rattle.cx_base.specs.Role.{role}
-use Rattle.cx_base.specs.declared.role.Kind.TheVariants.{Leader}
+use Rattle.cx_role.proofs.Common.{ℕ, arith, sym, ◌∙◌, role, Leader, is_in}
 use Rattle.cx_model.specs.Leader.{inform_to}
-use Rattle.cx_base.specs.Grid.{is_in}
-use Rattle.cx_leader.proofs.Sends.{sent_on_passed, sent_on_failed}
+use Rattle.cx_role.proofs.Sends.{sent_on_passed, sent_on_failed}
 use Rattle.cx_leader.proofs.sending.inform_members.Goals as goal
 use Rattle.cx_leader.proofs.sending.inform_members.Goals.{then-is_member, else-is_member}
 
@@ -15,11 +12,13 @@ loop-acceptor-preserved c =
     let n = c.args.cluster.now.acceptors in
     elim c.if-is_member.branch [
       | then-is_member w ↦ record {
-        list = rw (w.out-is, w.push.ensures.list, w.inform.ensures) (sent_on_passed asked send loop.out.list _ loop.acceptor n c.loop-acceptor-test.true (sym c.is_member.ensures ∙ w.if-is_member.true) loop.invariant.list);
+        list = rw (w.out-is, w.push.ensures.list, w.inform.ensures)
+            (sent_on_passed send loop.out.list _ loop.acceptor n c.loop-acceptor-test.true asked (sym c.is_member.ensures ∙ w.if-is_member.true) loop.invariant.list);
         spare = rw w.out-is (omega arith);
       }
       | else-is_member w ↦ record {
-        list = rw w.out-is (sent_on_failed asked send loop.out.list _ loop.acceptor n c.loop-acceptor-test.true (sym c.is_member.ensures ∙ w.if-is_member.false) loop.invariant.list);
+        list = rw w.out-is
+            (sent_on_failed send loop.out.list _ loop.acceptor n c.loop-acceptor-test.true asked (sym c.is_member.ensures ∙ w.if-is_member.false) loop.invariant.list);
         spare = rw w.out-is (omega arith);
       }
     ]

@@ -1,10 +1,5 @@
-use Rattle.std.proofs.Common.{◌≡◌, ◌≤◌, ◌+◌, ◌-◌, ◌++◌, map, filter}
-use Rattle.cx_base.specs.Lists.{numbers}
-use Rattle.cx_base.specs.Role.{role}
-use Rattle.cx_base.specs.declared.role.Kind.TheVariants.{Leader}
+use Rattle.cx_role.proofs.Common.{◌≡◌, ◌≤◌, ◌+◌, ◌-◌, ◌++◌, map, filter, numbers, role, Leader, members_in, is_in}
 use Rattle.cx_model.specs.Leader.{inform_to}
-use Rattle.cx_model.specs.Matched.{members_in}
-use Rattle.cx_base.specs.Grid.{is_in}
 use Rattle.cx_leader.proofs.sending.inform_members.Given as goal
 
 abbrev pub invariant-loop-acceptor : goal.invariant-loop-acceptor

@@ -1,7 +1,4 @@
-use Rattle.std.proofs.Common.{◌≡◌, ◌≤◌, ◌+◌, ◌-◌, ◌++◌, map}
-use Rattle.cx_base.specs.declared.role.Kind.TheVariants.{Leader}
-use Rattle.cx_base.specs.Lists.{numbers}
-use Rattle.cx_base.specs.Role.{role}
+use Rattle.cx_role.proofs.Common.{◌≡◌, ◌≤◌, ◌+◌, ◌-◌, ◌++◌, map, Leader, numbers, role}
 use Rattle.cx_model.specs.Leader.{leads_to}
 use Rattle.cx_leader.proofs.sending.tell_batchers.Given as goal
 

@@ -1,7 +1,4 @@
-use Rattle.std.proofs.Common.{◌≡◌, arith, rules}
-use Rattle.cx_base.specs.Round.{is_before}
-use Rattle.cx_field.specs.declared.parts.Entry.{Entry}
-use Rattle.cx_field.proofs.ListLaws.{entries_filter}
+use Rattle.cx_role.proofs.Common.{◌≡◌, arith, rules, is_before, Entry, entries_filter}
 use Rattle.cx_model.specs.Matchmaker.{entries_before}
 use Rattle.cx_match.proofs.EntryLaws.{at_most_17}
 use Rattle.cx_match.proofs.entries.earlier.Goals as goal

@@ -1,5 +1,4 @@
-use Rattle.std.proofs.Common.{rules}
-use Rattle.std.proofs.lemmas.Fn.{filter_same}
+use Rattle.cx_role.proofs.Common.{rules, filter_same}
 use Rattle.cx_match.proofs.entries.keep_from.Goals as goal
 
 pub returns-clause-items : goal.returns-clause-items

@@ -1,4 +1,4 @@
-use Rattle.std.proofs.Common.{arith, rules}
+use Rattle.cx_role.proofs.Common.{arith, rules}
 use Rattle.cx_match.proofs.EntryLaws.{at_most_17}
 use Rattle.cx_match.proofs.entries.told.Goals as goal
 

@@ -1,5 +1,4 @@
-use Rattle.std.proofs.Common.{◌≡◌, ℕ, List, Option, None, Some, ◌∙◌, sym, ap}
-use Rattle.cx_model.specs.declared.states.Pending.{Pending}
+use Rattle.cx_role.proofs.Common.{◌≡◌, ℕ, List, Option, None, Some, ◌∙◌, sym, ap, Pending}
 use Rattle.cx_model.specs.Proxy.{pending_at}
 use Rattle.cx_proxy.specs.Slots.{ring_with}
 use Rattle.cx_proxy.proofs.Holding.{found_slot}

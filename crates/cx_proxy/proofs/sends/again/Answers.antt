@@ -1,4 +1,4 @@
-use Rattle.std.proofs.Common.{sym}
+use Rattle.cx_role.proofs.Common.{sym}
 use Rattle.cx_proxy.specs.Holds.{IsPending}
 use Rattle.cx_proxy.proofs.Holding.{found_has}
 use Rattle.cx_proxy.proofs.sends.again.Goals as goal

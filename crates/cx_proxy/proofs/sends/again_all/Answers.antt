@@ -1,4 +1,4 @@
-use Rattle.std.proofs.Common.{arith, refl}
+use Rattle.cx_role.proofs.Common.{arith, refl}
 use Rattle.cx_model.specs.Proxy.{again_for, again_at, pending_at}
 use Rattle.cx_proxy.proofs.Receivers.{one_seen}
 use Rattle.cx_proxy.proofs.sends.again_all.Goals as goal

@@ -1,5 +1,4 @@
-use Rattle.std.proofs.Common.{◌≡◌, ◌+◌, ◌-◌, ◌*◌, ◌≤◌, ◌++◌, length}
-use Rattle.cx_base.specs.Lists.{numbers}
+use Rattle.cx_role.proofs.Common.{◌≡◌, ◌+◌, ◌-◌, ◌*◌, ◌≤◌, ◌++◌, length, numbers}
 use Rattle.cx_model.specs.Proxy.{again_at}
 use Rattle.cx_proxy.proofs.sends.again_all.Given as goal
 

@@ -1,4 +1,4 @@
-use Rattle.std.proofs.Common.{◌∷◌, [], arith, ap, length, length-append, map, refl, rules}
+use Rattle.cx_role.proofs.Common.{◌∷◌, [], arith, ap, length, length-append, map, refl, rules}
 use Rattle.cx_model.specs.Proxy.{chosen_to}
 use Rattle.cx_proxy.proofs.Receivers.{one_seen}
 use Rattle.cx_proxy.proofs.sends.announce.Goals as goal

@@ -1,5 +1,4 @@
-use Rattle.std.proofs.Common.{◌≡◌, ◌+◌, ◌-◌, ◌++◌, map, length}
-use Rattle.cx_base.specs.Lists.{numbers, below}
+use Rattle.cx_role.proofs.Common.{◌≡◌, ◌+◌, ◌-◌, ◌++◌, map, length, numbers, below}
 use Rattle.cx_model.specs.Proxy.{chosen_to}
 use Rattle.cx_proxy.proofs.sends.announce.Given as goal
 

@@ -1,7 +1,6 @@
-use Rattle.std.proofs.Common.{◌≡◌, ℕ, ◌++◌, ◌∷◌, [], List, arith, ap, ◌∙◌, sym, length, length-append}
+use Rattle.cx_role.proofs.Common.{◌≡◌, ℕ, ◌++◌, ◌∷◌, [], List, arith, ap, ◌∙◌, sym, length, length-append, Letter}
+use Rattle.cx_role.proofs.Common.{Outgoing}
 use Rattle.cx_model.specs.Proxy.{phase2a_to}
-use Rattle.cx_msg.specs.Letter.{Letter}
-use Rattle.cx_role.specs.Outbox.{Outgoing}
 use Rattle.cx_proxy.proofs.Receivers.{one_asked, one_left}
 use Rattle.cx_proxy.proofs.sends.ask_column.Goals as goal
 use Rattle.cx_proxy.proofs.sends.ask_column.Goals.{then-in_column+in_ok-ask, else-in_column}

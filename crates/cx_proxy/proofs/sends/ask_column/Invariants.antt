@@ -1,6 +1,4 @@
-use Rattle.std.proofs.Common.{◌≡◌, ◌-◌, ◌≤◌, ◌++◌, filter, map, length}
-use Rattle.cx_base.specs.Grid.{is_in}
-use Rattle.cx_base.specs.Lists.{numbers}
+use Rattle.cx_role.proofs.Common.{◌≡◌, ◌-◌, ◌≤◌, ◌++◌, filter, map, length, is_in, numbers}
 use Rattle.cx_grid.specs.Quorum.{column_of}
 use Rattle.cx_model.specs.Proxy.{phase2a_to, column_for}
 use Rattle.cx_proxy.proofs.sends.ask_column.Given as goal

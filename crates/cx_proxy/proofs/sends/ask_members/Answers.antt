@@ -1,7 +1,5 @@
-use Rattle.std.proofs.Common.{◌≡◌, ◌≤◌, ◌++◌, ◌∷◌, [], List, arith, ap, ◌∙◌, sym, length}
+use Rattle.cx_role.proofs.Common.{◌≡◌, ◌≤◌, ◌++◌, ◌∷◌, [], List, arith, ap, ◌∙◌, sym, length, Letter, Outgoing}
 use Rattle.cx_model.specs.Proxy.{phase2a_to}
-use Rattle.cx_msg.specs.Letter.{Letter}
-use Rattle.cx_role.specs.Outbox.{Outgoing}
 use Rattle.cx_proxy.proofs.Receivers.{one_asked, one_left, members_left, members_room}
 use Rattle.cx_proxy.proofs.sends.ask_members.Goals as goal
 use Rattle.cx_proxy.proofs.sends.ask_members.Goals.{then-is_member+in_ok-ask, else-is_member}

@@ -1,6 +1,4 @@
-use Rattle.std.proofs.Common.{◌≡◌, ◌-◌, ◌++◌, filter, map}
-use Rattle.cx_base.specs.Grid.{is_in}
-use Rattle.cx_base.specs.Lists.{numbers}
+use Rattle.cx_role.proofs.Common.{◌≡◌, ◌-◌, ◌++◌, filter, map, is_in, numbers}
 use Rattle.cx_model.specs.Proxy.{phase2a_to, members_for}
 use Rattle.cx_proxy.proofs.sends.ask_members.Given as goal
 

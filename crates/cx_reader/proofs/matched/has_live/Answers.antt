@@ -1,5 +1,4 @@
-use Rattle.std.proofs.Common.{◌∙◌}
-use Rattle.cx_model.specs.Matched.{greatest_watermark}
+use Rattle.cx_role.proofs.Common.{◌∙◌, greatest_watermark}
 use Rattle.cx_reader.proofs.Live.{some_live_told}
 use Rattle.cx_reader.proofs.matched.has_live.Goals as goal
 

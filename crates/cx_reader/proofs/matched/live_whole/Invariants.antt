@@ -1,5 +1,4 @@
-use Rattle.std.proofs.Common.{◌≡◌, drop}
-use Rattle.cx_model.specs.Matched.{rows_whole}
+use Rattle.cx_role.proofs.Common.{◌≡◌, drop, rows_whole}
 use Rattle.cx_model.specs.Matchmaker.{entries_from}
 use Rattle.cx_reader.proofs.matched.live_whole.Given as goal
 

@@ -1,4 +1,4 @@
-use Rattle.std.proofs.Common.{length}
+use Rattle.cx_role.proofs.Common.{length}
 use Rattle.cx_reader.proofs.reading.+greatest_mark.Given as goal
 
 abbrev pub decreases-greatest_mark : goal.decreases-greatest_mark

@@ -1,4 +1,4 @@
-use Rattle.std.proofs.Common.{◌≡◌, take}
+use Rattle.cx_role.proofs.Common.{◌≡◌, take}
 use Rattle.cx_reader.proofs.reading.copied.Given as goal
 
 abbrev pub invariant-loop-answer : goal.invariant-loop-answer

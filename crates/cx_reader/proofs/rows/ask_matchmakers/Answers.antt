@@ -1,4 +1,4 @@
-use Rattle.std.proofs.Common.{append_assoc, arith}
+use Rattle.cx_role.proofs.Common.{append_assoc, arith}
 use Rattle.cx_grid.proofs.Crossing.{numbers_more}
 use Rattle.cx_reader.proofs.rows.ask_matchmakers.Goals as goal
 

@@ -1,7 +1,4 @@
-use Rattle.std.proofs.Common.{◌≡◌, ◌≤◌, ◌+◌, ◌-◌, ◌++◌, map}
-use Rattle.cx_base.specs.declared.role.Kind.TheVariants.{Reader}
-use Rattle.cx_base.specs.Lists.{below, numbers}
-use Rattle.cx_base.specs.Role.{role}
+use Rattle.cx_role.proofs.Common.{◌≡◌, ◌≤◌, ◌+◌, ◌-◌, ◌++◌, map, Reader, below, numbers, role}
 use Rattle.cx_model.specs.Reader.{match_read_to}
 use Rattle.cx_reader.proofs.rows.ask_matchmakers.Given as goal
 

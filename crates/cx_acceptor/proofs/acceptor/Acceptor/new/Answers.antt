@@ -1,6 +1,4 @@
-use Rattle.std.proofs.Common.{ap}
-use Rattle.cx_base.specs.declared.role.Kind.{Kind}
-use Rattle.cx_base.specs.Role.{role}
+use Rattle.cx_role.proofs.Common.{ap, Kind, role}
 use Rattle.cx_acceptor.proofs.SoundLaws.{empty_sound}
 use Rattle.cx_acceptor.proofs.acceptor.Acceptor.new.Goals as goal
 

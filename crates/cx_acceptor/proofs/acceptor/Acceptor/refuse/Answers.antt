@@ -1,7 +1,7 @@
-use Rattle.cx_acceptor.proofs.SoundLaws.{promise_real}
+use Rattle.cx_role.proofs.Ranges.{real_above}
 use Rattle.cx_acceptor.proofs.acceptor.Acceptor.refuse.Goals as goal
 
 pub nack-requires-clause-promise : goal.nack-requires-clause-promise
 nack-requires-clause-promise c =
-    promise_real c.args.round c.self.inside.promise c.requires.round c.self.invariant.promise
+    real_above c.args.round c.self.inside.promise c.requires.round c.self.invariant.promise
     (rw (← c.self.view_is) at c.requires.before)

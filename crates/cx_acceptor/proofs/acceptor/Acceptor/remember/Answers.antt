@@ -1,5 +1,5 @@
-use Rattle.std.proofs.Common.{arith}
-use Rattle.cx_msg.specs.declared.kept.Record.TheVariants as kept
+use Rattle.cx_role.proofs.Common.{arith}
+use Rattle.cx_role.proofs.Common.kept
 use Rattle.cx_acceptor.proofs.SoundLaws.{after_sound, slot_small, vote_parts}
 use Rattle.cx_acceptor.proofs.acceptor.Acceptor.remember.Goals as goal
 

@@ -1,4 +1,4 @@
-use Rattle.std.proofs.Common.{arith, rules}
+use Rattle.cx_role.proofs.Common.{arith, rules}
 use Rattle.cx_acceptor.proofs.VoteLaws.{votes_told}
 use Rattle.cx_acceptor.proofs.acceptor.Acceptor.told_votes.Goals as goal
 

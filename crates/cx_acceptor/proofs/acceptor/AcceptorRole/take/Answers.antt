@@ -1,4 +1,4 @@
-use Rattle.std.proofs.Common.{sym, ◌∙◌}
+use Rattle.cx_role.proofs.Common.{sym, ◌∙◌}
 use Rattle.cx_acceptor.proofs.FitLaws.{vote_fit}
 use Rattle.cx_acceptor.proofs.acceptor.AcceptorRole.take.Goals as goal
 

@@ -1,4 +1,4 @@
-use Rattle.std.proofs.Common.{◌≡◌, ℕ, Bor, Option, Some, None, is_some, option_copied, refl, ap, ◌∙◌}
+use Rattle.cx_role.proofs.Common.{◌≡◌, ℕ, Bor, Option, Some, None, is_some, option_copied, refl, ap, ◌∙◌}
 use Rattle.cx_leader.proofs.Knows.{found_in}
 use Rattle.cx_leader.proofs.known.Known.contains.Goals as goal
 

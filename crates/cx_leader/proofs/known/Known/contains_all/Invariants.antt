@@ -1,7 +1,4 @@
-use Rattle.std.proofs.Common.{◌≡◌, ◌+◌, ◌-◌}
-use Rattle.std.specs.List.{list_all}
-use Rattle.cx_base.specs.Grid.{is_in}
-use Rattle.cx_base.specs.Lists.{numbers}
+use Rattle.cx_role.proofs.Common.{◌≡◌, ◌+◌, ◌-◌, list_all, is_in, numbers}
 use Rattle.cx_leader.proofs.known.Known.contains_all.Given as goal
 
 abbrev pub invariant-loop-slot : goal.invariant-loop-slot

@@ -1,4 +1,4 @@
-use Rattle.std.proofs.Common.{max}
+use Rattle.cx_role.proofs.Common.{max}
 use Rattle.cx_leader.proofs.Knows.{same_from}
 use Rattle.cx_leader.proofs.known.Known.raise.Goals as goal
 

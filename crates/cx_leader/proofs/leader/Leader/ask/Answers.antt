@@ -1,5 +1,4 @@
-use Rattle.std.proofs.Common.{◌++◌, ◌∷◌, [], IsTrue, sym, subst}
-use Rattle.cx_model.specs.Matched.{live_entries}
+use Rattle.cx_role.proofs.Common.{◌++◌, ◌∷◌, [], IsTrue, sym, subst, live_entries}
 use Rattle.cx_phase1.specs.Counting.{are_ids}
 use Rattle.cx_leader.specs.State.{is_named}
 use Rattle.cx_leader.proofs.MatchLaws.{live_ids, named_more}

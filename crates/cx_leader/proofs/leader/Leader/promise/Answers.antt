@@ -1,7 +1,5 @@
-use Rattle.std.proofs.Common.{◌≡◌, Some, sym, subst, ap, ◌∙◌}
+use Rattle.cx_role.proofs.Common.{◌≡◌, Some, sym, subst, ap, ◌∙◌, Outcome, IsReply}
 use Rattle.cx_model.specs.Leader.{LeaderVolatile, leader_rules}
-use Rattle.cx_model.specs.Outcome.{Outcome}
-use Rattle.cx_role.specs.Role.{IsReply}
 use Rattle.cx_leader.proofs.PromiseLaws.{promised_is}
 use Rattle.cx_leader.proofs.leader.Leader.promise.Goals as goal
 

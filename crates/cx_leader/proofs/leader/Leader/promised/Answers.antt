@@ -1,11 +1,8 @@
-use Rattle.std.proofs.Common.{◌≡◌, ◌++◌, ◌∷◌, [], ap, refl, rules, subst, sym, ◌∙◌}
-use Rattle.cx_model.specs.declared.states.Promised.{Promised}
+use Rattle.cx_role.proofs.Common.{◌≡◌, ◌++◌, ◌∷◌, [], ap, refl, rules, subst, sym, ◌∙◌, Promised, Outcome, IsReply}
 use Rattle.cx_model.specs.Leader.{LeaderVolatile, lead_with, leader_rules}
-use Rattle.cx_model.specs.Outcome.{Outcome}
 use Rattle.cx_model.specs.Plan.{plan}
 use Rattle.cx_phase1.specs.Counting.{told_by, counted_by}
 use Rattle.cx_phase1.specs.declared.told.Told.TheVariants as told
-use Rattle.cx_role.specs.Role.{IsReply}
 use Rattle.cx_leader.specs.Promising.{counting, told_row}
 use Rattle.cx_leader.proofs.PromiseLaws.{counted_whole}
 use Rattle.cx_leader.proofs.leader.Leader.promised.Goals as goal

@@ -1,4 +1,4 @@
-use Rattle.std.proofs.Common.{◌+◌, ◌≤◌, ◌^◌}
+use Rattle.cx_role.proofs.Common.{◌+◌, ◌≤◌, ◌^◌}
 use Rattle.std.proofs.lemmas.List.Elements.{All-set}
 use Rattle.cx_leader.proofs.MatchLaws.{held_high}
 use Rattle.cx_leader.proofs.leader.Leader.replica_holds.Goals as goal

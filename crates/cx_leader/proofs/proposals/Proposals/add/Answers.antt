@@ -1,4 +1,4 @@
-use Rattle.std.proofs.Common.{IsTrue, refl}
+use Rattle.cx_role.proofs.Common.{IsTrue, refl}
 use Rattle.cx_field.specs.Fields as field
 use Rattle.cx_leader.proofs.Proposed.{some_free, slot_free, proposed_next, put_last}
 use Rattle.cx_leader.proofs.proposals.Proposals.add.Goals as goal

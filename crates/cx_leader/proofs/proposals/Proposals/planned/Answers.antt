@@ -1,4 +1,4 @@
-use Rattle.std.proofs.Common.{refl}
+use Rattle.cx_role.proofs.Common.{refl}
 use Rattle.cx_leader.proofs.Proposed.{proposed_plan}
 use Rattle.cx_leader.proofs.proposals.Proposals.planned.Goals as goal
 

@@ -1,4 +1,4 @@
-use Rattle.std.proofs.Common.{sym}
+use Rattle.cx_role.proofs.Common.{sym}
 use Rattle.cx_leader.specs.Proposing.{IsSpelled}
 use Rattle.cx_leader.proofs.BySlot.{found_is}
 use Rattle.cx_leader.proofs.Proposed.{found_slot}

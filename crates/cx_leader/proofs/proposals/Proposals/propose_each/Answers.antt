@@ -1,8 +1,4 @@
-use Rattle.std.proofs.Common.{◌≡◌, ◌<◌, ◌≤◌, ◌+◌, ◌-◌, not, arith, subst, refl}
-use Rattle.cx_base.specs.declared.command.Placed.{Placed}
-use Rattle.cx_base.specs.declared.role.Kind.TheVariants.{Leader}
-use Rattle.cx_base.specs.Grid.{is_in}
-use Rattle.cx_base.specs.Role.{role}
+use Rattle.cx_role.proofs.Common.{◌≡◌, ◌<◌, ◌≤◌, ◌+◌, ◌-◌, not, arith, subst, refl, Placed, Leader, is_in, role}
 use Rattle.cx_model.specs.Leader.{propose_to}
 use Rattle.cx_leader.specs.Proposing.{Proposing, IsProposing}
 use Rattle.cx_leader.proofs.BySlot.{sent_on, sent_all}

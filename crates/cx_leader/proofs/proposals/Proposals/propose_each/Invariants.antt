@@ -1,4 +1,4 @@
-use Rattle.std.proofs.Common.{◌≡◌, ◌≤◌, ◌+◌, ◌-◌, ◌++◌, drop}
+use Rattle.cx_role.proofs.Common.{◌≡◌, ◌≤◌, ◌+◌, ◌-◌, ◌++◌, drop}
 use Rattle.cx_model.specs.Leader.{without_known}
 use Rattle.cx_leader.specs.Proposing.{propose_sends}
 use Rattle.cx_leader.proofs.proposals.Proposals.propose_each.Given as goal

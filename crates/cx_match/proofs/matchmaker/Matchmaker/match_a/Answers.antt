@@ -1,11 +1,12 @@
-use Rattle.std.proofs.Common.{◌<◌, length, arith, rules}
+use Rattle.cx_role.proofs.Common.{◌<◌, length, arith, rules, done}
 use Rattle.cx_match.proofs.EntryLaws.{all_before, greatest_fits, some_later}
-use Rattle.cx_match.proofs.SoundLaws.{has_space, match_fits, sound_match, watermark_real}
-use Rattle.cx_role.proofs.Step.{done}
+use Rattle.cx_match.proofs.SoundLaws.{has_space, match_fits, sound_match}
+use Rattle.cx_role.proofs.Ranges.{real_above}
+use Rattle.std.proofs.lemmas.Result.{err_from_is_err_and}
 use Rattle.cx_match.proofs.matchmaker.Matchmaker.match_a.Goals as goal
 
 pub match_nack-requires-clause-other : goal.match_nack-requires-clause-other
-match_nack-requires-clause-other g c = watermark_real c.args.round c.self.inside.watermark c.requires.round c.self.invariant.watermark (rw c.is_before.ensures at c.if-is_before.true)
+match_nack-requires-clause-other g c = real_above c.args.round c.self.inside.watermark c.requires.round c.self.invariant.watermark (rw c.is_before.ensures at c.if-is_before.true)
 
 pub match_nack-requires-then-has_later-clause-other : goal.match_nack-requires-then-has_later-clause-other
 match_nack-requires-then-has_later-clause-other g c =
@@ -44,7 +45,19 @@ returns-in_err-keep g c =
     let new = rw (c.has_entry.ensures, c.deref-2.ensures.value) at c.if-has_entry.false in
     let few : length c.self.inside.entries.items < 16 = omega arith in
     let space = has_space (length c.self.inside.entries.items) few in
-    rw (← c.self.view_is, high, last, new, space) (record { ok = search rules; no_memory = search rules; spared = search rules; told = search rules; failed = search rules; keeps = search rules })
+    let p = err_from_is_err_and c.from_residual-in_err-keep.result c.from_residual-in_err-keep.ensures.1 in
+    rw (← c.self.view_is, high, last, new, space) (record {
+      ok = search rules;
+      no_memory = λ e. record {
+        kept = c.in_err-keep.ensures.refused (let f = rw (p.1, p.2) at e in cc);
+        state = search rules;
+        sends = search rules;
+      };
+      spared = search rules;
+      told = search rules;
+      failed = search rules;
+      keeps = search rules;
+    })
 
 pub returns-then-len-ge-ROUNDS : goal.returns-then-len-ge-ROUNDS
 returns-then-len-ge-ROUNDS g c =

@@ -1,6 +1,4 @@
-use Rattle.std.proofs.Common.{ap}
-use Rattle.cx_base.specs.declared.role.Kind.{Kind}
-use Rattle.cx_base.specs.Role.{role}
+use Rattle.cx_role.proofs.Common.{ap, Kind, role}
 use Rattle.cx_match.proofs.SoundLaws.{empty_sound}
 use Rattle.cx_match.proofs.matchmaker.Matchmaker.new.Goals as goal
 

@@ -1,4 +1,4 @@
-use Rattle.cx_msg.specs.declared.kept.Record.TheVariants as kept
+use Rattle.cx_role.proofs.Common.kept
 use Rattle.cx_match.proofs.SoundLaws.{after_sound}
 use Rattle.cx_match.proofs.matchmaker.Matchmaker.remember.Goals as goal
 

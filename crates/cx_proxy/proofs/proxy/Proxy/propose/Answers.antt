@@ -1,5 +1,4 @@
-use Rattle.std.proofs.Common.{◌≡◌, map, refl, subst, sym, true, rules}
-use Rattle.cx_model.specs.declared.states.Pending.{Pending}
+use Rattle.cx_role.proofs.Common.{◌≡◌, map, refl, subst, sym, true, rules, Pending}
 use Rattle.cx_model.specs.Proxy.{phase2a_to, column_for}
 use Rattle.cx_ring.specs.Ring.{raised}
 use Rattle.cx_proxy.specs.Holds.{Holds}

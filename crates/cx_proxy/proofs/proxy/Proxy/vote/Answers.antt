@@ -1,4 +1,4 @@
-use Rattle.std.proofs.Common.{true, false, sym, subst}
+use Rattle.cx_role.proofs.Common.{true, false, sym, subst}
 use Rattle.cx_proxy.specs.Holds.{Holds}
 use Rattle.cx_proxy.proofs.Holding.{found_near, found_stands, holds_noted}
 use Rattle.cx_proxy.proofs.Rows.{vote_stops}

@@ -1,9 +1,5 @@
-use Rattle.std.proofs.Common.{rules, ◌≡◌, ◌++◌, ◌∷◌, [], true, false, Option, Some, ℕ, refl}
-use Rattle.cx_base.specs.declared.cluster.Cluster.{Cluster}
-use Rattle.cx_base.specs.declared.role.RoleId.{RoleId}
-use Rattle.cx_base.specs.declared.round.Round.{Round}
-use Rattle.cx_base.specs.Round.{same_round}
-use Rattle.cx_model.specs.Matched.{greatest_watermark, is_member_of, live_entries}
+use Rattle.cx_role.proofs.Common.{rules, ◌≡◌, ◌++◌, ◌∷◌, [], true, false, Option, Some, ℕ, refl, Cluster, RoleId, Round}
+use Rattle.cx_role.proofs.Common.{same_round, greatest_watermark, is_member_of, live_entries}
 use Rattle.cx_model.specs.Reader.{Reading, ReaderVolatile, has_acked, is_matched, pre_read_ack_row, pre_read_counted, reading_of}
 use Rattle.cx_reader.proofs.reader.Reader.pre_read_answer.Goals as goal
 

@@ -1,4 +1,4 @@
-use Rattle.std.proofs.Common.{sym, ◌∙◌}
+use Rattle.cx_role.proofs.Common.{sym, ◌∙◌}
 use Rattle.cx_reader.proofs.KeptNothing.{pre_read_fits}
 use Rattle.cx_reader.proofs.reader.ReaderRole.take.Goals as goal
 

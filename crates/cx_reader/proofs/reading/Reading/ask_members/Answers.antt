@@ -1,4 +1,4 @@
-use Rattle.std.proofs.Common.{append_assoc, arith, sym, ◌∙◌}
+use Rattle.cx_role.proofs.Common.{append_assoc, arith, sym, ◌∙◌}
 use Rattle.cx_grid.proofs.Crossing.{numbers_more}
 use Rattle.cx_reader.proofs.reading.Reading.ask_members.Goals as goal
 use Rattle.cx_reader.proofs.reading.Reading.ask_members.Goals.{then-is_live_member, else-is_live_member}

@@ -1,8 +1,5 @@
-use Rattle.std.proofs.Common.{◌≡◌, ◌≤◌, ◌+◌, ◌-◌, ◌++◌, map, filter}
-use Rattle.cx_base.specs.Lists.{numbers}
-use Rattle.cx_base.specs.Role.{role}
-use Rattle.cx_base.specs.declared.role.Kind.TheVariants.{Reader}
-use Rattle.cx_model.specs.Matched.{is_member_of, live_entries, members_of}
+use Rattle.cx_role.proofs.Common.{◌≡◌, ◌≤◌, ◌+◌, ◌-◌, ◌++◌, map, filter, numbers, role, Reader, is_member_of}
+use Rattle.cx_role.proofs.Common.{live_entries, members_of}
 use Rattle.cx_model.specs.Reader.{pre_read_to}
 use Rattle.cx_reader.proofs.reading.Reading.ask_members.Given as goal
 

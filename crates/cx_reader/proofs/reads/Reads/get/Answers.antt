@@ -1,4 +1,4 @@
-use Rattle.std.proofs.Common.{◌∙◌}
+use Rattle.cx_role.proofs.Common.{◌∙◌}
 use Rattle.cx_reader.proofs.Entries.{found}
 use Rattle.cx_reader.proofs.reads.Reads.get.Goals as goal
 
