@@ -8,9 +8,10 @@ use Rattle.cx_base.specs.Same.{same_value}
 use Rattle.cx_base.proofs.SameLaws.{same_value-true}
 use Rattle.cx_base.specs.declared.command.Value.{Value}
 use Rattle.cx_base.specs.declared.round.Round.{Round}
-use Rattle.cx_msg.specs.declared.kept.Record.{Record}
 use Rattle.cx_msg.specs.declared.kept.Record.TheVariants as kept
 use Rattle.cx_msg.specs.declared.input.KeptRecord.{KeptRecord}
+use Rattle.cx_msg.specs.declared.input.Written.{Written}
+use Rattle.cx_msg.specs.declared.input.Written.TheVariants as written
 use Rattle.cx_choice.proofs.Casts.{same_among}
 use Rattle.cx_choice.proofs.Whole.{chosen_by_whole}
 use Rattle.cx_choice.specs.Enough.{is_among, is_chosen_among, is_enough, is_whole, is_whole_vote}
@@ -69,14 +70,19 @@ pub all_told : (values : List (Bor Value)) (rounds : List (OfRound Shape)) (vote
     → is_among values v ≡ is_chosen_among rounds votes s v
 all_told values rounds votes casts s v are told =
     told ∙ (λ i. list_any (λ (k : KeptRecord). same_whole k.what i) votes) ∙ sym (chosen_by_whole rounds votes s v) where
-      same_whole : (what : Record) → is_whole_vote rounds (casts_in casts) s v what ≡ is_whole_vote rounds votes s v what
-      same_whole (kept.Promise i) = refl
-      same_whole (kept.Vote j t cw u) = ap (λ b. (t == s) && same_value u v && b) (same_among (of_round j rounds) votes casts s v are)
-      same_whole (kept.Water i mark) = refl
-      same_whole (kept.Match i g) = refl
-      same_whole (kept.Garbage i g) = refl
-      same_whole (kept.Round i g) = refl
-      same_whole (kept.Log values) = refl
+      same_whole : (what : Written) → is_whole_vote rounds (casts_in casts) s v what ≡ is_whole_vote rounds votes s v what
+      same_whole (written.Record (kept.Promise i)) = refl
+      same_whole (written.Record (kept.Vote j t cw u)) = ap (λ b. (t == s) && same_value u v && b) (same_among (of_round j rounds) votes casts s v are)
+      same_whole (written.Record (kept.Water i mark)) = refl
+      same_whole (written.Record (kept.Match i g)) = refl
+      same_whole (written.Record (kept.Garbage i g)) = refl
+      same_whole (written.Record (kept.Round i g)) = refl
+      same_whole (written.Record (kept.Log values)) = refl
+      same_whole (written.Record (kept.Base first held pairs clients)) = refl
+      same_whole (written.Record (kept.Pairs pairs)) = refl
+      same_whole (written.Record (kept.Notes client floor notes)) = refl
+      same_whole (written.Record (kept.Tail values)) = refl
+      same_whole (written.Snap first) = refl
 
 -- so they are when all votes were looked at
 pub finished : (values : List (Bor Value)) (rounds : List (OfRound Shape)) (votes rest : List KeptRecord) (casts : List (OfRound (Bor KeptRecord))) (s : ℕ) (v : Value) → AreCast votes casts

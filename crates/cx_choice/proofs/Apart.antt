@@ -11,9 +11,10 @@ use Rattle.cx_base.specs.declared.round.Round.{Round}
 use Rattle.cx_base.specs.Role.{role, same_role}
 use Rattle.cx_base.specs.Round.{same_round}
 use Rattle.cx_model.specs.Chosen.{is_vote, has_vote, is_chosen_in, is_chosen_by, is_chosen, chosen_vote, first_chosen, chosen_at}
-use Rattle.cx_msg.specs.declared.kept.Record.{Record}
 use Rattle.cx_msg.specs.declared.kept.Record.TheVariants as kept
 use Rattle.cx_msg.specs.declared.input.KeptRecord.{KeptRecord}
+use Rattle.cx_msg.specs.declared.input.Written.{Written}
+use Rattle.cx_msg.specs.declared.input.Written.TheVariants as written
 use Rattle.cx_choice.proofs.Casts.{same_in}
 use Rattle.cx_choice.specs.Enough.{is_chosen_among, selects}
 use Rattle.cx_choice.specs.Prefix.{chooses}
@@ -37,14 +38,19 @@ or_no : (b : Bool) → (b || false) ≡ b
 or_no true = refl
 or_no false = refl
 
-elsewhere_is_no_vote : (j : Round) (s : ℕ) (v : Value) (r : Record) → is_vote_in s r ≡ false → is_vote j s v r ≡ false
-elsewhere_is_no_vote j s v (kept.Promise i) e = refl
-elsewhere_is_no_vote j s v (kept.Vote i t cw u) e = rw (e, and_no (same_round i j)) refl
-elsewhere_is_no_vote j s v (kept.Water i mark) e = refl
-elsewhere_is_no_vote j s v (kept.Match i g) e = refl
-elsewhere_is_no_vote j s v (kept.Garbage i g) e = refl
-elsewhere_is_no_vote j s v (kept.Round i g) e = refl
-elsewhere_is_no_vote j s v (kept.Log values) e = refl
+elsewhere_is_no_vote : (j : Round) (s : ℕ) (v : Value) (r : Written) → is_vote_in s r ≡ false → is_vote j s v r ≡ false
+elsewhere_is_no_vote j s v (written.Record (kept.Promise i)) e = refl
+elsewhere_is_no_vote j s v (written.Record (kept.Vote i t cw u)) e = rw (e, and_no (same_round i j)) refl
+elsewhere_is_no_vote j s v (written.Record (kept.Water i mark)) e = refl
+elsewhere_is_no_vote j s v (written.Record (kept.Match i g)) e = refl
+elsewhere_is_no_vote j s v (written.Record (kept.Garbage i g)) e = refl
+elsewhere_is_no_vote j s v (written.Record (kept.Round i g)) e = refl
+elsewhere_is_no_vote j s v (written.Record (kept.Log values)) e = refl
+elsewhere_is_no_vote j s v (written.Record (kept.Base first held pairs clients)) e = refl
+elsewhere_is_no_vote j s v (written.Record (kept.Pairs pairs)) e = refl
+elsewhere_is_no_vote j s v (written.Record (kept.Notes client floor notes)) e = refl
+elsewhere_is_no_vote j s v (written.Record (kept.Tail values)) e = refl
+elsewhere_is_no_vote j s v (written.Snap first) e = refl
 
 same_votes : (history : List KeptRecord) (a : ℕ) (j : Round) (s : ℕ) (v : Value) → has_vote (votes_of s history) a j s v ≡ has_vote history a j s v
 same_votes history a j s v =
@@ -52,16 +58,21 @@ same_votes history a j s v =
     (λ k e. rw (elsewhere_is_no_vote j s v k.what e) (and_no (same_role k.role (role Acceptor a)))) history
 
 -- a record makes a value chosen where the round that it begins does
-by_record : (history : List KeptRecord) (s : ℕ) (v : Value) (what : Record)
+by_record : (history : List KeptRecord) (s : ℕ) (v : Value) (what : Written)
     → list_any (λ (b : OfRound Shape). is_chosen_in (votes_of s history) b.round b.item s v) (begun_by what) ≡ is_chosen_by history s v what
-by_record history s v (kept.Promise i) = refl
-by_record history s v (kept.Vote i t cw u) = refl
-by_record history s v (kept.Water i mark) = refl
-by_record history s v (kept.Match i g) = refl
-by_record history s v (kept.Garbage i g) = refl
-by_record history s v (kept.Round i g) =
+by_record history s v (written.Record (kept.Promise i)) = refl
+by_record history s v (written.Record (kept.Vote i t cw u)) = refl
+by_record history s v (written.Record (kept.Water i mark)) = refl
+by_record history s v (written.Record (kept.Match i g)) = refl
+by_record history s v (written.Record (kept.Garbage i g)) = refl
+by_record history s v (written.Record (kept.Round i g)) =
     or_no (is_chosen_in (votes_of s history) i g s v) ∙ same_in (votes_of s history) history i g s v (λ a. same_votes history a i s v)
-by_record history s v (kept.Log values) = refl
+by_record history s v (written.Record (kept.Log values)) = refl
+by_record history s v (written.Record (kept.Base first held pairs clients)) = refl
+by_record history s v (written.Record (kept.Pairs pairs)) = refl
+by_record history s v (written.Record (kept.Notes client floor notes)) = refl
+by_record history s v (written.Record (kept.Tail values)) = refl
+by_record history s v (written.Snap first) = refl
 
 by_records : (history ks : List KeptRecord) (s : ℕ) (v : Value) → is_chosen_among (rounds_of ks) (votes_of s history) s v ≡ list_any (λ (k : KeptRecord). is_chosen_by history s v k.what) ks
 by_records history [] s v = refl
@@ -75,24 +86,34 @@ same_chosen history rounds s v are =
     sym (list_any-IsPermutation (λ (b : OfRound Shape). is_chosen_in (votes_of s history) b.round b.item s v) (rounds_of history) rounds are.all) ∙ by_records history history s v
 
 -- a vote is for a value chosen by them exactly where it is for one that is chosen
-pub same_selects : (history : List KeptRecord) (rounds : List (OfRound Shape)) (s : ℕ) (what : Record) → AreRounds history rounds
+pub same_selects : (history : List KeptRecord) (rounds : List (OfRound Shape)) (s : ℕ) (what : Written) → AreRounds history rounds
     → selects rounds (votes_of s history) s what ≡ chooses history s what
-same_selects history rounds s (kept.Promise i) are = refl
-same_selects history rounds s (kept.Vote i t cw u) are = ap (λ b. (t == s) && b) (same_chosen history rounds s u are)
-same_selects history rounds s (kept.Water i mark) are = refl
-same_selects history rounds s (kept.Match i g) are = refl
-same_selects history rounds s (kept.Garbage i g) are = refl
-same_selects history rounds s (kept.Round i g) are = refl
-same_selects history rounds s (kept.Log values) are = refl
+same_selects history rounds s (written.Record (kept.Promise i)) are = refl
+same_selects history rounds s (written.Record (kept.Vote i t cw u)) are = ap (λ b. (t == s) && b) (same_chosen history rounds s u are)
+same_selects history rounds s (written.Record (kept.Water i mark)) are = refl
+same_selects history rounds s (written.Record (kept.Match i g)) are = refl
+same_selects history rounds s (written.Record (kept.Garbage i g)) are = refl
+same_selects history rounds s (written.Record (kept.Round i g)) are = refl
+same_selects history rounds s (written.Record (kept.Log values)) are = refl
+same_selects history rounds s (written.Record (kept.Base first held pairs clients)) are = refl
+same_selects history rounds s (written.Record (kept.Pairs pairs)) are = refl
+same_selects history rounds s (written.Record (kept.Notes client floor notes)) are = refl
+same_selects history rounds s (written.Record (kept.Tail values)) are = refl
+same_selects history rounds s (written.Snap first) are = refl
 
-no_vote_elsewhere : (history : List KeptRecord) (s : ℕ) (r : Record) (later : Option Value) → is_vote_in s r ≡ false → chosen_vote history s r later ≡ later
-no_vote_elsewhere history s (kept.Promise i) later e = refl
-no_vote_elsewhere history s (kept.Vote i t cw u) later e = rw e refl
-no_vote_elsewhere history s (kept.Water i mark) later e = refl
-no_vote_elsewhere history s (kept.Match i g) later e = refl
-no_vote_elsewhere history s (kept.Garbage i g) later e = refl
-no_vote_elsewhere history s (kept.Round i g) later e = refl
-no_vote_elsewhere history s (kept.Log values) later e = refl
+no_vote_elsewhere : (history : List KeptRecord) (s : ℕ) (r : Written) (later : Option Value) → is_vote_in s r ≡ false → chosen_vote history s r later ≡ later
+no_vote_elsewhere history s (written.Record (kept.Promise i)) later e = refl
+no_vote_elsewhere history s (written.Record (kept.Vote i t cw u)) later e = rw e refl
+no_vote_elsewhere history s (written.Record (kept.Water i mark)) later e = refl
+no_vote_elsewhere history s (written.Record (kept.Match i g)) later e = refl
+no_vote_elsewhere history s (written.Record (kept.Garbage i g)) later e = refl
+no_vote_elsewhere history s (written.Record (kept.Round i g)) later e = refl
+no_vote_elsewhere history s (written.Record (kept.Log values)) later e = refl
+no_vote_elsewhere history s (written.Record (kept.Base first held pairs clients)) later e = refl
+no_vote_elsewhere history s (written.Record (kept.Pairs pairs)) later e = refl
+no_vote_elsewhere history s (written.Record (kept.Notes client floor notes)) later e = refl
+no_vote_elsewhere history s (written.Record (kept.Tail values)) later e = refl
+no_vote_elsewhere history s (written.Snap first) later e = refl
 
 first_of_votes : (history : List KeptRecord) (s : ℕ) (ks : List KeptRecord) → first_chosen history s (votes_of s ks) ≡ first_chosen history s ks
 first_of_votes history s [] = refl

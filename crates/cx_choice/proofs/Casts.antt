@@ -16,9 +16,10 @@ use Rattle.cx_base.specs.declared.role.Kind.TheVariants.{Acceptor}
 use Rattle.cx_base.specs.declared.round.Round.{Round}
 use Rattle.cx_grid.specs.Quorum.{column_of}
 use Rattle.cx_model.specs.Chosen.{has_vote, is_chosen_in, is_vote}
-use Rattle.cx_msg.specs.declared.kept.Record.{Record}
 use Rattle.cx_msg.specs.declared.kept.Record.TheVariants as kept
 use Rattle.cx_msg.specs.declared.input.KeptRecord.{KeptRecord}
+use Rattle.cx_msg.specs.declared.input.Written.{Written}
+use Rattle.cx_msg.specs.declared.input.Written.TheVariants as written
 use Rattle.cx_choice.specs.Enough.{is_chosen_among, is_enough}
 use Rattle.cx_choice.specs.OfRound.{IsByRound, of_round}
 use Rattle.cx_choice.specs.Sorted.{AreCast, IsCast, casts_in, round_in}
@@ -46,14 +47,19 @@ differs : (i j k : Round) → same_round i k ≡ true → same_round j k ≡ fal
 differs i j k h l = grind (arith, nat_tests)
 
 -- a record of another round is no vote of this one
-of_another : (i j : Round) (s : ℕ) (v : Value) (what : Record) → same_round i j ≡ true → same_round (round_in what) j ≡ false → is_vote i s v what ≡ false
-of_another i j s v (kept.Promise k) same other = refl
-of_another i j s v (kept.Vote k t cw u) same other = let none : same_round k i ≡ false = differs i k j same other in rw none refl
-of_another i j s v (kept.Water k mark) same other = refl
-of_another i j s v (kept.Match k g) same other = refl
-of_another i j s v (kept.Garbage k g) same other = refl
-of_another i j s v (kept.Round k g) same other = refl
-of_another i j s v (kept.Log values) same other = refl
+of_another : (i j : Round) (s : ℕ) (v : Value) (what : Written) → same_round i j ≡ true → same_round (round_in what) j ≡ false → is_vote i s v what ≡ false
+of_another i j s v (written.Record (kept.Promise k)) same other = refl
+of_another i j s v (written.Record (kept.Vote k t cw u)) same other = let none : same_round k i ≡ false = differs i k j same other in rw none refl
+of_another i j s v (written.Record (kept.Water k mark)) same other = refl
+of_another i j s v (written.Record (kept.Match k g)) same other = refl
+of_another i j s v (written.Record (kept.Garbage k g)) same other = refl
+of_another i j s v (written.Record (kept.Round k g)) same other = refl
+of_another i j s v (written.Record (kept.Log values)) same other = refl
+of_another i j s v (written.Record (kept.Base first held pairs clients)) same other = refl
+of_another i j s v (written.Record (kept.Pairs pairs)) same other = refl
+of_another i j s v (written.Record (kept.Notes client floor notes)) same other = refl
+of_another i j s v (written.Record (kept.Tail values)) same other = refl
+of_another i j s v (written.Snap first) same other = refl
 
 and_none : (a b : Bool) → b ≡ false → (a && b) ≡ false
 and_none true b e = e

@@ -7,33 +7,44 @@ use Rattle.std.specs.List.{position, position_or_len}
 use Rattle.cx_base.specs.Grid.{Shape}
 use Rattle.cx_base.specs.declared.command.Value.{Value}
 use Rattle.cx_model.specs.Chosen.{chosen_at, chosen_vote, first_chosen}
-use Rattle.cx_msg.specs.declared.kept.Record.{Record}
 use Rattle.cx_msg.specs.declared.kept.Record.TheVariants as kept
 use Rattle.cx_msg.specs.declared.input.KeptRecord.{KeptRecord}
+use Rattle.cx_msg.specs.declared.input.Written.{Written}
+use Rattle.cx_msg.specs.declared.input.Written.TheVariants as written
 use Rattle.cx_choice.proofs.Apart.{chosen_by_votes, same_selects}
 use Rattle.cx_choice.specs.Enough.{selects}
 use Rattle.cx_choice.specs.Prefix.{IsChosenVote, IsVoteAt, chooses, has_value, value_at, value_of}
 use Rattle.cx_choice.specs.Sorted.{AreRounds, votes_of}
 use Rattle.cx_choice.specs.declared.of_round.OfRound.{OfRound}
 
-choosing : (history : List KeptRecord) (s : ℕ) (what : Record) (later : Option Value) → chooses history s what ≡ true
+choosing : (history : List KeptRecord) (s : ℕ) (what : Written) (later : Option Value) → chooses history s what ≡ true
     → (chosen_vote history s what later ≡ Some (value_of what)) × (has_value what ≡ true)
-choosing history s (kept.Promise i) later e = cc
-choosing history s (kept.Vote j t cw v) later e = rw e (refl, refl)
-choosing history s (kept.Water i mark) later e = cc
-choosing history s (kept.Match i g) later e = cc
-choosing history s (kept.Garbage i g) later e = cc
-choosing history s (kept.Round i g) later e = cc
-choosing history s (kept.Log values) later e = cc
+choosing history s (written.Record (kept.Promise i)) later e = cc
+choosing history s (written.Record (kept.Vote j t cw v)) later e = rw e (refl, refl)
+choosing history s (written.Record (kept.Water i mark)) later e = cc
+choosing history s (written.Record (kept.Match i g)) later e = cc
+choosing history s (written.Record (kept.Garbage i g)) later e = cc
+choosing history s (written.Record (kept.Round i g)) later e = cc
+choosing history s (written.Record (kept.Log values)) later e = cc
+choosing history s (written.Record (kept.Base first held pairs clients)) later e = cc
+choosing history s (written.Record (kept.Pairs pairs)) later e = cc
+choosing history s (written.Record (kept.Notes client floor notes)) later e = cc
+choosing history s (written.Record (kept.Tail values)) later e = cc
+choosing history s (written.Snap first) later e = cc
 
-passing : (history : List KeptRecord) (s : ℕ) (what : Record) (later : Option Value) → chooses history s what ≡ false → chosen_vote history s what later ≡ later
-passing history s (kept.Promise i) later e = refl
-passing history s (kept.Vote j t cw v) later e = rw e refl
-passing history s (kept.Water i mark) later e = refl
-passing history s (kept.Match i g) later e = refl
-passing history s (kept.Garbage i g) later e = refl
-passing history s (kept.Round i g) later e = refl
-passing history s (kept.Log values) later e = refl
+passing : (history : List KeptRecord) (s : ℕ) (what : Written) (later : Option Value) → chooses history s what ≡ false → chosen_vote history s what later ≡ later
+passing history s (written.Record (kept.Promise i)) later e = refl
+passing history s (written.Record (kept.Vote j t cw v)) later e = rw e refl
+passing history s (written.Record (kept.Water i mark)) later e = refl
+passing history s (written.Record (kept.Match i g)) later e = refl
+passing history s (written.Record (kept.Garbage i g)) later e = refl
+passing history s (written.Record (kept.Round i g)) later e = refl
+passing history s (written.Record (kept.Log values)) later e = refl
+passing history s (written.Record (kept.Base first held pairs clients)) later e = refl
+passing history s (written.Record (kept.Pairs pairs)) later e = refl
+passing history s (written.Record (kept.Notes client floor notes)) later e = refl
+passing history s (written.Record (kept.Tail values)) later e = refl
+passing history s (written.Snap first) later e = refl
 
 abbrev place_in : List KeptRecord → ℕ → List KeptRecord → ℕ
 place_in history s ks = position_or_len (λ (k : KeptRecord). chooses history s k.what) ks

@@ -13,9 +13,10 @@ use Rattle.cx_base.specs.declared.role.Kind.TheVariants.{Acceptor}
 use Rattle.cx_base.specs.declared.round.Round.{Round}
 use Rattle.cx_grid.specs.Quorum.{column_of, member_at}
 use Rattle.cx_model.specs.Chosen.{has_vote, is_chosen_in, is_vote}
-use Rattle.cx_msg.specs.declared.kept.Record.{Record}
 use Rattle.cx_msg.specs.declared.kept.Record.TheVariants as kept
 use Rattle.cx_msg.specs.declared.input.KeptRecord.{KeptRecord}
+use Rattle.cx_msg.specs.declared.input.Written.{Written}
+use Rattle.cx_msg.specs.declared.input.Written.TheVariants as written
 use Rattle.cx_choice.specs.Enough.{ChosenByWholeVotes, is_chosen_among, is_enough, is_whole_vote}
 use Rattle.cx_choice.specs.OfRound.{of_round}
 use Rattle.cx_choice.specs.declared.of_round.OfRound.{OfRound}
@@ -62,18 +63,23 @@ first_all p g b zero is more e = cc
 first_all p g b (suc rows) is more e = (both _ _ e).0
 
 -- a vote that is listed for one of an acceptor is a vote of its round
-vote_parts : (rounds : List (OfRound Shape)) (votes : List KeptRecord) (i : Round) (s : ℕ) (v : Value) (what : Record) → is_vote i s v what ≡ true
+vote_parts : (rounds : List (OfRound Shape)) (votes : List KeptRecord) (i : Round) (s : ℕ) (v : Value) (what : Written) → is_vote i s v what ≡ true
     → ((j : Round) → same_round i j ≡ true → is_enough rounds votes s j v ≡ true) → is_whole_vote rounds votes s v what ≡ true
-vote_parts rounds votes i s v (kept.Promise j) e enough = cc
-vote_parts rounds votes i s v (kept.Vote j t cw u) e enough =
+vote_parts rounds votes i s v (written.Record (kept.Promise j)) e enough = cc
+vote_parts rounds votes i s v (written.Record (kept.Vote j t cw u)) e enough =
     let parts = both (same_round j i && (t == s)) (same_value u v) e in
     let first = both (same_round j i) (t == s) parts.0 in
     rw (first.1, parts.1) (enough j (same_round_sym j i first.0))
-vote_parts rounds votes i s v (kept.Water j mark) e enough = cc
-vote_parts rounds votes i s v (kept.Match j g) e enough = cc
-vote_parts rounds votes i s v (kept.Garbage j g) e enough = cc
-vote_parts rounds votes i s v (kept.Round j g) e enough = cc
-vote_parts rounds votes i s v (kept.Log values) e enough = cc
+vote_parts rounds votes i s v (written.Record (kept.Water j mark)) e enough = cc
+vote_parts rounds votes i s v (written.Record (kept.Match j g)) e enough = cc
+vote_parts rounds votes i s v (written.Record (kept.Garbage j g)) e enough = cc
+vote_parts rounds votes i s v (written.Record (kept.Round j g)) e enough = cc
+vote_parts rounds votes i s v (written.Record (kept.Log values)) e enough = cc
+vote_parts rounds votes i s v (written.Record (kept.Base first held pairs clients)) e enough = cc
+vote_parts rounds votes i s v (written.Record (kept.Pairs pairs)) e enough = cc
+vote_parts rounds votes i s v (written.Record (kept.Notes client floor notes)) e enough = cc
+vote_parts rounds votes i s v (written.Record (kept.Tail values)) e enough = cc
+vote_parts rounds votes i s v (written.Snap first) e enough = cc
 
 -- a column that voted has a member that did
 a_vote : (rounds : List (OfRound Shape)) (votes : List KeptRecord) (i : Round) (g : Shape) (s : ℕ) (v : Value) → is_chosen_in votes i g s v ≡ true
@@ -87,18 +93,23 @@ a_vote rounds votes i g s v e enough =
     vote.1 (λ (k : KeptRecord). is_whole_vote rounds votes s v k.what) (vote_parts rounds votes i s v vote.0.what is.1 enough)
 
 -- a round that has enough votes is one of the rounds
-whole_parts : (rounds : List (OfRound Shape)) (votes : List KeptRecord) (s : ℕ) (v : Value) (what : Record) → is_whole_vote rounds votes s v what ≡ true → is_chosen_among rounds votes s v ≡ true
-whole_parts rounds votes s v (kept.Promise i) e = cc
-whole_parts rounds votes s v (kept.Vote j t cw u) e =
+whole_parts : (rounds : List (OfRound Shape)) (votes : List KeptRecord) (s : ℕ) (v : Value) (what : Written) → is_whole_vote rounds votes s v what ≡ true → is_chosen_among rounds votes s v ≡ true
+whole_parts rounds votes s v (written.Record (kept.Promise i)) e = cc
+whole_parts rounds votes s v (written.Record (kept.Vote j t cw u)) e =
     let test = λ (b : OfRound Shape). is_chosen_in votes b.round b.item s v in
     let enough : list_any test (of_round j rounds) ≡ true = (both ((t == s) && same_value u v) (is_enough rounds votes s j v) e).1 in
     let round = any_one (λ (b : OfRound Shape). same_round b.round j && test b) rounds (sym (any_filter test (λ (b : OfRound Shape). same_round b.round j) rounds) ∙ enough) in
     round.1 test (both (same_round round.0.round j) (test round.0) round.2).1
-whole_parts rounds votes s v (kept.Water i mark) e = cc
-whole_parts rounds votes s v (kept.Match i g) e = cc
-whole_parts rounds votes s v (kept.Garbage i g) e = cc
-whole_parts rounds votes s v (kept.Round i g) e = cc
-whole_parts rounds votes s v (kept.Log values) e = cc
+whole_parts rounds votes s v (written.Record (kept.Water i mark)) e = cc
+whole_parts rounds votes s v (written.Record (kept.Match i g)) e = cc
+whole_parts rounds votes s v (written.Record (kept.Garbage i g)) e = cc
+whole_parts rounds votes s v (written.Record (kept.Round i g)) e = cc
+whole_parts rounds votes s v (written.Record (kept.Log values)) e = cc
+whole_parts rounds votes s v (written.Record (kept.Base first held pairs clients)) e = cc
+whole_parts rounds votes s v (written.Record (kept.Pairs pairs)) e = cc
+whole_parts rounds votes s v (written.Record (kept.Notes client floor notes)) e = cc
+whole_parts rounds votes s v (written.Record (kept.Tail values)) e = cc
+whole_parts rounds votes s v (written.Snap first) e = cc
 
 pub chosen_by_whole : ChosenByWholeVotes
 chosen_by_whole rounds votes s v =

@@ -1,7 +1,7 @@
 -- The votes of each slot as chains of numbers: each is one more than a record's, and 0 where no vote follows.
 use Rattle.std.specs.Prelude.{ℕ, true, ◌≡◌, ◌≤◌, ◌<◌, ◌+◌, if◌then◌else◌, List, [], ◌∷◌, Some, drop, length, get_or, slice_get}
-use Rattle.cx_msg.specs.declared.kept.Record.{Record}
 use Rattle.cx_msg.specs.declared.input.KeptRecord.{KeptRecord}
+use Rattle.cx_msg.specs.declared.input.Written.{Written}
 use Rattle.cx_choice.specs.Sorted.{is_vote_in}
 use Rattle.cx_choice.specs.declared.chains.Votes.{Votes}
 
@@ -22,7 +22,7 @@ pub record HaveVotes (votes : Votes) (history : List KeptRecord) (from : ℕ) : 
       → get_or votes.next.items n 0 ≡ vote_from s (n + 1) history
 
 -- a record of this number is before the later votes of its slot, if it is a vote in a slot below the number of records
-pub record Puts (old new : Votes) (number : ℕ) (what : Record) : Type 0 where
+pub record Puts (old new : Votes) (number : ℕ) (what : Written) : Type 0 where
   pub count : length new.next.items ≡ length old.next.items
   pub first : (s : ℕ) → s < length old.next.items
       → get_or new.first.items s 0 ≡ (if is_vote_in s what then number + 1 else get_or old.first.items s 0)

@@ -7,9 +7,10 @@ use Rattle.cx_base.specs.declared.command.Value.{Value}
 use Rattle.cx_base.specs.declared.round.Round.{Round}
 use Rattle.cx_base.specs.Same.{same_value}
 use Rattle.cx_model.specs.Chosen.{is_chosen_in}
-use Rattle.cx_msg.specs.declared.kept.Record.{Record}
 use Rattle.cx_msg.specs.declared.kept.Record.TheVariants as kept
 use Rattle.cx_msg.specs.declared.input.KeptRecord.{KeptRecord}
+use Rattle.cx_msg.specs.declared.input.Written.{Written}
+use Rattle.cx_msg.specs.declared.input.Written.TheVariants as written
 use Rattle.cx_choice.specs.OfRound.{of_round}
 use Rattle.cx_choice.specs.declared.of_round.OfRound.{OfRound}
 
@@ -25,9 +26,9 @@ is_enough rounds votes s j v = is_chosen_among (of_round j rounds) votes s v
 abbrev pub is_whole : List (OfRound Shape) → List KeptRecord → ℕ → Value → Round → ℕ → Value → Bool
 is_whole rounds votes s v j t u = (t == s) && same_value u v && is_enough rounds votes s j v
 
--- a record is such a vote
-abbrev pub is_whole_vote : List (OfRound Shape) → List KeptRecord → ℕ → Value → Record → Bool
-is_whole_vote rounds votes s v (kept.Vote j t cw u) = is_whole rounds votes s v j t u
+-- a change is a record of such a vote
+abbrev pub is_whole_vote : List (OfRound Shape) → List KeptRecord → ℕ → Value → Written → Bool
+is_whole_vote rounds votes s v (written.Record (kept.Vote j t cw u)) = is_whole rounds votes s v j t u
 is_whole_vote rounds votes s v other = false
 
 -- a value is chosen in a slot exactly where a vote for it is whole
@@ -35,15 +36,15 @@ abbrev pub ChosenByWholeVotes : Type 0
 ChosenByWholeVotes = (rounds : List (OfRound Shape)) (votes : List KeptRecord) (s : ℕ) (v : Value)
     → is_chosen_among rounds votes s v ≡ list_any (λ (k : KeptRecord). is_whole_vote rounds votes s v k.what) votes
 
--- a record is a vote in this slot for a value that is chosen there
-abbrev pub selects : List (OfRound Shape) → List KeptRecord → ℕ → Record → Bool
-selects rounds votes s (kept.Vote j t cw v) = (t == s) && is_chosen_among rounds votes s v
+-- a change is a record of a vote in this slot for a value that is chosen there
+abbrev pub selects : List (OfRound Shape) → List KeptRecord → ℕ → Written → Bool
+selects rounds votes s (written.Record (kept.Vote j t cw v)) = (t == s) && is_chosen_among rounds votes s v
 selects rounds votes s other = false
 
 abbrev pub is_among : List (Bor Value) → Value → Bool
 is_among values v = list_any (λ (u : Bor Value). same_value u.now v) values
 
--- a record is a vote in this slot for one of these values
-abbrev pub is_for : List (Bor Value) → ℕ → Record → Bool
-is_for values s (kept.Vote j t cw v) = (t == s) && is_among values v
+-- a change is a record of a vote in this slot for one of these values
+abbrev pub is_for : List (Bor Value) → ℕ → Written → Bool
+is_for values s (written.Record (kept.Vote j t cw v)) = (t == s) && is_among values v
 is_for values s other = false

@@ -3,22 +3,23 @@ use Rattle.std.specs.Prelude.{ℕ, Bool, true, false, ◌≡◌, ◌==◌, ◌&&
 use Rattle.cx_base.specs.declared.command.Value.{Value}
 use Rattle.cx_base.specs.declared.command.Value.TheVariants.{Noop}
 use Rattle.cx_model.specs.Chosen.{is_chosen, chosen_at}
-use Rattle.cx_msg.specs.declared.kept.Record.{Record}
 use Rattle.cx_msg.specs.declared.kept.Record.TheVariants as kept
 use Rattle.cx_msg.specs.declared.input.KeptRecord.{KeptRecord}
+use Rattle.cx_msg.specs.declared.input.Written.{Written}
+use Rattle.cx_msg.specs.declared.input.Written.TheVariants as written
 
--- whether a record is a vote in a slot for a value that is chosen there
-abbrev pub chooses : List KeptRecord → ℕ → Record → Bool
-chooses history s (kept.Vote j t cw v) = (t == s) && is_chosen history s v
+-- whether a change is a record of a vote in a slot for a value that is chosen there
+abbrev pub chooses : List KeptRecord → ℕ → Written → Bool
+chooses history s (written.Record (kept.Vote j t cw v)) = (t == s) && is_chosen history s v
 chooses history s other = false
 
-abbrev pub has_value : Record → Bool
-has_value (kept.Vote j s cw v) = true
+abbrev pub has_value : Written → Bool
+has_value (written.Record (kept.Vote j s cw v)) = true
 has_value other = false
 
--- the value of a vote; of another record a no-op, which nothing asks for
-abbrev pub value_of : Record → Value
-value_of (kept.Vote j s cw v) = v
+-- the value of a vote; of another change a no-op, which nothing asks for
+abbrev pub value_of : Written → Value
+value_of (written.Record (kept.Vote j s cw v)) = v
 value_of other = Noop
 
 abbrev pub value_found : Option KeptRecord → Value

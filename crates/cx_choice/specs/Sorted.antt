@@ -1,20 +1,21 @@
 -- The records on which a choice rests, apart: the rounds, and the votes of a slot.
-use Rattle.std.specs.Prelude.{◌≡◌, ◌==◌, ◌++◌, ◌∷◌, [], ℕ, Bool, false, List, filter, map}
+use Rattle.std.specs.Prelude.{◌≡◌, ◌==◌, ◌++◌, ◌∷◌, [], ℕ, Bool, false, List, Option, None, Some, filter, map}
 use denote.Ref.{Bor}
 use Rattle.std.specs.List.{All}
 use Rattle.std.specs.List.Sorted.{IsPermutation}
 use Rattle.cx_base.specs.Grid.{Shape}
 use Rattle.cx_base.specs.Round.{no_round}
 use Rattle.cx_base.specs.declared.round.Round.{Round}
-use Rattle.cx_msg.specs.declared.kept.Record.{Record}
 use Rattle.cx_msg.specs.declared.kept.Record.TheVariants as kept
 use Rattle.cx_msg.specs.declared.input.KeptRecord.{KeptRecord}
+use Rattle.cx_msg.specs.declared.input.Written.{Written}
+use Rattle.cx_msg.specs.declared.input.Written.TheVariants as written
 use Rattle.cx_choice.specs.OfRound.{IsByRound}
 use Rattle.cx_choice.specs.declared.of_round.OfRound.{OfRound}
 
--- the round that a leader began by a record, with its grid
-abbrev pub begun_by : Record → List (OfRound Shape)
-begun_by (kept.Round j g) = record { round = j; item = g } ∷ []
+-- the round that a leader began by a change of its store, with its grid
+abbrev pub begun_by : Written → List (OfRound Shape)
+begun_by (written.Record (kept.Round j g)) = record { round = j; item = g } ∷ []
 begun_by other = []
 
 -- the rounds that were kept, in order
@@ -27,17 +28,25 @@ pub record AreRounds (history : List KeptRecord) (rounds : List (OfRound Shape))
   pub all : IsPermutation (rounds_of history) rounds
   pub sorted : IsByRound rounds
 
-abbrev pub is_vote_in : ℕ → Record → Bool
-is_vote_in s (kept.Vote j t cw v) = t == s
-is_vote_in s other = false
+-- the slot of a vote; of another change none
+abbrev pub slot_voted : Written → Option ℕ
+slot_voted (written.Record (kept.Vote j t cw v)) = Some t
+slot_voted other = None
+
+abbrev pub is_slot : ℕ → Option ℕ → Bool
+is_slot s None = false
+is_slot s (Some t) = t == s
+
+abbrev pub is_vote_in : ℕ → Written → Bool
+is_vote_in s w = is_slot s (slot_voted w)
 
 -- the votes that were kept in a slot, in order
 abbrev pub votes_of : ℕ → List KeptRecord → List KeptRecord
 votes_of s history = filter (λ (k : KeptRecord). is_vote_in s k.what) history
 
--- the round of a vote; of another record no round, which nothing asks for
-abbrev pub round_in : Record → Round
-round_in (kept.Vote j s cw v) = j
+-- the round of a vote; of another change no round, which nothing asks for
+abbrev pub round_in : Written → Round
+round_in (written.Record (kept.Vote j s cw v)) = j
 round_in other = no_round
 
 -- a vote is listed with its own round

@@ -2,11 +2,11 @@
 
 ghost use Rattle.std.specs.Prelude.{◌≡◌, ◌+◌, ◌<◌, ℕ, IfOk, OnOk, Some, get_or, length, map, slice_get};
 ghost use Rattle.cx_choice.specs.Chains.{HaveVotes, Puts};
-ghost use Rattle.cx_choice.specs.Sorted.{votes_of};
+ghost use Rattle.cx_choice.specs.Sorted.{slot_voted, votes_of};
 
 use cx_base::NoMemory;
 use cx_history::Kept;
-use cx_msg::{KeptRecord, Record};
+use cx_msg::{KeptRecord, Record, Written};
 use std::alloc::Global;
 
 /// Of each slot the number of the first record with a vote in it, and of each record the number of the next one with a vote in
@@ -35,20 +35,34 @@ fn make_room(first: &mut Vec<u32>, slot: usize) -> Result<(), NoMemory>
     Ok(())
 }
 
-// Puts a record before the later votes in its slot, if it is a vote in a slot below the number of records.
+// The slot of a vote; of another change none.
+fn slot_voted(what: &Written) -> Option<u64>
+    ensures { result ≡ slot_voted what.now }
+{
+    match what {
+        Written::Record {
+            what: Record::Vote { slot, .. },
+        } => Some(*slot),
+        _ => None,
+    }
+}
+
+// Puts a change before the later votes in its slot, if it is a vote in a slot below the number of changes.
 fn put(votes: &mut Votes, number: u32, one: KeptRecord) -> Result<(), NoMemory>
     requires room { number < length votes.old.next.items }
     requires fits { number + 1 < 4294967296 }
     ensures { OnOk result (Puts votes.old votes.new number one.what) }
 {
-    if let Record::Vote { slot, .. } = one.what {
-        if slot < votes.next.len() as u64 {
-            let slot = slot as usize;
-            make_room(&mut votes.first, slot)?;
-            votes.next[number as usize] = votes.first[slot];
-            votes.first[slot] = number + 1;
-        }
+    let Some(slot) = slot_voted(&one.what) else {
+        return Ok(());
+    };
+    if slot >= votes.next.len() as u64 {
+        return Ok(());
     }
+    let slot = slot as usize;
+    make_room(&mut votes.first, slot)?;
+    votes.next[number as usize] = votes.first[slot];
+    votes.first[slot] = number + 1;
     Ok(())
 }
 

@@ -14,17 +14,19 @@ ghost use Rattle.cx_choice.specs.Sorted.{IsCast, casts_in};
 use crate::of_round::{OfRound, in_round};
 use cx_base::{Grid, Kind, RoleId, Round, Value, same_value};
 use cx_grid::meet;
-use cx_msg::{KeptRecord, Record};
+use cx_msg::{KeptRecord, Record, Written};
 
-fn is_vote(of: Round, at: u64, wanted: &Value, what: &Record) -> bool
+fn is_vote(of: Round, at: u64, wanted: &Value, what: &Written) -> bool
     ensures { result ≡ is_vote of at wanted.now what.now }
 {
     match what {
-        Record::Vote {
-            round,
-            slot,
-            value,
-            ..
+        Written::Record {
+            what: Record::Vote {
+                round,
+                slot,
+                value,
+                ..
+            },
         } => *round == of && *slot == at && same_value(value, wanted),
         _ => false,
     }

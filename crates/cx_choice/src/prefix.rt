@@ -6,7 +6,7 @@ ghost use Rattle.cx_choice.specs.Prefix.{IsVoteAt, has_value, value_at, value_of
 
 use cx_base::{NoMemory, Value};
 use cx_history::Kept;
-use cx_msg::Record;
+use cx_msg::{Record, Written};
 use std::marker::Model;
 
 /// The values chosen in slot 0, 1 and so on, up to the first slot without one. What is held of each is the number of a vote's
@@ -31,12 +31,14 @@ impl<'a> Model for Chosen<'a> {
 }
 
 // The value of a vote.
-fn value_of(what: Record) -> Value
+fn value_of(what: Written) -> Value
     requires { has_value what ≡ true }
     ensures { result ≡ value_of what }
 {
     match what {
-        Record::Vote { value, .. } => value,
+        Written::Record {
+            what: Record::Vote { value, .. },
+        } => value,
         _ => unreachable!(),
     }
 }

@@ -7,14 +7,17 @@ ghost use Rattle.cx_choice.specs.Sorted.{AreCast, AreRounds, IsCast, begun_by, c
 use crate::of_round::{OfRound, sort};
 use cx_base::{Grid, NoMemory, Round};
 use cx_history::Kept;
-use cx_msg::{KeptRecord, Record};
+use cx_msg::{KeptRecord, Record, Written};
 use std::alloc::Global;
 
-// Puts the round of a record and its grid after others, if it is of a round's begin.
-fn add_round(rounds: &mut Vec<OfRound<Grid>>, what: &Record) -> Result<(), NoMemory>
+// Puts the round of a change and its grid after others, if it is a record of a round's begin.
+fn add_round(rounds: &mut Vec<OfRound<Grid>>, what: &Written) -> Result<(), NoMemory>
     ensures { OnOk result (rounds.new.items ≡ rounds.old.items ++ begun_by what.now) }
 {
-    if let Record::Round { round, grid } = what {
+    if let Written::Record {
+        what: Record::Round { round, grid },
+    } = what
+    {
         rounds.push(OfRound {
             round: *round,
             item: *grid,
@@ -43,12 +46,14 @@ pub fn rounds(alloc: Global, kept: &Kept) -> Result<Vec<OfRound<Grid>>, NoMemory
     Ok(rounds)
 }
 
-// The round of a vote; of another record none.
-fn round_in(what: &Record) -> Round
+// The round of a vote; of another change none.
+fn round_in(what: &Written) -> Round
     ensures { result ≡ round_in what.now }
 {
     match what {
-        Record::Vote { round, .. } => *round,
+        Written::Record {
+            what: Record::Vote { round, .. },
+        } => *round,
         _ => Round::ZERO,
     }
 }

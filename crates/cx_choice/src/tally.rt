@@ -11,7 +11,7 @@ use crate::enough::is_enough;
 use crate::of_round::OfRound;
 use crate::rounds::by_round;
 use cx_base::{Grid, NoMemory, Round, Value, same_value};
-use cx_msg::{KeptRecord, Record};
+use cx_msg::{KeptRecord, Record, Written};
 use std::alloc::Global;
 
 fn is_among(values: &[&Value], wanted: &Value) -> bool
@@ -50,12 +50,12 @@ fn add_value<'a>(
     Ok(())
 }
 
-// The same for a record, if it is a vote.
+// The same for a change, if it is a vote.
 fn add_chosen<'a>(
     rounds: &[OfRound<Grid>],
     votes: &[OfRound<&KeptRecord>],
     at: u64,
-    what: &'a Record,
+    what: &'a Written,
     chosen: &mut Vec<&'a Value>,
 ) -> Result<(), NoMemory>
     requires rounds { IsByRound rounds.now }
@@ -66,11 +66,13 @@ fn add_chosen<'a>(
         || is_whole_vote rounds.now (casts_in votes.now) at v what.now)) }
 {
     match what {
-        Record::Vote {
-            round,
-            slot,
-            value,
-            ..
+        Written::Record {
+            what: Record::Vote {
+                round,
+                slot,
+                value,
+                ..
+            },
         } => add_value(rounds, votes, at, *round, *slot, value, chosen)?,
         _ => {}
     }
@@ -98,11 +100,13 @@ fn chosen_values<'a>(
 }
 
 // Whether this is a vote in this slot, for one of these values.
-fn is_for(values: &[&Value], at: u64, what: &Record) -> bool
+fn is_for(values: &[&Value], at: u64, what: &Written) -> bool
     ensures { result ≡ is_for values.now at what.now }
 {
     match what {
-        Record::Vote { slot, value, .. } => *slot == at && is_among(values, value),
+        Written::Record {
+            what: Record::Vote { slot, value, .. },
+        } => *slot == at && is_among(values, value),
         _ => false,
     }
 }

@@ -44,6 +44,7 @@ request_own index floor (event.Read client seq before reader replica key) is = r
 request_own index floor (event.Deliver number cut) is = refl
 request_own index floor (event.Tick r) is = refl
 request_own index floor (event.Order leader order cut) is = refl
+request_own index floor (event.Snap replica cut) is = refl
 request_own index floor (event.Crash r) is = refl
 request_own index floor (event.Restart r) is = refl
 
@@ -53,6 +54,7 @@ request_named c floor (event.Read client seq before reader replica key) is = rw 
 request_named c floor (event.Deliver number cut) is = refl
 request_named c floor (event.Tick r) is = refl
 request_named c floor (event.Order leader order cut) is = refl
+request_named c floor (event.Snap replica cut) is = refl
 request_named c floor (event.Crash r) is = refl
 request_named c floor (event.Restart r) is = refl
 
@@ -62,6 +64,7 @@ request_told floor (event.Read client seq before reader replica key) = refl
 request_told floor (event.Deliver number cut) = refl
 request_told floor (event.Tick r) = refl
 request_told floor (event.Order leader order cut) = refl
+request_told floor (event.Snap replica cut) = refl
 request_told floor (event.Crash r) = refl
 request_told floor (event.Restart r) = refl
 

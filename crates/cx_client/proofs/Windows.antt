@@ -167,6 +167,7 @@ valid_telling floor (event.Read client seq before reader replica key) fits = fit
 valid_telling floor (event.Deliver number cut) fits = refl
 valid_telling floor (event.Tick role) fits = refl
 valid_telling floor (event.Order leader order cut) fits = refl
+valid_telling floor (event.Snap replica cut) fits = refl
 valid_telling floor (event.Crash role) fits = refl
 valid_telling floor (event.Restart role) fits = refl
 

@@ -57,6 +57,7 @@ same_write (event.Read client seq floor reader replica key) command batcher = re
 same_write (event.Deliver number cut) command batcher = none_asks command.op
 same_write (event.Tick r) command batcher = none_asks command.op
 same_write (event.Order leader order cut) command batcher = none_asks command.op
+same_write (event.Snap replica cut) command batcher = none_asks command.op
 same_write (event.Crash r) command batcher = none_asks command.op
 same_write (event.Restart r) command batcher = none_asks command.op
 
@@ -66,6 +67,7 @@ same_key (event.Read other number told another one last) client seq floor reader
 same_key (event.Deliver number cut) client seq floor reader replica key = refl
 same_key (event.Tick r) client seq floor reader replica key = refl
 same_key (event.Order leader order cut) client seq floor reader replica key = refl
+same_key (event.Snap snapped cut) client seq floor reader replica key = refl
 same_key (event.Crash r) client seq floor reader replica key = refl
 same_key (event.Restart r) client seq floor reader replica key = refl
 
@@ -88,6 +90,7 @@ other_request t e (event.Read client seq floor reader replica key) =
 other_request t e (event.Deliver number cut) = refl
 other_request t e (event.Tick r) = refl
 other_request t e (event.Order leader order cut) = refl
+other_request t e (event.Snap replica cut) = refl
 other_request t e (event.Crash r) = refl
 other_request t e (event.Restart r) = refl
 

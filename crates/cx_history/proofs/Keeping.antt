@@ -1,33 +1,39 @@
--- Records beside the roles that kept them.
-use Rattle.std.proofs.Common.{◌≡◌, ◌<◌, ◌∙◌, ℕ, zero, suc, true, List, [], ◌∷◌, ◌++◌, Some, All, length, slice_get, get_or, refl, ap, sym, arith}
+-- Changes of stores beside the roles whose they are.
+use Rattle.std.proofs.Common.{◌≡◌, ◌<◌, ◌^◌, ◌∙◌, ℕ, zero, suc, true, false, List, [], ◌∷◌, ◌++◌, Some, Ok, All, length, slice_get, get_or, refl, ap, sym, append-nil, arith}
 use Rattle.std.proofs.lemmas.List.{length-map, map-append}
+use Rattle.byteorder.specs.Endian.{big_bytes, big_number}
+use Rattle.byteorder.specs.Numbers.{big_number-reads_back, length-bytes_high_first}
 use Rattle.cx_base.specs.declared.role.RoleId.{RoleId}
-use Rattle.cx_msg.specs.Records.{fits, spelling}
+use Rattle.cx_wire.specs.Format.{u8}
+use Rattle.cx_msg.specs.Records.{kept_record, spelling}
 use Rattle.cx_msg.specs.declared.kept.Record.{Record}
+use Rattle.cx_msg.specs.declared.kept.Record.TheVariants as kept
 use Rattle.cx_msg.specs.declared.input.KeptRecord.{KeptRecord}
+use Rattle.cx_msg.specs.declared.input.Written.{Written}
+use Rattle.cx_msg.specs.declared.input.Written.TheVariants as written
 use Rattle.cx_msg.proofs.RecordLaws.{recorded-again}
 use Rattle.cx_keeper.specs.Pieces.{record_or}
-use Rattle.cx_history.specs.Kept.{IsKept, IsRecord, kept_by, record_in, records_in}
+use Rattle.cx_history.specs.Kept.{IsChange, IsKept, change_fits, change_in, changes_in, holds_slot, IsSlot, kept_by, piece_of, slot_in}
 use Rattle.cx_history.proofs.Steps.{All-push}
 
-pub length-kept : (roles : List RoleId) (records : List Record) → length roles ≡ length records → length (kept_by roles records) ≡ length roles
+pub length-kept : (roles : List RoleId) (changes : List Written) → length roles ≡ length changes → length (kept_by roles changes) ≡ length roles
 length-kept [] records h = refl
 length-kept (role ∷ roles) [] h = absurd (omega arith)
-length-kept (role ∷ roles) (what ∷ records) h = ap suc (length-kept roles records (omega (arith, h)))
+length-kept (role ∷ roles) (what ∷ changes) h = ap suc (length-kept roles changes (omega (arith, h)))
 
-pub one_kept : (roles : List RoleId) (records : List Record) (n : ℕ) (role : RoleId) (what : Record) → slice_get roles n ≡ Some role → slice_get records n ≡ Some what
-    → slice_get (kept_by roles records) n ≡ Some (record { role = role; what = what })
+pub one_kept : (roles : List RoleId) (changes : List Written) (n : ℕ) (role : RoleId) (what : Written) → slice_get roles n ≡ Some role → slice_get changes n ≡ Some what
+    → slice_get (kept_by roles changes) n ≡ Some (record { role = role; what = what })
 one_kept [] records n role what h k = cc
 one_kept (r ∷ roles) [] n role what h k = cc
-one_kept (r ∷ roles) (w ∷ records) zero role what h k = let same : r ≡ role = cc in let also : w ≡ what = cc in rw (same, also) refl
-one_kept (r ∷ roles) (w ∷ records) (suc n) role what h k = one_kept roles records n role what h k
+one_kept (r ∷ roles) (w ∷ changes) zero role what h k = let same : r ≡ role = cc in let also : w ≡ what = cc in rw (same, also) refl
+one_kept (r ∷ roles) (w ∷ changes) (suc n) role what h k = one_kept roles changes n role what h k
 
-pub kept_more : (roles : List RoleId) (records : List Record) (role : RoleId) (what : Record) → length roles ≡ length records
-    → kept_by (roles ++ role ∷ []) (records ++ what ∷ []) ≡ kept_by roles records ++ record { role = role; what = what } ∷ []
+pub kept_more : (roles : List RoleId) (changes : List Written) (role : RoleId) (what : Written) → length roles ≡ length changes
+    → kept_by (roles ++ role ∷ []) (changes ++ what ∷ []) ≡ kept_by roles changes ++ record { role = role; what = what } ∷ []
 kept_more [] [] role what h = refl
-kept_more [] (w ∷ records) role what h = absurd (omega arith)
+kept_more [] (w ∷ changes) role what h = absurd (omega arith)
 kept_more (r ∷ roles) [] role what h = absurd (omega arith)
-kept_more (r ∷ roles) (w ∷ records) role what h = ap (λ (l : List KeptRecord). record { role = r; what = w } ∷ l) (kept_more roles records role what (omega (arith, h)))
+kept_more (r ∷ roles) (w ∷ changes) role what h = ap (λ (l : List KeptRecord). record { role = r; what = w } ∷ l) (kept_more roles changes role what (omega (arith, h)))
 
 -- an element within a list
 pub is_within : {A : Type 0} (xs : List A) (n : ℕ) (x : A) → n < length xs → x ≡ get_or xs n x → slice_get xs n ≡ Some x
@@ -35,19 +41,44 @@ is_within [] n x l e = absurd (omega (arith, l))
 is_within (y ∷ xs) zero x l e = ap Some (sym e)
 is_within (y ∷ xs) (suc n) x l e = is_within xs n x (omega (arith, l)) e
 
--- ---- records as bytes
+-- ---- changes as bytes
 
-record_again : (what : Record) → fits what ≡ true → record_in (spelling what) ≡ what
-record_again what fit = ap record_or (recorded-again what fit)
+-- a record's tag isn't 0
+tag_first : (r : Record) → holds_slot (spelling r) ≡ false
+unfolding kept_record u8
+tag_first (kept.Promise r) = refl
+tag_first (kept.Vote r s cw v) = refl
+tag_first (kept.Water r n) = refl
+tag_first (kept.Match r g) = refl
+tag_first (kept.Garbage r g) = refl
+tag_first (kept.Round r g) = refl
+tag_first (kept.Log vs) = refl
+tag_first (kept.Base f h p c) = refl
+tag_first (kept.Pairs ps) = refl
+tag_first (kept.Notes c f ns) = refl
+tag_first (kept.Tail vs) = refl
 
-pub records_more : (what : Record) (pieces : List (List ℕ)) → fits what ≡ true → records_in (pieces ++ spelling what ∷ []) ≡ records_in pieces ++ what ∷ []
-records_more what pieces fit = map-append (λ (p : List ℕ). record_in p) pieces (spelling what ∷ []) ∙ ap (λ x. records_in pieces ++ x ∷ []) (record_again what fit)
+slot_again : (first : ℕ) → first < 256 ^ 8 → slot_in (0 ∷ big_bytes 8 first) ≡ first
+slot_again first small = ap (λ l. big_number 8 l) (sym (append-nil (big_bytes 8 first))) ∙ big_number-reads_back 8 first [] small
 
-pub are_records_more : (what : Record) (pieces : List (List ℕ)) → fits what ≡ true → All IsRecord pieces → All IsRecord (pieces ++ spelling what ∷ [])
-are_records_more what pieces fit all = All-push IsRecord pieces (spelling what) all (rw (record_again what fit) (recorded-again what fit))
+change_again : (what : Written) → change_fits what ≡ true → IsSlot what → change_in (piece_of what) ≡ what
+change_again (written.Record r) fit small = rw (tag_first r) (ap (λ x. written.Record (record_or x)) (recorded-again r fit))
+change_again (written.Snap first) fit small = ap (λ n. written.Snap n) (slot_again first small)
 
--- as many records as roles and as pieces
-pub counts : (roles : List RoleId) (pieces : List (List ℕ)) → IsKept roles pieces → length (kept_by roles (records_in pieces)) ≡ length pieces
+is_change : (what : Written) → change_fits what ≡ true → IsChange (piece_of what)
+is_change (written.Record r) fit =
+    let again = recorded-again r fit in
+    rw (tag_first r) (again ∙ ap Ok (sym (ap record_or again)))
+is_change (written.Snap first) fit = let long = length-bytes_high_first 8 first in omega (arith, long)
+
+pub changes_more : (what : Written) (pieces : List (List ℕ)) → change_fits what ≡ true → IsSlot what → changes_in (pieces ++ piece_of what ∷ []) ≡ changes_in pieces ++ what ∷ []
+changes_more what pieces fit small = map-append (λ (p : List ℕ). change_in p) pieces (piece_of what ∷ []) ∙ ap (λ x. changes_in pieces ++ x ∷ []) (change_again what fit small)
+
+pub are_changes_more : (what : Written) (pieces : List (List ℕ)) → change_fits what ≡ true → All IsChange pieces → All IsChange (pieces ++ piece_of what ∷ [])
+are_changes_more what pieces fit all = All-push IsChange pieces (piece_of what) all (is_change what fit)
+
+-- as many changes as roles and as pieces
+pub counts : (roles : List RoleId) (pieces : List (List ℕ)) → IsKept roles pieces → length (kept_by roles (changes_in pieces)) ≡ length pieces
 counts roles pieces h =
-    let long : length (records_in pieces) ≡ length pieces = length-map pieces (λ (p : List ℕ). record_in p) in
-    length-kept roles (records_in pieces) (h.same_count ∙ sym long) ∙ h.same_count
+    let long : length (changes_in pieces) ≡ length pieces = length-map pieces (λ (p : List ℕ). change_in p) in
+    length-kept roles (changes_in pieces) (h.same_count ∙ sym long) ∙ h.same_count

@@ -1,33 +1,71 @@
--- Records with the roles that kept them, as they are held.
-use Rattle.std.specs.Prelude.{◌≡◌, List, ℕ, [], ◌∷◌, Ok, All, length, map}
+-- Changes of stores with the roles that keep them, as they are held.
+use Rattle.std.specs.Prelude.{◌≡◌, ◌≤◌, ◌<◌, ◌^◌, ◌==◌, List, ℕ, [], ◌∷◌, Bool, true, false, if◌then◌else◌, Ok, All, drop, length, map}
+use Rattle.std.specs.List.{list_all}
+use Rattle.byteorder.specs.Endian.{big_bytes, big_number}
 use Rattle.cx_base.specs.declared.role.RoleId.{RoleId}
-use Rattle.cx_msg.specs.Records.{recorded}
+use Rattle.cx_msg.specs.Records.{fits, recorded, spelling}
 use Rattle.cx_msg.specs.declared.kept.Record.{Record}
 use Rattle.cx_msg.specs.declared.input.KeptRecord.{KeptRecord}
+use Rattle.cx_msg.specs.declared.input.Written.{Written}
+use Rattle.cx_msg.specs.declared.input.Written.TheVariants as written
 use Rattle.cx_keeper.specs.Pieces.{record_or}
 
--- each record with its role
-abbrev pub kept_by : List RoleId → List Record → List KeptRecord
-kept_by [] records = []
+-- whether the fields of a change's record are in their ranges
+abbrev pub change_fits : Written → Bool
+change_fits (written.Record r) = fits r
+change_fits (written.Snap first) = true
+
+abbrev pub all_changes_fit : List Written → Bool
+all_changes_fit changes = list_all (λ (w : Written). change_fits w) changes
+
+-- eight bytes hold the slot of a change
+abbrev pub IsSlot : Written → Type 0
+IsSlot (written.Record r) = Unit {0}
+IsSlot (written.Snap first) = first < 256 ^ 8
+
+-- each change with its role
+abbrev pub kept_by : List RoleId → List Written → List KeptRecord
+kept_by [] changes = []
 kept_by (role ∷ roles) [] = []
-kept_by (role ∷ roles) (what ∷ records) = record { role = role; what = what } ∷ kept_by roles records
+kept_by (role ∷ roles) (what ∷ changes) = record { role = role; what = what } ∷ kept_by roles changes
 
--- the records alone
-abbrev pub records_kept : List KeptRecord → List Record
-records_kept kept = map (λ (k : KeptRecord). k.what) kept
+-- the changes alone
+abbrev pub changes_kept : List KeptRecord → List Written
+changes_kept kept = map (λ (k : KeptRecord). k.what) kept
 
--- the record that a piece holds: all of its bytes spell it
+-- the bytes of a change: a record's own, which begin with its tag, from 1 on; or a 0 and the eight bytes of a slot
+abbrev pub piece_of : Written → List ℕ
+piece_of (written.Record r) = spelling r
+piece_of (written.Snap first) = 0 ∷ big_bytes 8 first
+
+-- whether a piece holds a slot
+abbrev pub holds_slot : List ℕ → Bool
+holds_slot [] = false
+holds_slot (b ∷ bytes) = b == 0
+
+-- the slot, or the record, that a piece holds: all of its bytes
+abbrev pub slot_in : List ℕ → ℕ
+slot_in piece = big_number 8 (drop 1 piece)
+
 abbrev pub record_in : List ℕ → Record
 record_in piece = record_or (recorded piece)
 
-abbrev pub records_in : List (List ℕ) → List Record
-records_in pieces = map (λ (piece : List ℕ). record_in piece) pieces
+-- the change that a piece holds
+abbrev pub change_in : List ℕ → Written
+change_in piece = if holds_slot piece then written.Snap (slot_in piece) else written.Record (record_in piece)
 
--- a piece holds a record
-abbrev pub IsRecord : List ℕ → Type 0
-IsRecord piece = recorded piece ≡ Ok (record_in piece)
+abbrev pub changes_in : List (List ℕ) → List Written
+changes_in pieces = map (λ (piece : List ℕ). change_in piece) pieces
 
--- each piece holds a record, and for each there is a role
+-- a piece holds a slot, or else a record
+abbrev pub IsOneOf : Bool → List ℕ → Type 0
+IsOneOf true piece = 9 ≤ length piece
+IsOneOf false piece = recorded piece ≡ Ok (record_in piece)
+
+abbrev pub IsChange : List ℕ → Type 0
+IsChange piece = IsOneOf (holds_slot piece) piece
+
+-- each piece holds a change, and for each there is a role
 pub record IsKept (roles : List RoleId) (pieces : List (List ℕ)) : Type 0 where
   pub same_count : length roles ≡ length pieces
-  pub are_records : All IsRecord pieces
+  pub are_changes : All IsChange pieces

@@ -21,6 +21,7 @@ asked (event.Read client seq floor reader replica key) = 0 ∷ key
 asked (event.Deliver number cut) = []
 asked (event.Tick r) = []
 asked (event.Order leader order cut) = []
+asked (event.Snap replica cut) = []
 asked (event.Crash r) = []
 asked (event.Restart r) = []
 

@@ -1,4 +1,4 @@
-//! The histories of a run: the events, the datagrams that were sent, the records that were kept.
+//! The histories of a run: the events, the datagrams that were sent, the changes of stores.
 //!
 //! `Sent` and `Kept` hold bytes, `Events` what was asked with each number. Its theorem is: contracts see
 //! `Sent`, `Kept` and `Events` as the lists of what was pushed, which `Sent::get` and `Kept::at` read again

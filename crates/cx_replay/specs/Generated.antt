@@ -32,7 +32,7 @@ gen_events seed (suc count) = with_next (gen_state seed count) (gen_events seed 
 unfoldable pub count_line : List ℕ → ℕ → List ℕ
 count_line name count = name ++ codes " " ++ decimal count ++ codes "\n"
 
--- how much happened in a run: its events, the datagrams, answers and answers to reads that were sent, and the records that were kept
+-- how much happened in a run: its events, the datagrams, answers and answers to reads that were sent, and the changes of stores
 unfoldable pub counts_text : World → List ℕ
 counts_text w =
     count_line (codes "events") (length w.events) ++ count_line (codes "datagrams") (length w.sent)

@@ -1,6 +1,8 @@
 -- What is promised of the run of an input, however far it was run.
-use Rattle.std.specs.Prelude.{ℕ, List, Bool, Option}
+use Rattle.std.specs.Prelude.{◌≡◌, ℕ, List, Bool, true, Option}
+use Rattle.std.specs.List.{list_all}
 use Rattle.std.specs.Io.KnownBytes.{Consumes}
+use Rattle.cx_base.specs.Asked.{is_valid_event}
 use Rattle.cx_base.specs.declared.cluster.Cluster.{Cluster}
 use Rattle.cx_base.specs.declared.event.Event.{Event}
 use Rattle.cx_model.specs.Member.{Begins}
@@ -10,9 +12,10 @@ use Rattle.cx_replay.specs.Input.{heard_of}
 use Rattle.cx_replay.specs.Heard.{Heard, Nothing, BadHeader, Lines}
 use Rattle.cx_script.specs.Generator.{gen_cluster}
 
--- the run of these events is lawful, and so it was after each of them
-abbrev pub IsLawfulAlong : Cluster → List Event → Type 0
-IsLawfulAlong c es = (so_far : List Event) → Begins so_far es → IsLawful c so_far
+-- the run of these events is lawful, and so it was after each of them; each is one that the world takes
+pub record IsLawfulAlong (c : Cluster) (es : List Event) : Type 0 where
+  pub lawful : (so_far : List Event) → Begins so_far es → IsLawful c so_far
+  pub taken : (so_far : List Event) → Begins so_far es → list_all is_valid_event so_far ≡ true
 
 -- the run of the events that bytes say
 abbrev pub IsLawfulRun : Heard → Type 0

@@ -9,7 +9,7 @@ use Rattle.cx_base.specs.Asked.{is_valid_event}
 use Rattle.cx_base.specs.declared.cluster.Cluster.{Cluster}
 use Rattle.cx_base.specs.declared.event.Event.{Event}
 use Rattle.cx_base.specs.declared.event.Event.TheVariants as event
-use Rattle.cx_base.specs.declared.event.Event.TheVariants.{Write, Read, Deliver, Tick, Crash, Restart}
+use Rattle.cx_base.specs.declared.event.Event.TheVariants.{Write, Read, Deliver, Tick, Snap, Crash, Restart}
 use Rattle.cx_script.specs.declared.fault.LineFault.{LineFault}
 use Rattle.cx_script.specs.declared.fault.LineFault.TheVariants.{Word}
 use Rattle.cx_script.specs.Lines.{Spelled, with_line, lines_of}
@@ -37,6 +37,7 @@ small c (Read other number floor reader replica key) client seq named is =
 small c (Deliver number cut) client seq named is = cc
 small c (Tick role) client seq named is = cc
 small c (event.Order leader order cut) client seq named is = cc
+small c (Snap replica cut) client seq named is = cc
 small c (Crash role) client seq named is = cc
 small c (Restart role) client seq named is = cc
 

@@ -6,7 +6,7 @@ use Rattle.cx_base.specs.Asked.{is_valid_event}
 use Rattle.cx_base.specs.declared.cluster.Cluster.{Cluster}
 use Rattle.cx_base.specs.declared.event.Event.{Event}
 use Rattle.cx_base.specs.declared.event.Event.TheVariants as event
-use Rattle.cx_base.specs.declared.event.Event.TheVariants.{Write, Read, Deliver, Tick, Crash, Restart}
+use Rattle.cx_base.specs.declared.event.Event.TheVariants.{Write, Read, Deliver, Tick, Snap, Crash, Restart}
 use Rattle.cx_base.specs.declared.event.Order.TheVariants.{Collect}
 use Rattle.cx_base.specs.declared.event.Cut.{Cut}
 use Rattle.cx_base.specs.declared.event.Cut.TheVariants.{Whole}
@@ -14,7 +14,7 @@ use Rattle.cx_base.specs.Grid.{Shape}
 use Rattle.cx_base.specs.declared.role.Kind.TheVariants.{Client, Batcher, Leader, Replica, Reader}
 use Rattle.cx_script.specs.declared.fault.LineFault.{LineFault}
 use Rattle.cx_script.specs.declared.fault.LineFault.TheVariants.{Long}
-use Rattle.cx_script.specs.Grammar.{◌>>=◌, next, op_at, cut_at, grid_at, write_event, read_event, deliver_event, round_of, collect_event, server_of, event_of, is_comment, event_in, line_event}
+use Rattle.cx_script.specs.Grammar.{◌>>=◌, next, op_at, cut_at, grid_at, write_event, read_event, deliver_event, round_of, collect_event, snap_event, server_of, event_of, is_comment, event_in, line_event}
 use Rattle.cx_script.specs.Lines.{Spelled, with_line, spelled_from, lines_of, schedule_of}
 use Rattle.cx_script.specs.Names.{names_event, names_members, names_server}
 use Rattle.cx_script.specs.Places.{seq_word, number_word, key_word, index_word, server_word}
@@ -71,6 +71,12 @@ collect_ok c words =
     then_ok _ (IsGood c) (next (index_word c Leader) words) _ (next_ok _ (index_word c Leader) (index_ok c Leader) words) (λ (leader, words) h.
     ended_ok (IsGood c) (event.Order leader Collect Whole) words (record { taken = refl; named = rw h refl }))
 
+snap_ok : (c : Cluster) (words : List (List ℕ)) → IfOk (snap_event c words) (IsGood c)
+unfolding snap_event
+snap_ok c words =
+    then_ok _ (IsGood c) (next (index_word c Replica) words) _ (next_ok _ (index_word c Replica) (index_ok c Replica) words) (λ (replica, words) h.
+    then_ok _ (IsGood c) (cut_at words) _ (whatever (cut_at words)) (λ cut k. record { taken = refl; named = h }))
+
 servers_ok : (c : Cluster) (words : List (List ℕ)) → IfOk (server_of c words) (λ role. names_server c role ≡ true)
 unfolding server_of
 servers_ok c words =
@@ -90,8 +96,9 @@ event_ok c verb words =
     or_else (bytes_eq verb (codes "lead")) _ _ (then_ok _ (IsGood c) (round_of c words) _ round (λ (leader, grid, cut) h. record { taken = refl; named = h })) (
     or_else (bytes_eq verb (codes "change")) _ _ (then_ok _ (IsGood c) (round_of c words) _ round (λ (leader, grid, cut) h. record { taken = refl; named = h })) (
     or_else (bytes_eq verb (codes "collect")) _ _ (collect_ok c words) (
+    or_else (bytes_eq verb (codes "snap")) _ _ (snap_ok c words) (
     or_else (bytes_eq verb (codes "crash")) _ _ (then_ok _ (IsGood c) (server_of c words) _ server (λ role h. record { taken = refl; named = h })) (
-    or_else (bytes_eq verb (codes "restart")) _ _ (then_ok _ (IsGood c) (server_of c words) _ server (λ role h. record { taken = refl; named = h })) tt))))))))
+    or_else (bytes_eq verb (codes "restart")) _ _ (then_ok _ (IsGood c) (server_of c words) _ server (λ role h. record { taken = refl; named = h })) tt)))))))))
 
 -- the event of a line, if it has one
 abbrev IsGoodLine : Cluster → Option Event → Type 0

@@ -9,7 +9,7 @@ use Rattle.cx_base.specs.declared.event.Cut.{Cut}
 use Rattle.cx_base.specs.declared.event.Cut.TheVariants.{Whole, Torn, Kept}
 use Rattle.cx_base.specs.declared.event.Event.{Event}
 use Rattle.cx_base.specs.declared.event.Event.TheVariants as event
-use Rattle.cx_base.specs.declared.event.Event.TheVariants.{Write, Read, Deliver, Tick, Crash, Restart}
+use Rattle.cx_base.specs.declared.event.Event.TheVariants.{Write, Read, Deliver, Tick, Snap, Crash, Restart}
 use Rattle.cx_base.specs.declared.event.Order.TheVariants.{Lead, Change, Collect}
 use Rattle.cx_base.specs.declared.role.Kind.TheVariants.{Client, Batcher, Leader, Replica, Reader}
 use Rattle.cx_base.specs.declared.role.RoleId.{RoleId}
@@ -105,6 +105,13 @@ round_of c words =
 unfoldable pub collect_event : Cluster → List (List ℕ) → Result Event LineFault
 collect_event c words = next (index_word c Leader) words >>= (λ (leader, words). ended (event.Order leader Collect Whole) words)
 
+-- replica:P, and a cut
+unfoldable pub snap_event : Cluster → List (List ℕ) → Result Event LineFault
+snap_event c words =
+    next (index_word c Replica) words >>= (λ (replica, words).
+    cut_at words >>= (λ cut.
+    Ok (Snap replica cut)))
+
 -- ROLE
 unfoldable pub server_of : Cluster → List (List ℕ) → Result RoleId LineFault
 server_of c words = next (server_word c) words >>= (λ (role, words). ended role words)
@@ -119,6 +126,7 @@ event_of c verb words =
     else if bytes_eq verb (codes "lead") then round_of c words >>= (λ (leader, grid, cut). Ok (event.Order leader (Lead grid) cut))
     else if bytes_eq verb (codes "change") then round_of c words >>= (λ (leader, grid, cut). Ok (event.Order leader (Change grid) cut))
     else if bytes_eq verb (codes "collect") then collect_event c words
+    else if bytes_eq verb (codes "snap") then snap_event c words
     else if bytes_eq verb (codes "crash") then server_of c words >>= (λ role. Ok (Crash role))
     else if bytes_eq verb (codes "restart") then server_of c words >>= (λ role. Ok (Restart role))
     else Err Word

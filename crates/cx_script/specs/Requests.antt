@@ -4,7 +4,7 @@ use Rattle.std.specs.List.{list_all, list_any}
 use Rattle.cx_base.specs.declared.cluster.Cluster.{Cluster}
 use Rattle.cx_base.specs.declared.event.Event.{Event}
 use Rattle.cx_base.specs.declared.event.Event.TheVariants as event
-use Rattle.cx_base.specs.declared.event.Event.TheVariants.{Write, Read, Deliver, Tick, Crash, Restart}
+use Rattle.cx_base.specs.declared.event.Event.TheVariants.{Write, Read, Deliver, Tick, Snap, Crash, Restart}
 use Rattle.cx_script.specs.declared.fault.LineFault.{LineFault}
 use Rattle.cx_script.specs.declared.fault.LineFault.TheVariants.{Number, Word}
 use Rattle.cx_script.specs.Grammar.{line_event}
@@ -18,6 +18,7 @@ asker (Read client seq floor reader replica key) = Some (client, seq)
 asker (Deliver number cut) = None
 asker (Tick role) = None
 asker (event.Order leader order cut) = None
+asker (Snap replica cut) = None
 asker (Crash role) = None
 asker (Restart role) = None
 
@@ -100,6 +101,7 @@ tells_no_floor (Read client seq floor reader replica key) = floor + 1 == seq
 tells_no_floor (Deliver number cut) = true
 tells_no_floor (Tick role) = true
 tells_no_floor (event.Order leader order cut) = true
+tells_no_floor (Snap replica cut) = true
 tells_no_floor (Crash role) = true
 tells_no_floor (Restart role) = true
 

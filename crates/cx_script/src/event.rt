@@ -1,7 +1,7 @@
 //! The event of a line.
 
 ghost use Rattle.std.specs.Prelude.{◌≡◌};
-ghost use Rattle.cx_script.specs.Grammar.{write_event, read_event, deliver_event, round_of, collect_event, server_of, event_of, line_event};
+ghost use Rattle.cx_script.specs.Grammar.{write_event, read_event, deliver_event, round_of, collect_event, snap_event, server_of, event_of, line_event};
 
 use crate::fault::LineFault;
 use crate::place::is;
@@ -82,6 +82,15 @@ fn collect_event(cluster: &Cluster, mut words: Words) -> Result<Event, LineFault
     })
 }
 
+#[tactic(auto, unfolding(crate::specs::Grammar::snap_event))]
+fn snap_event(cluster: &Cluster, mut words: Words) -> Result<Event, LineFault>
+    ensures { result ≡ snap_event cluster.now words.entry }
+{
+    let replica = words.index(cluster, Kind::Replica)?;
+    let cut = words.cut()?;
+    Ok(Event::Snap { replica, cut })
+}
+
 #[tactic(auto, unfolding(crate::specs::Grammar::server_of))]
 fn server(cluster: &Cluster, mut words: Words) -> Result<RoleId, LineFault>
     ensures { result ≡ server_of cluster.now words.entry }
@@ -113,6 +122,8 @@ fn event(cluster: &Cluster, verb: &[u8], words: Words) -> Result<Event, LineFaul
         Ok(Event::Order { leader, order, cut })
     } else if is(verb, "collect") {
         collect_event(cluster, words)
+    } else if is(verb, "snap") {
+        snap_event(cluster, words)
     } else if is(verb, "crash") {
         Ok(Event::Crash(server(cluster, words)?))
     } else if is(verb, "restart") {
@@ -132,6 +143,7 @@ fn event(cluster: &Cluster, verb: &[u8], words: Words) -> Result<Event, LineFaul
 /// - `deliver N`, `deliver N torn`, `deliver N kept`
 /// - `lead leader:L RxC A,B,..` and `change leader:L RxC A,B,..`, the same with `torn` or `kept`
 /// - `collect leader:L`
+/// - `snap replica:P`, the same with `torn` or `kept`
 /// - `tick ROLE`, `crash ROLE` and `restart ROLE`, any role but a client
 ///
 /// Numbers are decimal digits, of 64 bits at most. SEQ is a request's number, at least 1, or its number and its floor, as in

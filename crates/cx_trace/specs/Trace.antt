@@ -8,7 +8,7 @@ use Rattle.cx_base.specs.declared.event.Event.TheVariants as event
 use Rattle.cx_base.specs.declared.event.Order.{Order}
 use Rattle.cx_base.specs.declared.event.Order.TheVariants.{Lead, Change, Collect}
 use Rattle.cx_base.specs.declared.role.RoleId.{RoleId}
-use Rattle.cx_base.specs.declared.role.Kind.TheVariants.{Client, Leader}
+use Rattle.cx_base.specs.declared.role.Kind.TheVariants.{Client, Leader, Replica}
 use Rattle.cx_msg.specs.Letter.{Letter, body}
 use Rattle.cx_msg.specs.Names.{name_of_message}
 use Rattle.cx_msg.specs.declared.message.Msg.{Msg}
@@ -46,6 +46,7 @@ happening_text (event.Read client seq floor reader replica key) who = codes "rea
 happening_text (event.Deliver number cut) who = codes "deliver " ++ decimal number ++ reached_text who
 happening_text (event.Tick r) who = codes "tick " ++ role_text r
 happening_text (event.Order leader order cut) who = order_text order ++ role_text (role Leader leader)
+happening_text (event.Snap replica cut) who = codes "snap " ++ role_text (role Replica replica)
 happening_text (event.Crash r) who = codes "crash " ++ role_text r
 happening_text (event.Restart r) who = codes "restart " ++ role_text r
 

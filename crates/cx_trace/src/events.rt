@@ -62,6 +62,10 @@ fn put_happening(text: &mut Vec<u8>, event: &Event, who: Option<RoleId>) -> Resu
             put_order(text, order)?;
             put_role_at(text, Kind::Leader, u64::from(*leader))
         }
+        Event::Snap { replica, .. } => {
+            put(text, b"snap ")?;
+            put_role_at(text, Kind::Replica, u64::from(*replica))
+        }
         Event::Crash(role) => {
             put(text, b"crash ")?;
             put_role(text, *role)

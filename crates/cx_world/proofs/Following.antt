@@ -1,23 +1,18 @@
--- The values of a replica's records, one record after another.
-use Rattle.std.proofs.Common.{◌≡◌, ◌<◌, ◌≤◌, ◌+◌, ℕ, zero, suc, List, [], ◌∷◌, ◌++◌, Some, drop, get_or, length, slice_get, ap, sym, refl, inl, inr, ◌∙◌, append_assoc, append-nil, arith}
-use Rattle.std.proofs.lemmas.Bool.{cases_Bool}
+-- The values of a replica's changes, one change after another.
+use Rattle.std.proofs.Common.{◌≡◌, ◌<◌, ◌≤◌, ◌+◌, ℕ, zero, suc, List, [], ◌∷◌, ◌++◌, Some, drop, get_or, length, slice_get, ap, sym, refl, ◌∙◌, append_assoc, arith}
 use Rattle.std.proofs.lemmas.List.{drop_more, length-append}
 use Rattle.cx_base.specs.Fold.{command_list, commands_of, fold, map_behind}
-use Rattle.cx_base.specs.Role.{role, same_role}
+use Rattle.cx_base.specs.Role.{role}
 use Rattle.cx_base.specs.declared.command.Command.{Command}
 use Rattle.cx_base.specs.declared.command.Pair.{Pair}
 use Rattle.cx_base.specs.declared.command.Value.{Value}
 use Rattle.cx_base.specs.declared.role.Kind.TheVariants as kind
 use Rattle.cx_base.specs.declared.role.RoleId.{RoleId}
 use Rattle.cx_kv.proofs.Behind.{behind_both}
-use Rattle.cx_model.specs.Replica.{ReplicaDurable, replica_after, replica_rules}
-use Rattle.cx_model.specs.Rules.{folded_from}
-use Rattle.cx_model.specs.World.{log_of, records_of}
-use Rattle.cx_msg.specs.declared.kept.Record.{Record}
-use Rattle.cx_msg.specs.declared.kept.Record.TheVariants as kept
+use Rattle.cx_model.specs.World.{log_of}
 use Rattle.cx_msg.specs.declared.input.KeptRecord.{KeptRecord}
 use Rattle.cx_choice.proofs.Numbered.{next_kept}
-use Rattle.cx_world.specs.Folded.{values_by, values_in, values_kept}
+use Rattle.cx_world.specs.Folded.{values_by, values_kept}
 
 -- the commands of values after others
 pub commands_both : (vs more : List Value) → command_list (vs ++ more) ≡ command_list vs ++ command_list more
@@ -42,33 +37,17 @@ value_next values i v before new_before map new_map commands all there is leaves
     sym (behind_both before map (commands_of v) (command_list rest)) ∙ (rw next at so_far) in
     rw (begins, leaves) (told, left)
 
--- the values after a record's
+-- the values after a change's
 pub values_next : (me : RoleId) (history : List KeptRecord) (n : ℕ) (one : KeptRecord) → slice_get history n ≡ Some one
     → values_kept me (drop n history) ≡ values_by me one ++ values_kept me (drop (n + 1) history)
 values_next me history n one at = ap (values_kept me) (next_kept history n one at)
 
-after_record : (log : List Value) (what : Record) → replica_after (record { log = log }) what ≡ record { log = log ++ values_in what }
-after_record log (kept.Promise i) = ap (λ l. record { log = l }) (sym (append-nil log))
-after_record log (kept.Vote i s cw v) = ap (λ l. record { log = l }) (sym (append-nil log))
-after_record log (kept.Water i mark) = ap (λ l. record { log = l }) (sym (append-nil log))
-after_record log (kept.Match i g) = ap (λ l. record { log = l }) (sym (append-nil log))
-after_record log (kept.Garbage i g) = ap (λ l. record { log = l }) (sym (append-nil log))
-after_record log (kept.Round i g) = ap (λ l. record { log = l }) (sym (append-nil log))
-after_record log (kept.Log values) = refl
-
-log_behind : (me : RoleId) (log : List Value) (ks : List KeptRecord) → (folded_from replica_rules (record { log = log }) (records_of me ks)).log ≡ log ++ values_kept me ks
-log_behind me log [] = sym (append-nil log)
-log_behind me log (k ∷ ks) =
-    elim (cases_Bool (same_role me k.role)) [
-      | inl mine ↦ rw mine (ap (λ (d : ReplicaDurable). (folded_from replica_rules d (records_of me ks)).log) (after_record log k.what) ∙ log_behind me (log ++ values_in k.what) ks ∙ append_assoc log (values_in k.what) (values_kept me ks))
-      | inr other ↦ rw other (log_behind me log ks)
-    ]
-
 -- all values that a replica kept
 pub all_values : (p : ℕ) (history : List KeptRecord) → log_of p history ≡ values_kept (role kind.Replica p) history
-all_values p history = log_behind (role kind.Replica p) [] history
+all_values p [] = refl
+all_values p (k ∷ ks) = ap (λ l. values_by (role kind.Replica p) k ++ l) (all_values p ks)
 
--- one record more was executed
+-- one change more was executed
 pub record IsExecuted (me : RoleId) (history : List KeptRecord) (n held : ℕ) (before : List Command) (map : List Pair) : Type 0 where
   pub held_is : held + length (values_kept me (drop n history)) ≡ length (values_kept me history)
   pub map_is : map_behind before map (command_list (values_kept me (drop n history))) ≡ fold (values_kept me history)
@@ -91,7 +70,7 @@ drop_end [] (suc n) h = refl
 drop_end (k ∷ history) zero h = absurd (omega arith)
 drop_end (k ∷ history) (suc n) h = drop_end history n (omega arith)
 
--- all records were executed
+-- all changes were executed
 pub executed_all : (p : ℕ) (history : List KeptRecord) (n held : ℕ) (before : List Command) (map : List Pair) → length history ≤ n
     → IsExecuted (role kind.Replica p) history n held before map → (held ≡ length (log_of p history)) × (map ≡ fold (log_of p history))
 executed_all p history n held before map done so_far =

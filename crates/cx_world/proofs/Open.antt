@@ -4,7 +4,7 @@ use Rattle.std.specs.Prelude.{slice_get}
 use Rattle.std.proofs.lemmas.Option.{same_Some}
 use Rattle.cx_base.specs.declared.cluster.Cluster.{Cluster}
 use Rattle.cx_base.specs.declared.role.Kind.{Kind}
-use Rattle.cx_model.specs.Rules.{Running}
+use Rattle.cx_model.specs.Rules.{Rules, Running}
 use Rattle.cx_model.specs.World.{fresh_roles}
 use Rattle.cx_world.specs.Seat.{Seat, volatile_of, roles_in, IsSeat, AreSeats}
 
@@ -24,8 +24,8 @@ get_last (z ∷ xs) x y (suc j) e = elim (get_last xs x y j e) [
   | inr p ↦ inr ((let q = p.0 in omega arith), p.1)
 ]
 
-pub one_more_seat : {S : Type 0} (c : Cluster) (k : Kind) (seats : List (Seat S)) (seat : Seat S) (i : ℕ) → AreSeats c k [] seats → length seats ≡ i → IsSeat c (record { kind = k; index = i }) [] seat → AreSeats c k [] (seats ++ seat ∷ [])
-one_more_seat c k seats seat i are size is j there e = elim (get_last seats seat there j e) [
+pub one_more_seat : {S D V : Type 0} (rules : Rules D V) (c : Cluster) (k : Kind) (seats : List (Seat S)) (seat : Seat S) (i : ℕ) → AreSeats rules c k [] seats → length seats ≡ i → IsSeat rules c (record { kind = k; index = i }) [] seat → AreSeats rules c k [] (seats ++ seat ∷ [])
+one_more_seat rules c k seats seat i are size is j there e = elim (get_last seats seat there j e) [
   | inl p ↦ are j there p
-  | inr p ↦ subst (λ n. IsSeat c (record { kind = k; index = n }) [] there) (sym (p.0 ∙ size)) (subst (λ s. IsSeat c (record { kind = k; index = i }) [] s) p.1 is)
+  | inr p ↦ subst (λ n. IsSeat rules c (record { kind = k; index = n }) [] there) (sym (p.0 ∙ size)) (subst (λ s. IsSeat rules c (record { kind = k; index = i }) [] s) p.1 is)
 ]

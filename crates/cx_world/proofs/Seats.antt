@@ -1,4 +1,4 @@
--- An act at one of several seats is the model's act at that role, and leaves the seats with their parts of the history.
+-- An act at one of several seats is the model's act at that role, and leaves the seats with their lists by the history.
 use Rattle.std.proofs.Common.{◌≡◌, ◌==◌, ℕ, zero, suc, true, false, List, [], ◌∷◌, ◌++◌, Option, None, Some, ap, sym, ◌∙◌, subst, append-nil, refl, inl, inr, ◌⊎◌}
 use Rattle.std.specs.Prelude.{slice_get, slice_set, slice_index_or}
 use Rattle.std.specs.Option.{option_to_list}
@@ -12,7 +12,7 @@ use Rattle.cx_base.specs.Role.{code_of}
 use Rattle.cx_model.specs.Acceptor.{AcceptorDurable, acceptor_rules}
 use Rattle.cx_model.specs.Batcher.{BatcherVolatile, batcher_rules}
 use Rattle.cx_model.specs.Leader.{LeaderDurable, LeaderVolatile, leader_rules}
-use Rattle.cx_model.specs.Lists.{get_set_same, get_set_other, same_number, bool_cases, differ_role, not_both, number_itself, records_own, records_other}
+use Rattle.cx_model.specs.Lists.{get_set_same, get_set_other, same_number, bool_cases, differ_role, not_both, number_itself, list_own, list_other, list_with}
 use Rattle.cx_model.specs.Matchmaker.{MatchmakerDurable, matchmaker_rules}
 use Rattle.cx_model.specs.Proxy.{ProxyVolatile, proxy_rules}
 use Rattle.cx_model.specs.Reader.{ReaderVolatile, reader_rules}
@@ -20,11 +20,11 @@ use Rattle.cx_model.specs.Replica.{ReplicaDurable, ReplicaVolatile, replica_rule
 use Rattle.cx_model.specs.Rules.{Rules, Running, folded}
 use Rattle.cx_model.specs.Turn.{turn}
 use Rattle.cx_model.specs.Unbatcher.{unbatcher_rules}
-use Rattle.cx_model.specs.World.{World, Roles, Turns, turn_at, turn_found, turn_done, records_of, kept_by, act_of, act_at, of_batcher, of_leader, of_proxy, of_acceptor, of_matchmaker, of_replica, of_unbatcher, of_reader}
+use Rattle.cx_model.specs.World.{World, Roles, Turns, turn_at, turn_found, turn_done, list_of, kept_by, act_of, act_at, of_batcher, of_leader, of_proxy, of_acceptor, of_matchmaker, of_replica, of_unbatcher, of_reader}
 use Rattle.cx_msg.specs.Letter.{Letter}
 use Rattle.cx_msg.specs.declared.input.Act.{Act}
 use Rattle.cx_msg.specs.declared.input.KeptRecord.{KeptRecord}
-use Rattle.cx_msg.specs.declared.kept.Record.{Record}
+use Rattle.cx_msg.specs.declared.input.Written.{Written}
 use Rattle.cx_world.specs.Seat.{Seat, volatile_of, seat_turn, TurnsFound, TurnsAt, IsSeat, AreSeats}
 use Rattle.cx_world.specs.World.{SeatLists, roles_of, volatiles, HasSeats, IsChange}
 
@@ -43,102 +43,102 @@ volatiles_set (s ∷ seats) zero after = refl
 volatiles_set (s ∷ seats) (suc i) after = ap (λ l. volatile_of (λ s. s) s.role ∷ l) (volatiles_set seats i after)
 
 -- what an act at one place comes to
-pub record AreTurned {D V : Type 0} (c : Cluster) (k : Kind) (kept : List KeptRecord) (who : RoleId) (t : Turns V) (news : List (Seat (Running D V))) (w : Why) (r : Option Record) (sent : List Letter) : Type 0 where
+pub record AreTurned {D V : Type 0} (rules : Rules D V) (c : Cluster) (k : Kind) (kept : List KeptRecord) (who : RoleId) (t : Turns V) (news : List (Seat (Running D V))) (w : Why) (r : Option Written) (sent : List Letter) : Type 0 where
   pub why : w ≡ t.why
   pub roles : volatiles news ≡ t.roles
   pub record_kept : kept_by who r ≡ t.kept
   pub sends : sent ≡ t.sends
-  pub seats : AreSeats c k (kept ++ kept_by who r) news
+  pub seats : AreSeats rules c k (kept ++ kept_by who r) news
 
-module _ {S : Type 0} (c : Cluster) (k : Kind) (kept : List KeptRecord) (who : RoleId) (is_kind : who.kind ≡ k) (seats : List (Seat S)) (are : AreSeats c k kept seats) (r : Option Record) where
+module _ {S D V : Type 0} (rules : Rules D V) (c : Cluster) (k : Kind) (kept : List KeptRecord) (who : RoleId) (is_kind : who.kind ≡ k) (seats : List (Seat S)) (are : AreSeats rules c k kept seats) (r : Option Written) where
   who_is : ◌≡◌ {A = RoleId} (record { kind = k; index = who.index }) who
   who_is = ap (λ x. record { kind = x; index = who.index }) (sym is_kind)
 
-  other_seat : (j : ℕ) (seat : Seat S) → (j ≡ who.index → ⊥) → slice_get seats j ≡ Some seat → IsSeat c (record { kind = k; index = j }) (kept ++ kept_by who r) seat
+  other_seat : (j : ℕ) (seat : Seat S) → (j ≡ who.index → ⊥) → slice_get seats j ≡ Some seat → IsSeat rules c (record { kind = k; index = j }) (kept ++ kept_by who r) seat
   other_seat j seat differs e =
       let h = are j seat e in
       let apart : (◌≡◌ {A = RoleId} (record { kind = k; index = j }) who → ⊥) = λ p. differs (ap (λ (x : RoleId). x.index) p) in
       record {
         cluster = h.cluster;
         me = h.me;
-        records = h.records ∙ sym (records_other (record { kind = k; index = j }) who kept r (differ_role (record { kind = k; index = j }) who apart));
+        records = h.records ∙ sym (list_other rules (record { kind = k; index = j }) who kept r (differ_role (record { kind = k; index = j }) who apart));
       }
 
-  own_seat : (seat after : Seat S) → slice_get seats who.index ≡ Some seat → after.cluster ≡ seat.cluster → after.me ≡ seat.me → after.records ≡ seat.records ++ option_to_list r → IsSeat c (record { kind = k; index = who.index }) (kept ++ kept_by who r) after
+  own_seat : (seat after : Seat S) → slice_get seats who.index ≡ Some seat → after.cluster ≡ seat.cluster → after.me ≡ seat.me → after.records ≡ list_with rules seat.records r → IsSeat rules c (record { kind = k; index = who.index }) (kept ++ kept_by who r) after
   own_seat seat after e same_cluster same_me more =
       let h = are who.index seat e in
       record {
         cluster = same_cluster ∙ h.cluster;
         me = same_me ∙ h.me;
-        records = more ∙ ap (λ l. l ++ option_to_list r) (h.records ∙ ap (λ x. records_of x kept) who_is) ∙ sym (records_own who kept r) ∙ ap (λ x. records_of x (kept ++ kept_by who r)) (sym who_is);
+        records = more ∙ ap (λ l. list_with rules l r) (h.records ∙ ap (λ x. list_of rules x kept) who_is) ∙ sym (list_own rules who kept r) ∙ ap (λ x. list_of rules x (kept ++ kept_by who r)) (sym who_is);
       }
 
-  pub set_seats : (seat after : Seat S) → slice_get seats who.index ≡ Some seat → after.cluster ≡ seat.cluster → after.me ≡ seat.me → after.records ≡ seat.records ++ option_to_list r → AreSeats c k (kept ++ kept_by who r) (slice_set seats who.index after)
+  pub set_seats : (seat after : Seat S) → slice_get seats who.index ≡ Some seat → after.cluster ≡ seat.cluster → after.me ≡ seat.me → after.records ≡ list_with rules seat.records r → AreSeats rules c k (kept ++ kept_by who r) (slice_set seats who.index after)
   set_seats seat after found same_cluster same_me more j there e = go (bool_cases (j == who.index))
     where
-      go : ((j == who.index) ≡ true) ⊎ ((j == who.index) ≡ false) → IsSeat c (record { kind = k; index = j }) (kept ++ kept_by who r) there
+      go : ((j == who.index) ≡ true) ⊎ ((j == who.index) ≡ false) → IsSeat rules c (record { kind = k; index = j }) (kept ++ kept_by who r) there
       go (inl same) =
           let at = same_number j who.index same in
           let here : slice_get (slice_set seats who.index after) who.index ≡ Some there = subst (λ n. slice_get (slice_set seats who.index after) n ≡ Some there) at e in
           let it : after ≡ there = same_Some after there (sym (get_set_same seats who.index seat after found) ∙ here) in
-          subst (λ n. IsSeat c (record { kind = k; index = n }) (kept ++ kept_by who r) there) (sym at)
-          (subst (λ x. IsSeat c (record { kind = k; index = who.index }) (kept ++ kept_by who r) x) it (own_seat seat after found same_cluster same_me more))
+          subst (λ n. IsSeat rules c (record { kind = k; index = n }) (kept ++ kept_by who r) there) (sym at)
+          (subst (λ x. IsSeat rules c (record { kind = k; index = who.index }) (kept ++ kept_by who r) x) it (own_seat seat after found same_cluster same_me more))
       go (inr other) =
           let differs : (j ≡ who.index → ⊥) = λ p. not_both (j == who.index) (subst (λ n. (j == n) ≡ true) p (number_itself j)) other in
           other_seat j there differs (sym (get_set_other seats who.index j after differs) ∙ e)
 
--- seats of another kind have kept nothing
-pub others_stay : {S : Type 0} (c : Cluster) (k : Kind) (kept : List KeptRecord) (who : RoleId) (r : Option Record) (seats : List (Seat S)) → (who.kind ≡ k → ⊥) → AreSeats c k kept seats → AreSeats c k (kept ++ kept_by who r) seats
-others_stay c k kept who r seats differs are j seat e =
+-- stores of another kind have not changed
+pub others_stay : {S D V : Type 0} (rules : Rules D V) (c : Cluster) (k : Kind) (kept : List KeptRecord) (who : RoleId) (r : Option Written) (seats : List (Seat S)) → (who.kind ≡ k → ⊥) → AreSeats rules c k kept seats → AreSeats rules c k (kept ++ kept_by who r) seats
+others_stay rules c k kept who r seats differs are j seat e =
     let h = are j seat e in
     let apart : (◌≡◌ {A = RoleId} (record { kind = k; index = j }) who → ⊥) = λ p. differs (sym (ap (λ (x : RoleId). x.kind) p)) in
     record {
       cluster = h.cluster;
       me = h.me;
-      records = h.records ∙ sym (records_other (record { kind = k; index = j }) who kept r (differ_role (record { kind = k; index = j }) who apart));
+      records = h.records ∙ sym (list_other rules (record { kind = k; index = j }) who kept r (differ_role (record { kind = k; index = j }) who apart));
     }
 
-pub turned_at : {D V : Type 0} (rules : Rules D V) (c : Cluster) (k : Kind) (kept : List KeptRecord) (who : RoleId) (is_kind : who.kind ≡ k) (act : Act) (olds news : List (Seat (Running D V))) (w : Why) (r : Option Record) (sent : List Letter) → AreSeats c k kept olds → (o : Option (Seat (Running D V))) → slice_get olds who.index ≡ o → TurnsFound rules (λ s. s) act who.index o olds news w r sent → AreTurned c k kept who (turn_at rules c who kept act (volatiles olds)) news w r sent
+pub turned_at : {D V : Type 0} (rules : Rules D V) (c : Cluster) (k : Kind) (kept : List KeptRecord) (who : RoleId) (is_kind : who.kind ≡ k) (act : Act) (olds news : List (Seat (Running D V))) (w : Why) (r : Option Written) (sent : List Letter) → AreSeats rules c k kept olds → (o : Option (Seat (Running D V))) → slice_get olds who.index ≡ o → TurnsFound rules (λ s. s) act who.index o olds news w r sent → AreTurned rules c k kept who (turn_at rules c who kept act (volatiles olds)) news w r sent
 turned_at rules c k kept who is_kind act olds news w r sent are None e h =
     let none : slice_get (volatiles olds) who.index ≡ None = volatiles_get olds who.index ∙ ap volatile_in e in
     let turn : turn_at rules c who kept act (volatiles olds) ≡ turn_found rules c who kept act (volatiles olds) None = ap (λ x. turn_found rules c who kept act (volatiles olds) x) none in
-    let found : AreTurned c k kept who (turn_found rules c who kept act (volatiles olds) None) news w r sent = record {
+    let found : AreTurned rules c k kept who (turn_found rules c who kept act (volatiles olds) None) news w r sent = record {
       why = h.1;
       roles = ap (λ l. volatiles l) h.0;
       record_kept = ap (λ x. kept_by who x) h.2;
       sends = h.3;
-      seats = subst (λ l. AreSeats c k l news) (sym (append-nil kept) ∙ ap (λ x. kept ++ kept_by who x) (sym h.2)) (subst (λ l. AreSeats c k kept l) (sym h.0) are);
+      seats = subst (λ l. AreSeats rules c k l news) (sym (append-nil kept) ∙ ap (λ x. kept ++ kept_by who x) (sym h.2)) (subst (λ l. AreSeats rules c k kept l) (sym h.0) are);
     } in
-    subst (λ t. AreTurned c k kept who t news w r sent) (sym turn) found
+    subst (λ t. AreTurned rules c k kept who t news w r sent) (sym turn) found
 turned_at rules c k kept who is_kind act olds news w r sent are (Some seat) e h =
     let after = slice_index_or news who.index seat in
     let done = h.1 in
     let there = are who.index seat e in
     let role = volatile_of (λ s. s) seat.role in
     let some : slice_get (volatiles olds) who.index ≡ Some role = volatiles_get olds who.index ∙ ap volatile_in e in
-    let model = turn rules c who (folded rules (records_of who kept)) act role in
+    let model = turn rules c who (folded rules (list_of rules who kept)) act role in
     let same : seat_turn rules (λ s. s) act seat ≡ model = rw (there.cluster, there.me, there.records, is_kind) refl in
     let turn : turn_at rules c who kept act (volatiles olds) ≡ turn_done who (volatiles olds) model = ap (λ x. turn_found rules c who kept act (volatiles olds) x) some in
-    let done_here : AreTurned c k kept who (turn_done who (volatiles olds) model) news w r sent = record {
+    let done_here : AreTurned rules c k kept who (turn_done who (volatiles olds) model) news w r sent = record {
       why = done.why ∙ ap (λ t. t.why) same;
       roles = ap (λ l. volatiles l) h.0 ∙ volatiles_set olds who.index after ∙ ap (λ x. slice_set (volatiles olds) who.index x) (done.role ∙ ap (λ t. t.role) same);
       record_kept = ap (λ x. kept_by who x) (done.kept ∙ ap (λ t. t.kept) same);
       sends = done.sends ∙ ap (λ t. t.sends) same;
-      seats = subst (λ l. AreSeats c k (kept ++ kept_by who r) l) (sym h.0) (set_seats c k kept who is_kind olds are r seat after e done.cluster done.me done.records);
+      seats = subst (λ l. AreSeats rules c k (kept ++ kept_by who r) l) (sym h.0) (set_seats rules c k kept who is_kind olds are r seat after e done.cluster done.me done.records);
     } in
-    subst (λ t. AreTurned c k kept who t news w r sent) (sym turn) done_here
+    subst (λ t. AreTurned rules c k kept who t news w r sent) (sym turn) done_here
 
 -- kinds with other codes are other kinds
 apart : (who : RoleId) (k l : Kind) → who.kind ≡ k → (code_of k == code_of l) ≡ false → who.kind ≡ l → ⊥
 apart who k l is e p =
     not_both (code_of k == code_of l) (subst (λ x. (code_of k == code_of x) ≡ true) (sym is ∙ p) (number_itself (code_of k))) e
 
-module _ (w : World) (act : Act) (who : RoleId) (olds : SeatLists) (u v : Why) (at : Option RoleId) (r : Option Record) (more : Option KeptRecord) (sent : List Letter)
+module _ (w : World) (act : Act) (who : RoleId) (olds : SeatLists) (u v : Why) (at : Option RoleId) (r : Option Written) (more : Option KeptRecord) (sent : List Letter)
     (same_who : at ≡ Some who) (same_why : v ≡ u) (same_kept : option_to_list more ≡ kept_by who r) (has : HasSeats w.cluster w.roles w.kept olds) where
   -- seats of another kind are opened from their parts of the longer history
-  stay : {S : Type 0} (k l : Kind) (seats : List (Seat S)) (kept : List KeptRecord) → who.kind ≡ k → (code_of k == code_of l) ≡ false → kept_by who r ≡ kept → AreSeats w.cluster l w.kept seats → AreSeats w.cluster l (w.kept ++ kept) seats
-  stay k l seats kept is differs same are =
-      subst (λ ks. AreSeats w.cluster l (w.kept ++ ks) seats) same (others_stay w.cluster l w.kept who r seats (apart who k l is differs) are)
+  stay : {S D V : Type 0} (rules : Rules D V) (k l : Kind) (seats : List (Seat S)) (kept : List KeptRecord) → who.kind ≡ k → (code_of k == code_of l) ≡ false → kept_by who r ≡ kept → AreSeats rules w.cluster l w.kept seats → AreSeats rules w.cluster l (w.kept ++ kept) seats
+  stay rules k l seats kept is differs same are =
+      subst (λ ks. AreSeats rules w.cluster l (w.kept ++ ks) seats) same (others_stay rules w.cluster l w.kept who r seats (apart who k l is differs) are)
 
   pub batcher_change : who.kind ≡ kind.Batcher → (news : List (Seat (Running (Unit {0}) BatcherVolatile))) → TurnsAt batcher_rules (λ s. s) act who.index olds.batchers news u r sent → IsChange w (act_at w act who) at v more (record olds { batchers = news }) sent
   batcher_change is news turns =
@@ -153,14 +153,14 @@ module _ (w : World) (act : Act) (who : RoleId) (olds : SeatLists) (u v : Why) (
         sends = t.sends;
         seats = record {
           roles = ap (λ (x : Roles). record x { batchers = model.roles }) has.roles ∙ ap (λ l. record (roles_of olds) { batchers = l }) (sym t.roles);
-          batchers = subst (λ l. AreSeats w.cluster kind.Batcher (w.kept ++ l) news) t.record_kept t.seats;
-          leaders = stay kind.Batcher kind.Leader olds.leaders model.kept is refl t.record_kept has.leaders;
-          proxies = stay kind.Batcher kind.Proxy olds.proxies model.kept is refl t.record_kept has.proxies;
-          acceptors = stay kind.Batcher kind.Acceptor olds.acceptors model.kept is refl t.record_kept has.acceptors;
-          matchmakers = stay kind.Batcher kind.Matchmaker olds.matchmakers model.kept is refl t.record_kept has.matchmakers;
-          replicas = stay kind.Batcher kind.Replica olds.replicas model.kept is refl t.record_kept has.replicas;
-          unbatchers = stay kind.Batcher kind.Unbatcher olds.unbatchers model.kept is refl t.record_kept has.unbatchers;
-          readers = stay kind.Batcher kind.Reader olds.readers model.kept is refl t.record_kept has.readers;
+          batchers = subst (λ l. AreSeats batcher_rules w.cluster kind.Batcher (w.kept ++ l) news) t.record_kept t.seats;
+          leaders = stay leader_rules kind.Batcher kind.Leader olds.leaders model.kept is refl t.record_kept has.leaders;
+          proxies = stay proxy_rules kind.Batcher kind.Proxy olds.proxies model.kept is refl t.record_kept has.proxies;
+          acceptors = stay acceptor_rules kind.Batcher kind.Acceptor olds.acceptors model.kept is refl t.record_kept has.acceptors;
+          matchmakers = stay matchmaker_rules kind.Batcher kind.Matchmaker olds.matchmakers model.kept is refl t.record_kept has.matchmakers;
+          replicas = stay replica_rules kind.Batcher kind.Replica olds.replicas model.kept is refl t.record_kept has.replicas;
+          unbatchers = stay unbatcher_rules kind.Batcher kind.Unbatcher olds.unbatchers model.kept is refl t.record_kept has.unbatchers;
+          readers = stay reader_rules kind.Batcher kind.Reader olds.readers model.kept is refl t.record_kept has.readers;
         };
       } in
       subst (λ ch. IsChange w ch at v more (record olds { batchers = news }) sent) (sym change) done
@@ -178,14 +178,14 @@ module _ (w : World) (act : Act) (who : RoleId) (olds : SeatLists) (u v : Why) (
         sends = t.sends;
         seats = record {
           roles = ap (λ (x : Roles). record x { leaders = model.roles }) has.roles ∙ ap (λ l. record (roles_of olds) { leaders = l }) (sym t.roles);
-          batchers = stay kind.Leader kind.Batcher olds.batchers model.kept is refl t.record_kept has.batchers;
-          leaders = subst (λ l. AreSeats w.cluster kind.Leader (w.kept ++ l) news) t.record_kept t.seats;
-          proxies = stay kind.Leader kind.Proxy olds.proxies model.kept is refl t.record_kept has.proxies;
-          acceptors = stay kind.Leader kind.Acceptor olds.acceptors model.kept is refl t.record_kept has.acceptors;
-          matchmakers = stay kind.Leader kind.Matchmaker olds.matchmakers model.kept is refl t.record_kept has.matchmakers;
-          replicas = stay kind.Leader kind.Replica olds.replicas model.kept is refl t.record_kept has.replicas;
-          unbatchers = stay kind.Leader kind.Unbatcher olds.unbatchers model.kept is refl t.record_kept has.unbatchers;
-          readers = stay kind.Leader kind.Reader olds.readers model.kept is refl t.record_kept has.readers;
+          batchers = stay batcher_rules kind.Leader kind.Batcher olds.batchers model.kept is refl t.record_kept has.batchers;
+          leaders = subst (λ l. AreSeats leader_rules w.cluster kind.Leader (w.kept ++ l) news) t.record_kept t.seats;
+          proxies = stay proxy_rules kind.Leader kind.Proxy olds.proxies model.kept is refl t.record_kept has.proxies;
+          acceptors = stay acceptor_rules kind.Leader kind.Acceptor olds.acceptors model.kept is refl t.record_kept has.acceptors;
+          matchmakers = stay matchmaker_rules kind.Leader kind.Matchmaker olds.matchmakers model.kept is refl t.record_kept has.matchmakers;
+          replicas = stay replica_rules kind.Leader kind.Replica olds.replicas model.kept is refl t.record_kept has.replicas;
+          unbatchers = stay unbatcher_rules kind.Leader kind.Unbatcher olds.unbatchers model.kept is refl t.record_kept has.unbatchers;
+          readers = stay reader_rules kind.Leader kind.Reader olds.readers model.kept is refl t.record_kept has.readers;
         };
       } in
       subst (λ ch. IsChange w ch at v more (record olds { leaders = news }) sent) (sym change) done
@@ -203,14 +203,14 @@ module _ (w : World) (act : Act) (who : RoleId) (olds : SeatLists) (u v : Why) (
         sends = t.sends;
         seats = record {
           roles = ap (λ (x : Roles). record x { proxies = model.roles }) has.roles ∙ ap (λ l. record (roles_of olds) { proxies = l }) (sym t.roles);
-          batchers = stay kind.Proxy kind.Batcher olds.batchers model.kept is refl t.record_kept has.batchers;
-          leaders = stay kind.Proxy kind.Leader olds.leaders model.kept is refl t.record_kept has.leaders;
-          proxies = subst (λ l. AreSeats w.cluster kind.Proxy (w.kept ++ l) news) t.record_kept t.seats;
-          acceptors = stay kind.Proxy kind.Acceptor olds.acceptors model.kept is refl t.record_kept has.acceptors;
-          matchmakers = stay kind.Proxy kind.Matchmaker olds.matchmakers model.kept is refl t.record_kept has.matchmakers;
-          replicas = stay kind.Proxy kind.Replica olds.replicas model.kept is refl t.record_kept has.replicas;
-          unbatchers = stay kind.Proxy kind.Unbatcher olds.unbatchers model.kept is refl t.record_kept has.unbatchers;
-          readers = stay kind.Proxy kind.Reader olds.readers model.kept is refl t.record_kept has.readers;
+          batchers = stay batcher_rules kind.Proxy kind.Batcher olds.batchers model.kept is refl t.record_kept has.batchers;
+          leaders = stay leader_rules kind.Proxy kind.Leader olds.leaders model.kept is refl t.record_kept has.leaders;
+          proxies = subst (λ l. AreSeats proxy_rules w.cluster kind.Proxy (w.kept ++ l) news) t.record_kept t.seats;
+          acceptors = stay acceptor_rules kind.Proxy kind.Acceptor olds.acceptors model.kept is refl t.record_kept has.acceptors;
+          matchmakers = stay matchmaker_rules kind.Proxy kind.Matchmaker olds.matchmakers model.kept is refl t.record_kept has.matchmakers;
+          replicas = stay replica_rules kind.Proxy kind.Replica olds.replicas model.kept is refl t.record_kept has.replicas;
+          unbatchers = stay unbatcher_rules kind.Proxy kind.Unbatcher olds.unbatchers model.kept is refl t.record_kept has.unbatchers;
+          readers = stay reader_rules kind.Proxy kind.Reader olds.readers model.kept is refl t.record_kept has.readers;
         };
       } in
       subst (λ ch. IsChange w ch at v more (record olds { proxies = news }) sent) (sym change) done
@@ -228,14 +228,14 @@ module _ (w : World) (act : Act) (who : RoleId) (olds : SeatLists) (u v : Why) (
         sends = t.sends;
         seats = record {
           roles = ap (λ (x : Roles). record x { acceptors = model.roles }) has.roles ∙ ap (λ l. record (roles_of olds) { acceptors = l }) (sym t.roles);
-          batchers = stay kind.Acceptor kind.Batcher olds.batchers model.kept is refl t.record_kept has.batchers;
-          leaders = stay kind.Acceptor kind.Leader olds.leaders model.kept is refl t.record_kept has.leaders;
-          proxies = stay kind.Acceptor kind.Proxy olds.proxies model.kept is refl t.record_kept has.proxies;
-          acceptors = subst (λ l. AreSeats w.cluster kind.Acceptor (w.kept ++ l) news) t.record_kept t.seats;
-          matchmakers = stay kind.Acceptor kind.Matchmaker olds.matchmakers model.kept is refl t.record_kept has.matchmakers;
-          replicas = stay kind.Acceptor kind.Replica olds.replicas model.kept is refl t.record_kept has.replicas;
-          unbatchers = stay kind.Acceptor kind.Unbatcher olds.unbatchers model.kept is refl t.record_kept has.unbatchers;
-          readers = stay kind.Acceptor kind.Reader olds.readers model.kept is refl t.record_kept has.readers;
+          batchers = stay batcher_rules kind.Acceptor kind.Batcher olds.batchers model.kept is refl t.record_kept has.batchers;
+          leaders = stay leader_rules kind.Acceptor kind.Leader olds.leaders model.kept is refl t.record_kept has.leaders;
+          proxies = stay proxy_rules kind.Acceptor kind.Proxy olds.proxies model.kept is refl t.record_kept has.proxies;
+          acceptors = subst (λ l. AreSeats acceptor_rules w.cluster kind.Acceptor (w.kept ++ l) news) t.record_kept t.seats;
+          matchmakers = stay matchmaker_rules kind.Acceptor kind.Matchmaker olds.matchmakers model.kept is refl t.record_kept has.matchmakers;
+          replicas = stay replica_rules kind.Acceptor kind.Replica olds.replicas model.kept is refl t.record_kept has.replicas;
+          unbatchers = stay unbatcher_rules kind.Acceptor kind.Unbatcher olds.unbatchers model.kept is refl t.record_kept has.unbatchers;
+          readers = stay reader_rules kind.Acceptor kind.Reader olds.readers model.kept is refl t.record_kept has.readers;
         };
       } in
       subst (λ ch. IsChange w ch at v more (record olds { acceptors = news }) sent) (sym change) done
@@ -253,14 +253,14 @@ module _ (w : World) (act : Act) (who : RoleId) (olds : SeatLists) (u v : Why) (
         sends = t.sends;
         seats = record {
           roles = ap (λ (x : Roles). record x { matchmakers = model.roles }) has.roles ∙ ap (λ l. record (roles_of olds) { matchmakers = l }) (sym t.roles);
-          batchers = stay kind.Matchmaker kind.Batcher olds.batchers model.kept is refl t.record_kept has.batchers;
-          leaders = stay kind.Matchmaker kind.Leader olds.leaders model.kept is refl t.record_kept has.leaders;
-          proxies = stay kind.Matchmaker kind.Proxy olds.proxies model.kept is refl t.record_kept has.proxies;
-          acceptors = stay kind.Matchmaker kind.Acceptor olds.acceptors model.kept is refl t.record_kept has.acceptors;
-          matchmakers = subst (λ l. AreSeats w.cluster kind.Matchmaker (w.kept ++ l) news) t.record_kept t.seats;
-          replicas = stay kind.Matchmaker kind.Replica olds.replicas model.kept is refl t.record_kept has.replicas;
-          unbatchers = stay kind.Matchmaker kind.Unbatcher olds.unbatchers model.kept is refl t.record_kept has.unbatchers;
-          readers = stay kind.Matchmaker kind.Reader olds.readers model.kept is refl t.record_kept has.readers;
+          batchers = stay batcher_rules kind.Matchmaker kind.Batcher olds.batchers model.kept is refl t.record_kept has.batchers;
+          leaders = stay leader_rules kind.Matchmaker kind.Leader olds.leaders model.kept is refl t.record_kept has.leaders;
+          proxies = stay proxy_rules kind.Matchmaker kind.Proxy olds.proxies model.kept is refl t.record_kept has.proxies;
+          acceptors = stay acceptor_rules kind.Matchmaker kind.Acceptor olds.acceptors model.kept is refl t.record_kept has.acceptors;
+          matchmakers = subst (λ l. AreSeats matchmaker_rules w.cluster kind.Matchmaker (w.kept ++ l) news) t.record_kept t.seats;
+          replicas = stay replica_rules kind.Matchmaker kind.Replica olds.replicas model.kept is refl t.record_kept has.replicas;
+          unbatchers = stay unbatcher_rules kind.Matchmaker kind.Unbatcher olds.unbatchers model.kept is refl t.record_kept has.unbatchers;
+          readers = stay reader_rules kind.Matchmaker kind.Reader olds.readers model.kept is refl t.record_kept has.readers;
         };
       } in
       subst (λ ch. IsChange w ch at v more (record olds { matchmakers = news }) sent) (sym change) done
@@ -278,14 +278,14 @@ module _ (w : World) (act : Act) (who : RoleId) (olds : SeatLists) (u v : Why) (
         sends = t.sends;
         seats = record {
           roles = ap (λ (x : Roles). record x { replicas = model.roles }) has.roles ∙ ap (λ l. record (roles_of olds) { replicas = l }) (sym t.roles);
-          batchers = stay kind.Replica kind.Batcher olds.batchers model.kept is refl t.record_kept has.batchers;
-          leaders = stay kind.Replica kind.Leader olds.leaders model.kept is refl t.record_kept has.leaders;
-          proxies = stay kind.Replica kind.Proxy olds.proxies model.kept is refl t.record_kept has.proxies;
-          acceptors = stay kind.Replica kind.Acceptor olds.acceptors model.kept is refl t.record_kept has.acceptors;
-          matchmakers = stay kind.Replica kind.Matchmaker olds.matchmakers model.kept is refl t.record_kept has.matchmakers;
-          replicas = subst (λ l. AreSeats w.cluster kind.Replica (w.kept ++ l) news) t.record_kept t.seats;
-          unbatchers = stay kind.Replica kind.Unbatcher olds.unbatchers model.kept is refl t.record_kept has.unbatchers;
-          readers = stay kind.Replica kind.Reader olds.readers model.kept is refl t.record_kept has.readers;
+          batchers = stay batcher_rules kind.Replica kind.Batcher olds.batchers model.kept is refl t.record_kept has.batchers;
+          leaders = stay leader_rules kind.Replica kind.Leader olds.leaders model.kept is refl t.record_kept has.leaders;
+          proxies = stay proxy_rules kind.Replica kind.Proxy olds.proxies model.kept is refl t.record_kept has.proxies;
+          acceptors = stay acceptor_rules kind.Replica kind.Acceptor olds.acceptors model.kept is refl t.record_kept has.acceptors;
+          matchmakers = stay matchmaker_rules kind.Replica kind.Matchmaker olds.matchmakers model.kept is refl t.record_kept has.matchmakers;
+          replicas = subst (λ l. AreSeats replica_rules w.cluster kind.Replica (w.kept ++ l) news) t.record_kept t.seats;
+          unbatchers = stay unbatcher_rules kind.Replica kind.Unbatcher olds.unbatchers model.kept is refl t.record_kept has.unbatchers;
+          readers = stay reader_rules kind.Replica kind.Reader olds.readers model.kept is refl t.record_kept has.readers;
         };
       } in
       subst (λ ch. IsChange w ch at v more (record olds { replicas = news }) sent) (sym change) done
@@ -303,14 +303,14 @@ module _ (w : World) (act : Act) (who : RoleId) (olds : SeatLists) (u v : Why) (
         sends = t.sends;
         seats = record {
           roles = ap (λ (x : Roles). record x { unbatchers = model.roles }) has.roles ∙ ap (λ l. record (roles_of olds) { unbatchers = l }) (sym t.roles);
-          batchers = stay kind.Unbatcher kind.Batcher olds.batchers model.kept is refl t.record_kept has.batchers;
-          leaders = stay kind.Unbatcher kind.Leader olds.leaders model.kept is refl t.record_kept has.leaders;
-          proxies = stay kind.Unbatcher kind.Proxy olds.proxies model.kept is refl t.record_kept has.proxies;
-          acceptors = stay kind.Unbatcher kind.Acceptor olds.acceptors model.kept is refl t.record_kept has.acceptors;
-          matchmakers = stay kind.Unbatcher kind.Matchmaker olds.matchmakers model.kept is refl t.record_kept has.matchmakers;
-          replicas = stay kind.Unbatcher kind.Replica olds.replicas model.kept is refl t.record_kept has.replicas;
-          unbatchers = subst (λ l. AreSeats w.cluster kind.Unbatcher (w.kept ++ l) news) t.record_kept t.seats;
-          readers = stay kind.Unbatcher kind.Reader olds.readers model.kept is refl t.record_kept has.readers;
+          batchers = stay batcher_rules kind.Unbatcher kind.Batcher olds.batchers model.kept is refl t.record_kept has.batchers;
+          leaders = stay leader_rules kind.Unbatcher kind.Leader olds.leaders model.kept is refl t.record_kept has.leaders;
+          proxies = stay proxy_rules kind.Unbatcher kind.Proxy olds.proxies model.kept is refl t.record_kept has.proxies;
+          acceptors = stay acceptor_rules kind.Unbatcher kind.Acceptor olds.acceptors model.kept is refl t.record_kept has.acceptors;
+          matchmakers = stay matchmaker_rules kind.Unbatcher kind.Matchmaker olds.matchmakers model.kept is refl t.record_kept has.matchmakers;
+          replicas = stay replica_rules kind.Unbatcher kind.Replica olds.replicas model.kept is refl t.record_kept has.replicas;
+          unbatchers = subst (λ l. AreSeats unbatcher_rules w.cluster kind.Unbatcher (w.kept ++ l) news) t.record_kept t.seats;
+          readers = stay reader_rules kind.Unbatcher kind.Reader olds.readers model.kept is refl t.record_kept has.readers;
         };
       } in
       subst (λ ch. IsChange w ch at v more (record olds { unbatchers = news }) sent) (sym change) done
@@ -328,14 +328,14 @@ module _ (w : World) (act : Act) (who : RoleId) (olds : SeatLists) (u v : Why) (
         sends = t.sends;
         seats = record {
           roles = ap (λ (x : Roles). record x { readers = model.roles }) has.roles ∙ ap (λ l. record (roles_of olds) { readers = l }) (sym t.roles);
-          batchers = stay kind.Reader kind.Batcher olds.batchers model.kept is refl t.record_kept has.batchers;
-          leaders = stay kind.Reader kind.Leader olds.leaders model.kept is refl t.record_kept has.leaders;
-          proxies = stay kind.Reader kind.Proxy olds.proxies model.kept is refl t.record_kept has.proxies;
-          acceptors = stay kind.Reader kind.Acceptor olds.acceptors model.kept is refl t.record_kept has.acceptors;
-          matchmakers = stay kind.Reader kind.Matchmaker olds.matchmakers model.kept is refl t.record_kept has.matchmakers;
-          replicas = stay kind.Reader kind.Replica olds.replicas model.kept is refl t.record_kept has.replicas;
-          unbatchers = stay kind.Reader kind.Unbatcher olds.unbatchers model.kept is refl t.record_kept has.unbatchers;
-          readers = subst (λ l. AreSeats w.cluster kind.Reader (w.kept ++ l) news) t.record_kept t.seats;
+          batchers = stay batcher_rules kind.Reader kind.Batcher olds.batchers model.kept is refl t.record_kept has.batchers;
+          leaders = stay leader_rules kind.Reader kind.Leader olds.leaders model.kept is refl t.record_kept has.leaders;
+          proxies = stay proxy_rules kind.Reader kind.Proxy olds.proxies model.kept is refl t.record_kept has.proxies;
+          acceptors = stay acceptor_rules kind.Reader kind.Acceptor olds.acceptors model.kept is refl t.record_kept has.acceptors;
+          matchmakers = stay matchmaker_rules kind.Reader kind.Matchmaker olds.matchmakers model.kept is refl t.record_kept has.matchmakers;
+          replicas = stay replica_rules kind.Reader kind.Replica olds.replicas model.kept is refl t.record_kept has.replicas;
+          unbatchers = stay unbatcher_rules kind.Reader kind.Unbatcher olds.unbatchers model.kept is refl t.record_kept has.unbatchers;
+          readers = subst (λ l. AreSeats reader_rules w.cluster kind.Reader (w.kept ++ l) news) t.record_kept t.seats;
         };
       } in
       subst (λ ch. IsChange w ch at v more (record olds { readers = news }) sent) (sym change) done

@@ -1,6 +1,9 @@
 -- The world after an event is the model's step, and what was true of the world before is true of it.
-use Rattle.std.proofs.Common.{◌≡◌, ◌+◌, ◌*◌, List, [], ◌∷◌, ◌++◌, Option, ap, sym, ◌∙◌, subst, refl}
+use Rattle.std.proofs.Common.{◌≡◌, ◌+◌, ◌*◌, true, List, [], ◌∷◌, ◌++◌, Option, ap, sym, ◌∙◌, subst, refl}
+use Rattle.std.specs.List.{list_all}
+use Rattle.std.proofs.lemmas.List.Folds.{list_all-append}
 use Rattle.std.specs.Option.{option_to_list}
+use Rattle.cx_base.specs.Asked.{is_valid_event}
 use Rattle.cx_base.specs.declared.cluster.Cluster.{Cluster}
 use Rattle.cx_base.specs.declared.event.Event.{Event}
 use Rattle.cx_base.specs.declared.event.Happened.{Happened}
@@ -19,7 +22,7 @@ use Rattle.cx_model.specs.World.{World, Roles, change, step, start, fresh_roles,
 use Rattle.cx_msg.specs.Letter.{Letter}
 use Rattle.cx_msg.specs.declared.input.KeptRecord.{KeptRecord}
 use Rattle.cx_world.specs.Seat.{AreSeats}
-use Rattle.cx_world.specs.World.{SeatLists, IsChange, Holds, roles_of, volatiles}
+use Rattle.cx_world.specs.World.{SeatLists, IsChange, Holds, are_taken, roles_of, volatiles}
 
 run_one : (w : World) (es : List Event) (e : Event) → run_from w (es ++ e ∷ []) ≡ step (run_from w es) e
 run_one w [] e = refl
@@ -35,13 +38,19 @@ make_world c roles events kept sent = record { cluster = c; roles = roles; event
 same_world : (c : Cluster) (r s : Roles) (e f : List Happened) (k l : List KeptRecord) (d g : List Letter) → r ≡ s → e ≡ f → k ≡ l → d ≡ g → make_world c r e k d ≡ make_world c s f l g
 same_world c r s e f k l d g p q t u = cc
 
+-- one event more is one that the world takes
+pub all_taken_after : (old new : List Happened) (e : Event) (u : Why) → are_taken old ≡ true → is_valid_event e ≡ true → new ≡ old ++ record { event = e; why = u } ∷ [] → are_taken new ≡ true
+all_taken_after old new e u taken valid more =
+    ap (λ l. are_taken l) more ∙ ap (λ l. list_all is_valid_event l) (event_list_one old (record { event = e; why = u }))
+    ∙ list_all-append is_valid_event (event_list old) (e ∷ []) ∙ rw (taken, valid) refl
+
 pub held_after : (w : World) (e : Event) (at : Option RoleId) (u : Why) (r : Option KeptRecord) (seats : SeatLists) (sends : List Letter)
-    → IsChange w (change w e) at u r seats sends → w ≡ run w.cluster (event_list w.events)
+    → IsChange w (change w e) at u r seats sends → w ≡ run w.cluster (event_list w.events) → are_taken w.events ≡ true → is_valid_event e ≡ true
     → (events : List Happened) (kept : List KeptRecord) (sent out : List Letter)
     → events ≡ w.events ++ record { event = e; why = u } ∷ [] → kept ≡ w.kept ++ option_to_list r → sent ≡ w.sent ++ sends → out ≡ []
     → Holds (make_world w.cluster (roles_of seats) events kept sent) seats out
 unfolding step
-held_after w e at u r seats sends ch ran events kept sent out same_events same_kept same_sent empty =
+held_after w e at u r seats sends ch ran taken valid events kept sent out same_events same_kept same_sent empty =
     let to = change w e in
     let all_kept : kept ≡ w.kept ++ to.kept = same_kept ∙ ap (λ l. w.kept ++ l) ch.kept in
     let stepped : make_world w.cluster (roles_of seats) events kept sent ≡ step w e =
@@ -52,16 +61,17 @@ held_after w e at u r seats sends ch ran events kept sent out same_events same_k
       out = empty;
       seats = record {
         roles = refl;
-        batchers = subst (λ l. AreSeats w.cluster kind.Batcher l seats.batchers) (sym all_kept) ch.seats.batchers;
-        leaders = subst (λ l. AreSeats w.cluster kind.Leader l seats.leaders) (sym all_kept) ch.seats.leaders;
-        proxies = subst (λ l. AreSeats w.cluster kind.Proxy l seats.proxies) (sym all_kept) ch.seats.proxies;
-        acceptors = subst (λ l. AreSeats w.cluster kind.Acceptor l seats.acceptors) (sym all_kept) ch.seats.acceptors;
-        matchmakers = subst (λ l. AreSeats w.cluster kind.Matchmaker l seats.matchmakers) (sym all_kept) ch.seats.matchmakers;
-        replicas = subst (λ l. AreSeats w.cluster kind.Replica l seats.replicas) (sym all_kept) ch.seats.replicas;
-        unbatchers = subst (λ l. AreSeats w.cluster kind.Unbatcher l seats.unbatchers) (sym all_kept) ch.seats.unbatchers;
-        readers = subst (λ l. AreSeats w.cluster kind.Reader l seats.readers) (sym all_kept) ch.seats.readers;
+        batchers = subst (λ l. AreSeats batcher_rules w.cluster kind.Batcher l seats.batchers) (sym all_kept) ch.seats.batchers;
+        leaders = subst (λ l. AreSeats leader_rules w.cluster kind.Leader l seats.leaders) (sym all_kept) ch.seats.leaders;
+        proxies = subst (λ l. AreSeats proxy_rules w.cluster kind.Proxy l seats.proxies) (sym all_kept) ch.seats.proxies;
+        acceptors = subst (λ l. AreSeats acceptor_rules w.cluster kind.Acceptor l seats.acceptors) (sym all_kept) ch.seats.acceptors;
+        matchmakers = subst (λ l. AreSeats matchmaker_rules w.cluster kind.Matchmaker l seats.matchmakers) (sym all_kept) ch.seats.matchmakers;
+        replicas = subst (λ l. AreSeats replica_rules w.cluster kind.Replica l seats.replicas) (sym all_kept) ch.seats.replicas;
+        unbatchers = subst (λ l. AreSeats unbatcher_rules w.cluster kind.Unbatcher l seats.unbatchers) (sym all_kept) ch.seats.unbatchers;
+        readers = subst (λ l. AreSeats reader_rules w.cluster kind.Reader l seats.readers) (sym all_kept) ch.seats.readers;
       };
       ran = stepped ∙ ap (λ x. step x e) ran ∙ sym (run_one _ (event_list w.events) e) ∙ ap (λ l. run w.cluster l) (sym listed);
+      taken = all_taken_after w.events events e u taken valid same_events;
     }
 
 -- seats that were just opened are those of the world in which nothing has happened

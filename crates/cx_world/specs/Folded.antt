@@ -4,9 +4,7 @@ use Rattle.cx_base.specs.Fold.{fold}
 use Rattle.cx_base.specs.Role.{same_role}
 use Rattle.cx_base.specs.declared.command.Value.{Value}
 use Rattle.cx_base.specs.declared.role.RoleId.{RoleId}
-use Rattle.cx_model.specs.World.{log_of}
-use Rattle.cx_msg.specs.declared.kept.Record.{Record}
-use Rattle.cx_msg.specs.declared.kept.Record.TheVariants as kept
+use Rattle.cx_model.specs.World.{log_of, values_in}
 use Rattle.cx_msg.specs.declared.input.KeptRecord.{KeptRecord}
 use Rattle.cx_trace.specs.declared.summary.Folded.{Folded}
 
@@ -14,16 +12,11 @@ use Rattle.cx_trace.specs.declared.summary.Folded.{Folded}
 abbrev pub folded_of : ℕ → List KeptRecord → Folded
 folded_of p kept = record { held = length (log_of p kept); store = fold (log_of p kept) }
 
--- the values of a replica's record
-abbrev pub values_in : Record → List Value
-values_in (kept.Log values) = values
-values_in other = []
-
--- the values of a record, where this role kept it
+-- the values of a change, where this role's store it is
 abbrev pub values_by : RoleId → KeptRecord → List Value
 values_by me k = if same_role me k.role then values_in k.what else []
 
--- the values of all records that this role kept, in order
+-- the values of all changes of this role's store, in order
 abbrev pub values_kept : RoleId → List KeptRecord → List Value
 values_kept me [] = []
 values_kept me (k ∷ ks) = values_by me k ++ values_kept me ks

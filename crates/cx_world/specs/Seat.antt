@@ -1,24 +1,28 @@
 -- A role with its records, running or not.
-use Rattle.std.specs.Prelude.{◌≡◌, ℕ, Bool, true, IsTrue, List, [], ◌∷◌, ◌++◌, Option, None, Some, option_to_list, slice_get, slice_index_or, slice_set}
+use Rattle.std.specs.Prelude.{◌≡◌, ℕ, Bool, true, false, IsTrue, List, [], ◌∷◌, Option, None, Some, slice_get, slice_index_or, slice_set}
 use Rattle.std.specs.Option.{ForSome}
 use Rattle.cx_base.specs.declared.cluster.Cluster.{Cluster}
-use Rattle.cx_keeper.specs.Keeper.{all_fit}
 use Rattle.cx_msg.specs.Letter.{Letter}
 use Rattle.cx_msg.specs.declared.kept.Record.{Record}
 use Rattle.cx_msg.specs.declared.input.KeptRecord.{KeptRecord}
+use Rattle.cx_msg.specs.declared.input.Written.{Written}
+use Rattle.cx_msg.specs.declared.input.Written.TheVariants as written
 use Rattle.cx_base.specs.declared.role.Kind.{Kind}
 use Rattle.cx_model.specs.Names.{names_role}
-use Rattle.cx_model.specs.World.{records_of}
+use Rattle.cx_model.specs.Lists.{list_with}
+use Rattle.cx_model.specs.World.{list_of}
 use Rattle.cx_msg.specs.declared.input.Act.{Act}
+use Rattle.cx_msg.specs.declared.input.Act.TheVariants.{Give, Snap, Stop, Wake}
 use Rattle.cx_base.specs.declared.event.Cut.{Cut}
 use Rattle.cx_base.specs.declared.event.Cut.TheVariants.{Whole, Torn, Kept}
 use Rattle.cx_base.specs.declared.role.RoleId.{RoleId}
 use Rattle.cx_base.specs.declared.why.Why.{Why}
 use Rattle.cx_base.specs.declared.why.Why.TheVariants as why
-use Rattle.cx_model.specs.Rules.{Rules, Running, IsFit, folded, with_kept}
+use Rattle.cx_model.specs.Rules.{Rules, Running, IsFit, folded, refused}
 use Rattle.cx_model.specs.Turn.{Turn, turn}
+use Rattle.cx_world.specs.LastKeeper.{LastState, list_kept}
 
--- the word of a step that was cut in its append
+-- the word of a step that was cut in the change of its store
 abbrev pub why_of_cut : Cut → Why
 why_of_cut Whole = why.Down
 why_of_cut Torn = why.Torn
@@ -36,23 +40,39 @@ pub record Seat (S : Type 0) : Type 0 where
   pub role : Option S
   pub records : List Record
 
--- a role, running or stopped, as its records leave it: it may not know the last one, which a cut append kept
-pub record Stands {D V : Type 0} (rules : Rules D V) (c : Cluster) (who : RoleId) (rs : List Record) (behind : Option Record) (s : Running D V) : Type 0 where
+-- whether an act asks a role to forget
+abbrev pub is_snap : Act → Bool
+is_snap (Give input cut) = false
+is_snap (Snap cut) = true
+is_snap Stop = false
+is_snap Wake = false
+
+-- the last change, where it failed, so that the role doesn't know it
+abbrev pub unknown : Bool → Option Written → Option Written
+unknown true last = None
+unknown false last = last
+
+-- A role can be opened, and is then as its list leaves it: as it is, with one record more, or from the list, which was put anew.
+abbrev pub Opens : {D V : Type 0} → Rules D V → Running D V → List Record → Option Written → Type 0
+Opens rules s rs None = (rules.whole s.durable ≡ true) × (s.durable ≡ folded rules rs)
+Opens rules s rs (Some (written.Record r)) = IsFit rules s.cluster s.me s.durable (Some r) × (rules.after s.durable r ≡ folded rules rs)
+Opens rules s rs (Some (written.Snap first)) = refused rules s.cluster s.me rs ≡ None
+
+-- a role, running or stopped, as its store leaves it: it may not know the last change, which was cut
+pub record Stands {D V : Type 0} (rules : Rules D V) (c : Cluster) (who : RoleId) (store : LastState) (s : Running D V) : Type 0 where
   pub cluster : s.cluster ≡ c
   pub me : s.me ≡ who
-  pub fits : IsFit rules s.cluster s.me s.durable behind
-  pub folded : with_kept rules s.durable behind ≡ folded rules rs
+  pub opens : Opens rules s (list_kept store) (unknown s.live store.last)
 
--- who runs is there, is live, and knows all its records
-pub record IsUp {S D V : Type 0} (state : S → Running D V) (role : Option S) (behind : Option Record) : Type 0 where
-  pub there : (s : S) × (role ≡ Some s) × ((state s).live ≡ true)
-  pub knows : behind ≡ None
+-- who runs is there, and is live
+abbrev pub IsUp : {S D V : Type 0} → (S → Running D V) → Option S → Type 0
+IsUp {S} state role = (s : S) × (role ≡ Some s) × ((state s).live ≡ true)
 
--- a seat's role, whether it runs, and the record after what it knows, over the records of its keeper
-pub record Sits {S D V : Type 0} (rules : Rules D V) (state : S → Running D V) (c : Cluster) (who : RoleId) (rs : List Record) (role : Option S) (runs : Bool) (behind : Option Record) : Type 0 where
-  pub stands : ForSome role (λ s. Stands rules c who rs behind (state s))
-  pub fits : all_fit (option_to_list behind) ≡ true
-  pub up : runs ≡ true → IsUp state role behind
+-- a seat's role, whether it runs, over its store
+pub record Sits {S D V : Type 0} (rules : Rules D V) (state : S → Running D V) (c : Cluster) (who : RoleId) (store : LastState) (role : Option S) (runs : Bool) : Type 0 where
+  pub place : IsPlace rules c who
+  pub stands : ForSome role (λ s. Stands rules c who store (state s))
+  pub up : runs ≡ true → IsUp state role
 
 -- the volatile part of the role, where it runs
 abbrev pub volatile_of : {S D V : Type 0} → (S → Running D V) → Option S → Option V
@@ -63,22 +83,22 @@ abbrev pub seat_turn : {S D V : Type 0} → Rules D V → (S → Running D V) �
 seat_turn rules state act seat = turn rules seat.cluster seat.me (folded rules seat.records) act (volatile_of state seat.role)
 
 -- what an act did at a seat
-pub record IsTurned {S D V : Type 0} (state : S → Running D V) (t : Turn V) (old new : Seat S) (w : Why) (r : Option Record) (sent : List Letter) : Type 0 where
+pub record IsTurned {S D V : Type 0} (rules : Rules D V) (state : S → Running D V) (t : Turn V) (old new : Seat S) (w : Why) (r : Option Written) (sent : List Letter) : Type 0 where
   pub why : w ≡ t.why
   pub role : volatile_of state new.role ≡ t.role
   pub kept : r ≡ t.kept
   pub sends : sent ≡ t.sends
-  pub records : new.records ≡ old.records ++ option_to_list r
+  pub records : new.records ≡ list_with rules old.records r
   pub cluster : new.cluster ≡ old.cluster
   pub me : new.me ≡ old.me
 
-abbrev pub TurnsFound : {S D V : Type 0} → Rules D V → (S → Running D V) → Act → ℕ → Option (Seat S) → List (Seat S) → List (Seat S) → Why → Option Record → List Letter → Type 0
+abbrev pub TurnsFound : {S D V : Type 0} → Rules D V → (S → Running D V) → Act → ℕ → Option (Seat S) → List (Seat S) → List (Seat S) → Why → Option Written → List Letter → Type 0
 TurnsFound rules state act i None old new w r sent = (new ≡ old) × (w ≡ why.Down) × (r ≡ None) × (sent ≡ [])
 TurnsFound rules state act i (Some seat) old new w r sent =
-    (new ≡ slice_set old i (slice_index_or new i seat)) × IsTurned state (seat_turn rules state act seat) seat (slice_index_or new i seat) w r sent
+    (new ≡ slice_set old i (slice_index_or new i seat)) × IsTurned rules state (seat_turn rules state act seat) seat (slice_index_or new i seat) w r sent
 
 -- what an act did at one of several seats
-abbrev pub TurnsAt : {S D V : Type 0} → Rules D V → (S → Running D V) → Act → ℕ → List (Seat S) → List (Seat S) → Why → Option Record → List Letter → Type 0
+abbrev pub TurnsAt : {S D V : Type 0} → Rules D V → (S → Running D V) → Act → ℕ → List (Seat S) → List (Seat S) → Why → Option Written → List Letter → Type 0
 TurnsAt rules state act i old new w r sent = TurnsFound rules state act i (slice_get old i) old new w r sent
 
 -- the volatile parts of the roles
@@ -86,11 +106,11 @@ abbrev pub roles_in : {S D V : Type 0} → (S → Running D V) → List (Seat S)
 roles_in state [] = []
 roles_in state (seat ∷ seats) = volatile_of state seat.role ∷ roles_in state seats
 
--- a seat of this role, with its records of the history
-pub record IsSeat {S : Type 0} (c : Cluster) (who : RoleId) (kept : List KeptRecord) (seat : Seat S) : Type 0 where
+-- a seat of this role, with its list by the history
+pub record IsSeat {S D V : Type 0} (rules : Rules D V) (c : Cluster) (who : RoleId) (kept : List KeptRecord) (seat : Seat S) : Type 0 where
   pub cluster : seat.cluster ≡ c
   pub me : seat.me ≡ who
-  pub records : seat.records ≡ records_of who kept
+  pub records : seat.records ≡ list_of rules who kept
 
-abbrev pub AreSeats : {S : Type 0} → Cluster → Kind → List KeptRecord → List (Seat S) → Type 0
-AreSeats {S} c k kept seats = (i : ℕ) (seat : Seat S) → slice_get seats i ≡ Some seat → IsSeat c (record { kind = k; index = i }) kept seat
+abbrev pub AreSeats : {S D V : Type 0} → Rules D V → Cluster → Kind → List KeptRecord → List (Seat S) → Type 0
+AreSeats {S} rules c k kept seats = (i : ℕ) (seat : Seat S) → slice_get seats i ≡ Some seat → IsSeat rules c (record { kind = k; index = i }) kept seat

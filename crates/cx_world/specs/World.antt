@@ -1,19 +1,22 @@
 -- The world as contracts see it: the model's world, and whether a step was cut off.
-use Rattle.std.specs.Prelude.{◌≡◌, Bool, List, [], ◌++◌, Option, length, option_to_list}
+use Rattle.std.specs.Prelude.{◌≡◌, Bool, true, List, [], ◌++◌, Option, length, option_to_list}
+use Rattle.std.specs.List.{list_all}
+use Rattle.cx_base.specs.Asked.{is_valid_event}
 use Rattle.cx_base.specs.declared.cluster.Cluster.{Cluster}
 use Rattle.cx_base.specs.declared.event.Event.{Event}
 use Rattle.cx_base.specs.declared.event.Happened.{Happened}
 use Rattle.cx_base.specs.declared.role.Kind.TheVariants as kind
 use Rattle.cx_base.specs.declared.role.RoleId.{RoleId}
 use Rattle.cx_base.specs.declared.why.Why.{Why}
-use Rattle.cx_model.specs.Acceptor.{AcceptorDurable}
-use Rattle.cx_model.specs.Batcher.{BatcherVolatile}
-use Rattle.cx_model.specs.Leader.{LeaderDurable, LeaderVolatile}
-use Rattle.cx_model.specs.Matchmaker.{MatchmakerDurable}
-use Rattle.cx_model.specs.Proxy.{ProxyVolatile}
-use Rattle.cx_model.specs.Reader.{ReaderVolatile}
-use Rattle.cx_model.specs.Replica.{ReplicaDurable, ReplicaVolatile}
+use Rattle.cx_model.specs.Acceptor.{AcceptorDurable, acceptor_rules}
+use Rattle.cx_model.specs.Batcher.{BatcherVolatile, batcher_rules}
+use Rattle.cx_model.specs.Leader.{LeaderDurable, LeaderVolatile, leader_rules}
+use Rattle.cx_model.specs.Matchmaker.{MatchmakerDurable, matchmaker_rules}
+use Rattle.cx_model.specs.Proxy.{ProxyVolatile, proxy_rules}
+use Rattle.cx_model.specs.Reader.{ReaderVolatile, reader_rules}
+use Rattle.cx_model.specs.Replica.{ReplicaDurable, ReplicaVolatile, replica_rules}
 use Rattle.cx_model.specs.Rules.{Running}
+use Rattle.cx_model.specs.Unbatcher.{unbatcher_rules}
 use Rattle.cx_history.specs.Begins.{IsPrefix}
 use Rattle.cx_model.specs.World.{World, Roles, Change, change, step, run, event_list}
 use Rattle.cx_msg.specs.Letter.{Letter}
@@ -84,17 +87,17 @@ roles_of seats =
       readers = volatiles seats.readers;
     }
 
--- the seats of a world: the roles that run, and each role's part of the history of records
+-- the seats of a world: the roles that run, and each role's list by the history of changes
 pub record HasSeats (c : Cluster) (r : Roles) (kept : List KeptRecord) (seats : SeatLists) : Type 0 where
   pub roles : r ≡ roles_of seats
-  pub batchers : AreSeats c kind.Batcher kept seats.batchers
-  pub leaders : AreSeats c kind.Leader kept seats.leaders
-  pub proxies : AreSeats c kind.Proxy kept seats.proxies
-  pub acceptors : AreSeats c kind.Acceptor kept seats.acceptors
-  pub matchmakers : AreSeats c kind.Matchmaker kept seats.matchmakers
-  pub replicas : AreSeats c kind.Replica kept seats.replicas
-  pub unbatchers : AreSeats c kind.Unbatcher kept seats.unbatchers
-  pub readers : AreSeats c kind.Reader kept seats.readers
+  pub batchers : AreSeats batcher_rules c kind.Batcher kept seats.batchers
+  pub leaders : AreSeats leader_rules c kind.Leader kept seats.leaders
+  pub proxies : AreSeats proxy_rules c kind.Proxy kept seats.proxies
+  pub acceptors : AreSeats acceptor_rules c kind.Acceptor kept seats.acceptors
+  pub matchmakers : AreSeats matchmaker_rules c kind.Matchmaker kept seats.matchmakers
+  pub replicas : AreSeats replica_rules c kind.Replica kept seats.replicas
+  pub unbatchers : AreSeats unbatcher_rules c kind.Unbatcher kept seats.unbatchers
+  pub readers : AreSeats reader_rules c kind.Reader kept seats.readers
 
 -- a change was made to the seats
 pub record IsChange (w : World) (ch : Change) (who : Option RoleId) (u : Why) (r : Option KeptRecord) (new : SeatLists) (sent : List Letter) : Type 0 where
@@ -119,8 +122,13 @@ abbrev pub AsksAfter : (World → Change) → List Happened → Changed → List
 AsksAfter change events changed sends =
     (w : World) → w.events ≡ events → (seats : SeatLists) → HasSeats w.cluster w.roles w.kept seats → IsChange w (change w) changed.who changed.why changed.kept seats sends
 
+-- whether each of these events is one that the world takes
+abbrev pub are_taken : List Happened → Bool
+are_taken events = list_all is_valid_event (event_list events)
+
 -- what is true of every world that isn't spent
 pub record Holds (w : World) (own : SeatLists) (sends : List Letter) : Type 0 where
   pub out : sends ≡ []
   pub seats : HasSeats w.cluster w.roles w.kept own
   pub ran : w ≡ run w.cluster (event_list w.events)
+  pub taken : are_taken w.events ≡ true

@@ -1,13 +1,16 @@
 //! What an event does to the roles.
 
-ghost use Rattle.std.specs.Prelude.{◌≡◌, [], IfOk, OnOk, IsTrue, None, Some, option_to_list};
+ghost use Rattle.std.specs.Prelude.{◌≡◌, [], false, IfOk, OnOk, IsTrue, None, Some, option_to_list};
 ghost use Rattle.cx_base.specs.Asked.{is_valid_event};
 ghost use Rattle.cx_model.specs.Request.{request};
 ghost use Rattle.cx_model.specs.World.{act_at, ask, change, come, kept_by};
-ghost use Rattle.cx_msg.specs.declared.input.Act.TheVariants.{Give};
+ghost use Rattle.cx_base.specs.Role.{role};
+ghost use Rattle.cx_base.specs.declared.role.Kind.TheVariants as kind;
+ghost use Rattle.cx_msg.specs.declared.input.Act.TheVariants.{Give, Snap};
+ghost use Rattle.cx_world.specs.Seat.{is_snap};
 ghost use Rattle.cx_world.specs.World.{AsksAfter, Changes, ChangesAfter};
 
-use crate::seat::{Seat, act_at};
+use crate::seat::{Seat, act_at, snap_at};
 use crate::turned::{Changed, Turned};
 use cx_acceptor::Acceptor;
 use cx_base::{Cut, Event, Kind, NoMemory, RoleId, Why};
@@ -59,9 +62,10 @@ fn nothing(who: Option<RoleId>, why: Why) -> Changed
     }
 }
 
-// An act at a role. A client hears whatever it is given.
+// An act at a role, but for a snap. A client hears whatever it is given.
 fn act(seats: &mut Seats, who: RoleId, act: &Act, out: &mut Outbox) -> Result<Changed, NoMemory>
     requires empty { out.old.list ≡ [] }
+    requires other { is_snap act.now ≡ false }
     ensures { IfOk result (λ changed. Changes (λ w. act_at w act.now who) seats.old changed seats.new out.new.list) }
 {
     match who.kind {
@@ -99,6 +103,17 @@ fn act(seats: &mut Seats, who: RoleId, act: &Act, out: &mut Outbox) -> Result<Ch
             Ok(of_role(who, turned))
         }
     }
+}
+
+// A replica forgets.
+fn snap(seats: &mut Seats, replica: u16, cut: Cut, out: &mut Outbox) -> Result<Changed, NoMemory>
+    requires empty { out.old.list ≡ [] }
+    ensures { IfOk result (λ changed. Changes (λ w. act_at w (Snap cut) (role kind.Replica replica)) seats.old changed
+        seats.new out.new.list) }
+{
+    let who = RoleId::new(Kind::Replica, replica);
+    let turned = snap_at(&mut seats.replicas, replica, cut, out)?;
+    Ok(of_role(who, turned))
 }
 
 // The datagram of a request goes out.
@@ -208,6 +223,7 @@ pub fn change(
             let order = give(Input::Order { order: *order }, *cut);
             act(seats, who, &order, out)
         }
+        Event::Snap { replica, cut } => snap(seats, *replica, *cut, out),
         Event::Crash(role) => act(seats, *role, &Act::Stop, out),
         Event::Restart(role) => act(seats, *role, &Act::Wake, out),
     }

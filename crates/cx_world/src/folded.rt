@@ -2,12 +2,13 @@
 
 ghost use Rattle.std.specs.Prelude.{◌≡◌, ◌+◌, ◌++◌, IfOk, OnOk, length};
 ghost use Rattle.cx_base.specs.Fold.{command_list, map_behind};
-ghost use Rattle.cx_world.specs.Folded.{folded_of, values_by, values_in};
+ghost use Rattle.cx_model.specs.World.{values_in};
+ghost use Rattle.cx_world.specs.Folded.{folded_of, values_by};
 
 use cx_base::{Kind, NoMemory, RoleId, Value};
 use cx_history::Kept;
 use cx_kv::{Executed, Store, execute};
-use cx_msg::{KeptRecord, Record};
+use cx_msg::{KeptRecord, Record, Written};
 use cx_trace::Folded;
 use std::alloc::Global;
 
@@ -21,15 +22,22 @@ fn execute_all(before: &mut Executed, store: &mut Store, values: &[Value]) -> Re
     Ok(())
 }
 
-// One value more for each of a record.
-fn execute_record(before: &mut Executed, folded: &mut Folded, what: &Record) -> Result<(), NoMemory>
+// One value more for each of a change.
+fn execute_change(
+    before: &mut Executed,
+    folded: &mut Folded,
+    what: &Written,
+) -> Result<(), NoMemory>
     ensures held { OnOk result (folded.new.held ≡ folded.old.held + length (values_in what.now)) }
     ensures store { OnOk result
         (folded.new.store ≡ map_behind before.old folded.old.store
         (command_list (values_in what.now))) }
     ensures before { OnOk result (before.new ≡ before.old ++ command_list (values_in what.now)) }
 {
-    if let Record::Log { values } = what {
+    if let Written::Record {
+        what: Record::Log { values },
+    } = what
+    {
         let values = values.as_slice();
         let Some(held) = folded.held.checked_add(values.len() as u64) else {
             return Err(NoMemory);
@@ -40,7 +48,7 @@ fn execute_record(before: &mut Executed, folded: &mut Folded, what: &Record) -> 
     Ok(())
 }
 
-// The values of a record, if this role kept it.
+// The values of a change, if this role's store it is.
 fn execute_kept(
     me: RoleId,
     before: &mut Executed,
@@ -54,12 +62,12 @@ fn execute_kept(
     ensures before { OnOk result (before.new ≡ before.old ++ command_list (values_by me one.now)) }
 {
     if me.is(one.role) {
-        execute_record(before, folded, &one.what)?;
+        execute_change(before, folded, &one.what)?;
     }
     Ok(())
 }
 
-/// How many values a replica kept, and the map that they leave. Each record is read by itself, and its values are executed. Want
+/// How many values a replica kept, and the map that they leave. Each change is read by itself, and its values are executed. Want
 /// of memory also where the count has more than eight bytes.
 pub fn folded(alloc: Global, kept: &Kept, replica: u16) -> Result<Folded, NoMemory>
     ensures { IfOk result (λ folded. folded ≡ folded_of replica kept.now) }

@@ -1,14 +1,15 @@
-//! A keeper that holds the last record alone.
+//! A keeper that holds the last change of its list alone.
 
-ghost use Rattle.std.specs.Prelude.{◌≡◌, ◌≤◌, ◌+◌, ◌++◌, ◌∷◌, [], IfOk, IsTrue, OnOk, OnErr, length, drop, option_to_list};
+ghost use Rattle.std.specs.Prelude.{◌≡◌, ◌++◌, ◌∷◌, ℕ, [], IfOk, IsTrue, None, true, OnOk, OnErr, Some, option_to_list};
+ghost use Rattle.cx_history.specs.Kept.{all_changes_fit};
 ghost use Rattle.cx_keeper.specs.Keeper.{all_fit};
-ghost use Rattle.cx_keeper.specs.MemKeeper.{kept_of, faults_of, mem_append_gives};
 ghost use Rattle.cx_msg.specs.Records.{fits};
-ghost use Rattle.cx_world.specs.LastKeeper.{tells_nothing, last_append_is};
+ghost use Rattle.cx_msg.specs.declared.input.Written.TheVariants as written;
+ghost use Rattle.cx_world.specs.LastKeeper.{faults_kept, first_of, is_renewal, last_append_gives, last_append_is, last_renew_gives, last_renew_is, list_kept, slot_of, tells_nothing};
 
 use cx_base::{Cut, Duplicate, Faults, NoMemory};
-use cx_keeper::{KeepFault, Keeper, OpenFault};
-use cx_msg::Record;
+use cx_keeper::{KeepFault, Keeper, OpenFault, Records, Renew};
+use cx_msg::{Record, Written};
 use cx_ring::{Tells, Told};
 use std::alloc::Global;
 use std::marker::Model;
@@ -25,29 +26,58 @@ impl<'a> Tells<(&'a Told<Record>, &'a Record), Record> for OneMore {
     ghost told = { λ x. x.0.now.items ++ x.1.now ∷ [] };
 }
 
-/// Lets an append fail where `cut` says so, and holds the last record alone: whoever has it notes the others elsewhere.
+struct Anew;
+
+impl<'a> Tells<&'a Records, Record> for Anew {
+    ghost told = { λ x. x.now };
+}
+
+/// Lets a change fail where `cut` says so, and holds the last change alone, with the list where that was put anew: whoever has it
+/// notes the others elsewhere.
 #[derive(Drop)]
 pub struct LastKeeper {
     alloc: Global,
     told: Told<Record>,
-    count: usize,
-    last: Option<Record>,
+    last: Option<Written>,
+    // The list that was put anew, where that is the last change.
+    renewed: Records,
     cut: Cut,
     faults: Faults,
 }
 
 impl Model for LastKeeper {
-    ghost use Rattle.cx_keeper.specs.MemKeeper.{MemKeeperState};
-    ghost use Rattle.cx_world.specs.LastKeeper.{IsLast};
+    ghost use Rattle.cx_world.specs.LastKeeper.{IsLast, LastState};
 
-    ghost Value = { MemKeeperState };
+    ghost Value = { LastState };
 
-    ghost view = { λ keeper. record { kept = keeper.told.items; cut = keeper.cut; faults = keeper.faults } };
+    ghost view = { λ keeper. record {
+      store = record { kept = keeper.told.items; cut = keeper.cut; faults = keeper.faults };
+      last = keeper.last;
+    } };
 
-    ghost invariant = { λ keeper. IsLast keeper.told.items keeper.count keeper.last };
+    ghost invariant = { λ keeper. IsLast keeper.told.items keeper.last keeper.renewed };
 }
 
-fn copied(alloc: Global, last: &Option<Record>) -> Result<Option<Record>, NoMemory>
+fn slot_of(what: &Record) -> u64
+    ensures { result ≡ slot_of what.now }
+{
+    match what {
+        Record::Base { first, .. } => *first,
+        _ => 0,
+    }
+}
+
+// The first slot of a list that begins anew.
+fn first_of(records: &[Record]) -> u64
+    ensures { result ≡ first_of records.now }
+{
+    match records {
+        [] => 0,
+        [base, ..] => slot_of(base),
+    }
+}
+
+fn copied(alloc: Global, last: &Option<Written>) -> Result<Option<Written>, NoMemory>
     ensures { IfOk result (λ r. r ≡ last.now) }
 {
     match last {
@@ -57,61 +87,85 @@ fn copied(alloc: Global, last: &Option<Record>) -> Result<Option<Record>, NoMemo
 }
 
 impl LastKeeper {
-    /// No records, and whole appends. It takes no memory.
+    /// No records, and whole changes. It takes no memory.
     pub fn new(alloc: Global) -> Self
-        ensures { result ≡ record { kept = []; cut = Cut.Whole; faults = 0 } }
+        ensures { result ≡ record { store = record { kept = []; cut = Cut.Whole; faults = 0 }; last = None } }
     {
         LastKeeper {
             alloc,
             told: Told::of::<(), NoRecords>(&()),
-            count: 0,
             last: None,
+            renewed: Records::new(alloc),
             cut: Cut::Whole,
             faults: Faults::none(),
         }
     }
 
-    /// How many records it keeps. It takes no memory.
-    pub fn len(&self) -> usize
-        ensures { result ≡ length self.now.kept }
+    /// The last change since `cut` was called, if there was one. It takes no memory.
+    pub fn last(&self) -> &Option<Written>
+        ensures last { result.now ≡ self.now.last }
+        ensures ranges { IsTrue (all_changes_fit (option_to_list result.now)) }
     {
-        self.count
+        &self.last
     }
 
-    /// The record that was kept since there were this many, if one was.
-    pub fn kept_since(&self, count: usize) -> Result<Option<Record>, NoMemory>
-        requires least { count ≤ length self.now.kept }
-        requires most { length self.now.kept ≤ count + 1 }
-        ensures last { IfOk result (λ r. option_to_list r ≡ drop count self.now.kept) }
-        ensures ranges { IfOk result (λ r. IsTrue (all_fit (option_to_list r))) }
+    /// A copy of the last change since `cut` was called, if there was one.
+    pub fn changed(&self) -> Result<Option<Written>, NoMemory>
+        ensures last { IfOk result (λ last. last ≡ self.now.last) }
+        ensures ranges { IfOk result (λ last. IsTrue (all_changes_fit (option_to_list last))) }
     {
-        if count >= self.count {
-            return Ok(None);
-        }
-        let last = copied(self.alloc, &self.last)?;
-        Ok(last)
+        copied(self.alloc, &self.last)
     }
 
-    /// How appends go from here on: `Torn` loses the record and fails, `Kept` keeps it and fails. It takes no memory.
+    /// The list, which was put anew by the last change.
+    pub fn renewed(&self) -> Result<Vec<Record>, NoMemory>
+        requires { is_renewal self.now.last ≡ true }
+        ensures list { IfOk result (λ list. list.items ≡ self.now.store.kept) }
+        ensures ranges { IfOk result (λ list. IsTrue (all_fit list.items)) }
+    {
+        self.renewed.all()
+    }
+
+    /// How changes go from here on: `Torn` loses them and fails, `Kept` keeps them and fails. It forgets which was the last. It takes
+    /// no memory.
     pub fn cut(&mut self, cut: Cut)
-        ensures { self.new ≡ record self.old { cut = cut } }
+        ensures { self.new ≡ record { store = record self.old.store { cut = cut }; last = None } }
     {
+        self.last = None;
+        self.renewed = Records::new(self.alloc);
         self.cut = cut;
     }
 
     // The record is the last one. Out of memory, it changes nothing.
-    fn note(&mut self, what: &Record) -> Result<(), NoMemory>
+    fn add(&mut self, what: &Record) -> Result<(), NoMemory>
         requires { IsTrue (fits what.now) }
-        ensures ok { OnOk result (self.new ≡ record self.old { kept = self.old.kept ++ what.now ∷ [] }) }
+        ensures ok { OnOk result (self.new ≡ record {
+          store = record self.old.store { kept = self.old.store.kept ++ what.now ∷ [] };
+          last = Some (written.Record what.now);
+        }) }
         ensures err { OnErr result (self.new ≡ self.old) }
     {
-        if self.count == usize::MAX {
-            return Err(NoMemory);
-        }
         let last = what.copy(self.alloc)?;
         self.told = Told::of::<(&Told<Record>, &Record), OneMore>(&(&self.told, what));
-        self.count += 1;
-        self.last = Some(last);
+        self.last = Some(Written::Record { what: last });
+        Ok(())
+    }
+
+    // These records are the list. Out of memory, it changes nothing.
+    fn put_anew(&mut self, records: &[Record]) -> Result<(), NoMemory>
+        requires { IsTrue (all_fit records.now) }
+        ensures ok { OnOk result (self.new ≡ record {
+          store = record self.old.store { kept = records.now };
+          last = Some (written.Snap (first_of records.now));
+        }) }
+        ensures err { OnErr result (self.new ≡ self.old) }
+    {
+        let renewed = Records::of(self.alloc, records)?;
+        self.told = Told::of::<&Records, Anew>(&&renewed);
+        self.renewed = renewed;
+        self.last = Some(Written::Snap {
+            first: first_of(records),
+        });
         Ok(())
     }
 }
@@ -119,18 +173,18 @@ impl LastKeeper {
 impl Keeper for LastKeeper {
     ghost tells = { tells_nothing };
 
-    ghost kept = { kept_of };
+    ghost kept = { list_kept };
 
-    ghost faults = { faults_of };
+    ghost faults = { faults_kept };
 
-    ghost append_gives = { mem_append_gives };
+    ghost append_gives = { last_append_gives };
 
     ghost append_is = { last_append_is };
 
     fn append(&mut self, what: &Record) -> Result<(), KeepFault> {
         match self.cut {
             Cut::Whole => {
-                self.note(what)?;
+                self.add(what)?;
                 Ok(())
             }
             Cut::Torn => {
@@ -138,7 +192,7 @@ impl Keeper for LastKeeper {
                 Err(KeepFault::Failed)
             }
             Cut::Kept => {
-                self.note(what)?;
+                self.add(what)?;
                 self.faults.add();
                 Err(KeepFault::Failed)
             }
@@ -149,5 +203,29 @@ impl Keeper for LastKeeper {
     fn recover(&mut self) -> Result<Vec<Record>, OpenFault> {
         self.faults.add();
         Err(OpenFault::Failed)
+    }
+}
+
+impl Renew for LastKeeper {
+    ghost renew_gives = { last_renew_gives };
+
+    ghost renew_is = { last_renew_is };
+
+    fn renew(&mut self, records: &[Record]) -> Result<(), KeepFault> {
+        match self.cut {
+            Cut::Whole => {
+                self.put_anew(records)?;
+                Ok(())
+            }
+            Cut::Torn => {
+                self.faults.add();
+                Err(KeepFault::Failed)
+            }
+            Cut::Kept => {
+                self.put_anew(records)?;
+                self.faults.add();
+                Err(KeepFault::Failed)
+            }
+        }
     }
 }

@@ -1,22 +1,23 @@
 //! A role with its keeper, running or not.
 
-ghost use Rattle.std.specs.Prelude.{◌≡◌, [], IfErr, IfOk, IsErrOf, IsTrue, None, Some, option_to_list, true};
-ghost use Rattle.cx_keeper.specs.Keeper.{all_fit};
-ghost use Rattle.cx_keeper.specs.MemKeeper.{mem_append_gives};
+ghost use Rattle.std.specs.Prelude.{◌≡◌, [], false, IfOk, IsErrOf, IsTrue, None, OnOk, Some, true};
 ghost use Rattle.cx_base.specs.Cluster.{count_of};
-ghost use Rattle.cx_model.specs.Rules.{Rules, Running, outcome_of};
+ghost use Rattle.cx_model.specs.Replica.{replica_rules};
+ghost use Rattle.cx_model.specs.Rules.{Rules, Running, opened, outcome_of, refused};
 ghost use Rattle.cx_model.specs.World.{fresh_roles};
-ghost use Rattle.cx_msg.specs.declared.input.Act.TheVariants.{Give, Stop, Wake};
+ghost use Rattle.cx_msg.specs.declared.input.Act.TheVariants.{Give, Snap, Stop, Wake};
 ghost use Rattle.cx_keeper.specs.declared.keeper.KeepFault.TheVariants as fault;
+ghost use Rattle.cx_keeper.specs.Keeper.{all_fit};
 ghost use Rattle.cx_role.specs.Role.{IsStep, MayKeep};
-ghost use Rattle.cx_role.specs.Wake.{IsWakeFault, refused_behind, reopened};
-ghost use Rattle.cx_world.specs.LastKeeper.{tells_nothing};
-ghost use Rattle.cx_world.specs.Seat.{AreSeats, roles_in, Seat, IsPlace, IsTurned, TurnsAt, seat_turn, volatile_of, why_of_cut};
+ghost use Rattle.cx_role.specs.Wake.{refused_behind, reopened};
+ghost use Rattle.cx_world.specs.LastKeeper.{last_append_gives, list_kept, tells_nothing};
+ghost use Rattle.cx_world.specs.Seat.{AreSeats, IsPlace, IsTurned, is_snap, roles_in, Seat, seat_turn, Stands, TurnsAt, volatile_of, why_of_cut};
 
 use crate::last_keeper::LastKeeper;
 use crate::turned::Turned;
 use cx_base::{Cluster, Cut, Kind, NoMemory, RoleId, Why};
-use cx_msg::{Act, Input, Record};
+use cx_msg::{Act, Input, Record, Written};
+use cx_replica::Replica;
 use cx_role::{Outbox, Role, StepFault, WakeFault};
 use std::alloc::Global;
 use std::array::from_ref;
@@ -25,18 +26,19 @@ use std::marker::Model;
 /// A role's place in the world: its keeper, and the role, which stays here while it doesn't run.
 #[derive(Drop)]
 pub struct Seat<R: Role> {
+    alloc: Global,
     cluster: Cluster,
     me: RoleId,
     // None after it ran out of memory alone.
     role: Option<R>,
     runs: bool,
-    // The record that a cut append kept, of which the role doesn't know yet.
-    behind: Option<Record>,
+    // What it changed last, which the role may not know.
     keeper: LastKeeper,
 }
 
 impl<R: Role> Model for Seat<R> {
     ghost use Rattle.std.specs.Prelude.{if◌then◌else◌, None};
+    ghost use Rattle.cx_world.specs.LastKeeper.{list_kept};
     ghost use Rattle.cx_world.specs.Seat.{Seat, Sits};
 
     ghost Value = { Seat R };
@@ -45,11 +47,10 @@ impl<R: Role> Model for Seat<R> {
       cluster = seat.cluster;
       me = seat.me;
       role = if seat.runs then seat.role else None;
-      records = seat.keeper.kept;
+      records = list_kept seat.keeper;
     } };
 
-    ghost invariant = { λ seat. Sits R.rules R.state seat.cluster seat.me seat.keeper.kept seat.role
-        seat.runs seat.behind };
+    ghost invariant = { λ seat. Sits R.rules R.state seat.cluster seat.me seat.keeper seat.role seat.runs };
 }
 
 fn why_of_cut(cut: Cut) -> Why
@@ -78,9 +79,10 @@ fn step<R: Role>(
 ) -> Result<Why, StepFault>
     requires live { (R.state role.old).live ≡ true }
     requires empty { out.old.list ≡ [] }
-    ensures step { IsStep mem_append_gives tells_nothing R.rules (R.state role.old)
+    ensures step { IsStep last_append_gives tells_nothing R.rules (R.state role.old)
         (outcome_of R.rules (R.state role.old) input.now)
         result (R.state role.new) keeper.old keeper.new out.new.list }
+    ensures kept { OnOk result (MayKeep R.rules (R.state role.old) (outcome_of R.rules (R.state role.old) input.now)) }
     ensures fits { IsErrOf result StepFault.Failed
         → MayKeep R.rules (R.state role.old) (outcome_of R.rules (R.state role.old) input.now) }
 {
@@ -91,45 +93,84 @@ fn step<R: Role>(
     }
 }
 
-// The role as it is opened again, with the record after what it knows.
-fn reopened<R: Role>(role: R, behind: &Option<Record>) -> Result<R, WakeFault>
-    requires { IsTrue (all_fit (option_to_list behind.now)) }
-    ensures role { IfOk result
-        (λ opened. R.state opened ≡ reopened R.rules (R.state role) (option_to_list behind.now)) }
-    ensures fault { IfErr result (IsWakeFault (refused_behind R.rules (R.state role) (option_to_list behind.now))) }
+// The role as these records leave it. Only want of memory may keep it from that.
+fn anew<R: Role>(
+    alloc: Global,
+    cluster: &Cluster,
+    me: RoleId,
+    records: &[Record],
+) -> Result<R, NoMemory>
+    requires place { IsPlace R.rules cluster.now me }
+    requires fit { IsTrue (all_fit records.now) }
+    requires own { refused R.rules cluster.now me records.now ≡ None }
+    ensures { IfOk result (λ role. R.state role ≡ opened R.rules cluster.now me records.now) }
 {
-    match behind {
-        Some(one) => role.reopen(from_ref(one)),
-        None => role.reopen(&[]),
+    match R::open(alloc, cluster, me, records) {
+        Ok(role) => Ok(role),
+        Err(WakeFault::NoMemory) => Err(NoMemory),
+        Err(WakeFault::Record { .. }) => unreachable!(),
+    }
+}
+
+// The role as it is opened again, with these records after what it knows. Only want of memory may keep it from that.
+fn again<R: Role>(role: R, records: &[Record]) -> Result<R, NoMemory>
+    requires fit { IsTrue (all_fit records.now) }
+    requires own { refused_behind R.rules (R.state role) records.now ≡ None }
+    ensures { IfOk result (λ opened. R.state opened ≡ reopened R.rules (R.state role) records.now) }
+{
+    match role.reopen(records) {
+        Ok(role) => Ok(role),
+        Err(WakeFault::NoMemory) => Err(NoMemory),
+        Err(WakeFault::Record { .. }) => unreachable!(),
+    }
+}
+
+// The role as its list leaves it: it stopped, and may not know the last change.
+fn woken<R: Role + Drop>(
+    alloc: Global,
+    cluster: &Cluster,
+    me: RoleId,
+    role: R,
+    keeper: &LastKeeper,
+) -> Result<R, NoMemory>
+    requires place { IsPlace R.rules cluster.now me }
+    requires stands { Stands R.rules cluster.now me keeper.now (R.state role) }
+    ensures { IfOk result (λ woken. R.state woken ≡ opened R.rules cluster.now me (list_kept keeper.now)) }
+{
+    if role.live() {
+        return again(role, &[]);
+    }
+    match keeper.last() {
+        None => again(role, &[]),
+        Some(Written::Record { what }) => again(role, from_ref(what)),
+        Some(Written::Snap { .. }) => anew(alloc, cluster, me, &keeper.renewed()?),
     }
 }
 
 impl<R: Role + Drop> Seat<R> {
     /// A running role without records.
     pub fn opened(alloc: Global, cluster: &Cluster, me: RoleId) -> Result<Self, NoMemory>
-        requires { IsPlace R.rules cluster.now me }
+        requires place { IsPlace R.rules cluster.now me }
+        requires whole { R.rules.whole R.rules.empty ≡ true }
         ensures cluster { IfOk result (λ seat. seat.cluster ≡ cluster.now) }
         ensures me { IfOk result (λ seat. seat.me ≡ me) }
         ensures records { IfOk result (λ seat. seat.records ≡ []) }
         ensures role { IfOk result (λ seat. volatile_of R.state seat.role ≡ Some (R.rules.fresh cluster.now)) }
     {
-        match R::open(alloc, cluster, me, &[]) {
-            Ok(role) => Ok(Seat {
-                cluster: *cluster,
-                me,
-                role: Some(role),
-                runs: true,
-                behind: None,
-                keeper: LastKeeper::new(alloc),
-            }),
-            Err(WakeFault::NoMemory) => Err(NoMemory),
-            Err(WakeFault::Record { .. }) => unreachable!(),
-        }
+        let role = anew(alloc, cluster, me, &[])?;
+        Ok(Seat {
+            alloc,
+            cluster: *cluster,
+            me,
+            role: Some(role),
+            runs: true,
+            keeper: LastKeeper::new(alloc),
+        })
     }
 
     fn give(&mut self, input: &Input, cut: Cut, out: &mut Outbox) -> Result<Turned, NoMemory>
         requires { out.old.list ≡ [] }
-        ensures { IfOk result (λ turned. IsTurned R.state
+        ensures { IfOk result (λ turned. IsTurned R.rules R.state
             (seat_turn R.rules R.state (Give input.now cut) self.old) self.old self.new turned.why
             turned.kept out.new.list) }
     {
@@ -140,19 +181,15 @@ impl<R: Role + Drop> Seat<R> {
             unreachable!();
         };
         self.keeper.cut(cut);
-        let before = self.keeper.len();
         match step(role, &mut self.keeper, input, out) {
             Ok(why) => {
-                let kept = self.keeper.kept_since(before)?;
+                let kept = self.keeper.changed()?;
                 Ok(Turned { why, kept })
             }
             Err(StepFault::NoMemory) => Err(NoMemory),
             Err(StepFault::Failed) => {
                 self.runs = false;
-                let stopped = self.role.take();
-                self.behind = self.keeper.kept_since(before)?;
-                let kept = self.keeper.kept_since(before)?;
-                self.role = stopped;
+                let kept = self.keeper.changed()?;
                 Ok(Turned {
                     why: why_of_cut(cut),
                     kept,
@@ -162,7 +199,7 @@ impl<R: Role + Drop> Seat<R> {
     }
 
     fn stop(&mut self) -> Why
-        ensures { IsTurned R.state (seat_turn R.rules R.state Stop self.old) self.old self.new result None [] }
+        ensures { IsTurned R.rules R.state (seat_turn R.rules R.state Stop self.old) self.old self.new result None [] }
     {
         if !self.runs {
             return Why::Down;
@@ -172,7 +209,7 @@ impl<R: Role + Drop> Seat<R> {
     }
 
     fn wake(&mut self) -> Result<Why, NoMemory>
-        ensures { IfOk result (λ why. IsTurned R.state (seat_turn R.rules R.state Wake self.old)
+        ensures { IfOk result (λ why. IsTurned R.rules R.state (seat_turn R.rules R.state Wake self.old)
             self.old self.new why None []) }
     {
         if self.runs {
@@ -181,33 +218,81 @@ impl<R: Role + Drop> Seat<R> {
         let Some(role) = self.role.take() else {
             return Err(NoMemory);
         };
-        let behind = self.behind.take();
-        match reopened(role, &behind) {
-            Ok(role) => {
-                self.role = Some(role);
-                self.runs = true;
-                Ok(Why::Opened)
-            }
-            Err(WakeFault::NoMemory) => Err(NoMemory),
-            Err(WakeFault::Record { .. }) => unreachable!(),
-        }
+        let role = woken(self.alloc, &self.cluster, self.me, role, &self.keeper)?;
+        self.role = Some(role);
+        self.runs = true;
+        Ok(Why::Opened)
     }
 
-    /// What is done to the role.
+    /// What is done to the role, but for a snap.
     pub fn act(&mut self, act: &Act, out: &mut Outbox) -> Result<Turned, NoMemory>
         requires empty { out.old.list ≡ [] }
-        ensures { IfOk result (λ turned. IsTurned R.state (seat_turn R.rules R.state act.now self.old)
+        requires other { is_snap act.now ≡ false }
+        ensures { IfOk result (λ turned. IsTurned R.rules R.state (seat_turn R.rules R.state act.now self.old)
             self.old self.new turned.why turned.kept out.new.list) }
     {
         match act {
             Act::Give { input, cut } => self.give(input, *cut, out),
+            Act::Snap { .. } => unreachable!(),
             Act::Stop => Ok(still(self.stop())),
             Act::Wake => Ok(still(self.wake()?)),
         }
     }
 }
 
-/// What is done to the role at this place.
+impl Seat<Replica> {
+    /// The replica forgets what no other will ask it for.
+    pub fn snap(&mut self, cut: Cut, out: &mut Outbox) -> Result<Turned, NoMemory>
+        requires { out.old.list ≡ [] }
+        ensures { IfOk result (λ turned. IsTurned replica_rules (λ s. s)
+            (seat_turn replica_rules (λ s. s) (Snap cut) self.old) self.old self.new turned.why
+            turned.kept out.new.list) }
+    {
+        if !self.runs {
+            return Ok(still(Why::Down));
+        }
+        let Some(role) = &mut self.role else {
+            unreachable!();
+        };
+        self.keeper.cut(cut);
+        match role.snap(&mut self.keeper, out) {
+            Ok(why) => {
+                let kept = self.keeper.changed()?;
+                Ok(Turned { why, kept })
+            }
+            Err(StepFault::NoMemory) => Err(NoMemory),
+            Err(StepFault::Failed) => {
+                self.runs = false;
+                let kept = self.keeper.changed()?;
+                Ok(Turned {
+                    why: why_of_cut(cut),
+                    kept,
+                })
+            }
+        }
+    }
+}
+
+/// The replica at this place forgets what no other will ask it for.
+pub fn snap_at(
+    seats: &mut Vec<Seat<Replica>>,
+    index: u16,
+    cut: Cut,
+    out: &mut Outbox,
+) -> Result<Turned, NoMemory>
+    requires { out.old.list ≡ [] }
+    ensures { IfOk result (λ turned. TurnsAt replica_rules (λ s. s) (Snap cut) index seats.old.items
+        seats.new.items turned.why turned.kept out.new.list) }
+{
+    let index = index as usize;
+    if index >= seats.len() {
+        return Ok(still(Why::Down));
+    }
+    let seat = &mut seats[index];
+    seat.snap(cut, out)
+}
+
+/// What is done to the role at this place, but for a snap.
 pub fn act_at<R: Role + Drop>(
     seats: &mut Vec<Seat<R>>,
     index: u16,
@@ -215,6 +300,7 @@ pub fn act_at<R: Role + Drop>(
     out: &mut Outbox,
 ) -> Result<Turned, NoMemory>
     requires empty { out.old.list ≡ [] }
+    requires other { is_snap act.now ≡ false }
     ensures { IfOk result (λ turned. TurnsAt R.rules R.state act.now index seats.old.items
         seats.new.items turned.why turned.kept out.new.list) }
 {
@@ -235,9 +321,10 @@ pub fn open_all<R: Role + Drop>(
 ) -> Result<Vec<Seat<R>>, NoMemory>
     requires kind { kind ≡ R.rules.kind }
     requires count { count ≡ count_of cluster.now kind }
+    requires whole { R.rules.whole R.rules.empty ≡ true }
     ensures roles { IfOk result (λ seats. roles_in R.state seats.items
         ≡ fresh_roles (R.rules.fresh cluster.now) count) }
-    ensures seats { IfOk result (λ seats. AreSeats cluster.now kind [] seats.items) }
+    ensures seats { IfOk result (λ seats. AreSeats R.rules cluster.now kind [] seats.items) }
 {
     let mut seats = Vec::with_capacity(alloc, count as usize)?;
     for index in 0..count {

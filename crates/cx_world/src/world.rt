@@ -8,9 +8,8 @@ ghost use Rattle.cx_promises.specs.Lawful.{IsLawful, IsCommandList};
 ghost use Rattle.cx_world.specs.Counts.{counts_of};
 ghost use Rattle.cx_world.specs.Folded.{folded_of};
 ghost use Rattle.cx_history.specs.Begins.{IsPrefix};
-ghost use Rattle.cx_history.specs.Kept.{records_kept};
-ghost use Rattle.cx_keeper.specs.Keeper.{all_fit};
-ghost use Rattle.cx_world.specs.World.{BeginWith, effect_of};
+ghost use Rattle.cx_history.specs.Kept.{all_changes_fit, changes_kept};
+ghost use Rattle.cx_world.specs.World.{BeginWith, are_taken, effect_of};
 
 use crate::change::{Seats, change};
 use crate::counts::{Counts, count};
@@ -26,8 +25,8 @@ use cx_trace::{Effect, Folded};
 use std::alloc::Global;
 use std::marker::Model;
 
-/// All roles of a cluster with their keepers, and the histories: events with their results, records that were kept, and
-/// datagrams that were sent, numbered from 0.
+/// All roles of a cluster with their keepers, and the histories: events with their results, changes of stores, and datagrams
+/// that were sent, numbered from 0.
 #[derive(Drop)]
 pub struct World {
     alloc: Global,
@@ -69,9 +68,9 @@ impl Model for World {
         }) (lists_of w.seats) w.out.list };
 }
 
-// Notes the record that was kept, where one was.
+// Notes the change of a store, where there was one.
 fn keep(kept: &mut Kept, what: Option<KeptRecord>) -> Result<(), NoMemory>
-    requires { all_fit (records_kept (option_to_list what)) ≡ true }
+    requires { all_changes_fit (changes_kept (option_to_list what)) ≡ true }
     ensures ok { OnOk result (kept.new ≡ kept.old ++ option_to_list what) }
     ensures err { OnErr result (kept.new ≡ kept.old) }
 {
@@ -91,7 +90,7 @@ fn note(
     what: Option<KeptRecord>,
     out: &mut Outbox,
 ) -> Result<(), NoMemory>
-    requires { all_fit (records_kept (option_to_list what)) ≡ true }
+    requires { all_changes_fit (changes_kept (option_to_list what)) ≡ true }
     ensures events { OnOk result (events.new ≡ events.old ++ record { event = event.now; why = why } ∷ []) }
     ensures kept { OnOk result (kept.new ≡ kept.old ++ option_to_list what) }
     ensures sent { OnOk result (sent.new ≡ sent.old ++ out.old.list) }
@@ -136,7 +135,7 @@ impl World {
     }
 
     /// One event: the new world is the model's step of the old one, and the effect tells what the step did. What is promised of
-    /// runs holds of the events so far. After it ran out of memory the world is spent, and its histories begin with those from before.
+    /// runs holds of the events so far, each of which the world took. After it ran out of memory the world is spent, and its histories begin with those from before.
     #[tactic(auto, unfolding(cx_model::specs::World::step))]
     pub fn step(&mut self, event: &Event) -> Result<Effect, NoMemory>
         requires fresh { self.old.spent ≡ false }
@@ -144,6 +143,7 @@ impl World {
         ensures ok { OnOk result (self.new ≡ record { world = step self.old.world event.now; spent = false }) }
         ensures effect { IfOk result (λ effect. effect ≡ effect_of self.old.world event.now) }
         ensures lawful { OnOk result (IsLawful self.new.world.cluster (event_list self.new.world.events)) }
+        ensures all_taken { OnOk result (are_taken self.new.world.events ≡ true) }
         ensures spent { OnErr result (self.new.spent ≡ true) }
         ensures begun { OnErr result (BeginWith self.old.world self.new.world) }
     {
@@ -227,12 +227,13 @@ impl World {
         count(&self.events, &self.kept, &self.sent)
     }
 
-    /// What is true of every world that isn't spent: it is the run of its events, and what is promised of runs holds of it. It takes
-    /// no memory.
+    /// What is true of every world that isn't spent: it is the run of its events, each of which it took, and what is promised of runs
+    /// holds of it. It takes no memory.
     pub fn law(&self)
         requires { self.now.spent ≡ false }
         ensures run { self.now.world ≡ run self.now.world.cluster (event_list self.now.world.events) }
         ensures lawful { IsLawful self.now.world.cluster (event_list self.now.world.events) }
+        ensures all_taken { are_taken self.now.world.events ≡ true }
     {
         let _ = &self.spent;
     }

@@ -38,4 +38,5 @@ invariant_of-result c =
         readers = readers.seats;
       };
       ran = same_start c.args.cluster lists batchers.roles leaders.roles proxies.roles acceptors.roles matchmakers.roles replicas.roles unbatchers.roles readers.roles;
+      taken = refl;
     })
