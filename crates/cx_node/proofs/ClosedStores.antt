@@ -15,6 +15,7 @@ use Rattle.cx_model.specs.Lists.{bool_cases, differ_role, get_set_other, get_set
 use Rattle.cx_model.specs.Lists.{records_append, same_number, same_role-itself, same_role-true}
 use Rattle.cx_model.specs.World.{records_of}
 use Rattle.cx_msg.specs.declared.input.KeptRecord.{KeptRecord}
+use Rattle.cx_msg.specs.declared.input.Written.TheVariants as written
 use Rattle.cx_msg.specs.declared.kept.Record.{Record}
 use Rattle.cx_role.specs.Role.{Appending, Refuses}
 use Rattle.cx_node.specs.declared.guest.Guest.{Guest}
@@ -330,23 +331,23 @@ module _ {D : Type 0} (seen : D → Option (List ℕ)) (may_leave : D → List �
 
         one_own : told_records (seen keepers.1.disk) ≡ told_records (seen keepers.0.disk) ++ r ∷ []
             → told_records (seen keepers.1.disk) ≡ told_records (seen keepers.0.disk)
-            ++ records_of role (record { role = role; what = r } ∷ [])
+            ++ records_of role (record { role = role; what = written.Record r } ∷ [])
         one_own p = rw (same_role-itself role) p
 
         one_other : (me : RoleId) → same_role me role ≡ false
-            → records_of me (record { role = role; what = r } ∷ []) ≡ []
+            → records_of me (record { role = role; what = written.Record r } ∷ []) ≡ []
         one_other me e = rw e refl
 
-        failed_stores : Tells ks ⊎ Tells (ks ++ record { role = role; what = r } ∷ [])
+        failed_stores : Tells ks ⊎ Tells (ks ++ record { role = role; what = written.Record r } ∷ [])
         failed_stores = go (failed_told seen may_leave moment left_since disk_faults r keepers.0 keepers.1 keepers.4)
           where
             go : (told_records (seen keepers.1.disk) ≡ told_records (seen keepers.0.disk))
                 ⊎ (told_records (seen keepers.1.disk) ≡ told_records (seen keepers.0.disk) ++ r ∷ [])
-                → Tells ks ⊎ Tells (ks ++ record { role = role; what = r } ∷ [])
+                → Tells ks ⊎ Tells (ks ++ record { role = role; what = written.Record r } ∷ [])
             go (inl lost) =
                 inl (subst Tells (append-nil ks)
                 (fail_stores [] (lost ∙ sym (append-nil (told_records (seen keepers.0.disk)))) (λ me e. refl)))
-            go (inr stored) = inr (fail_stores (record { role = role; what = r } ∷ []) (one_own stored) one_other)
+            go (inr stored) = inr (fail_stores (record { role = role; what = written.Record r } ∷ []) (one_own stored) one_other)
 
         fail_still : (a : RoleId) → (role ≡ a → ⊥) → faults_after a ≡ faults a
         fail_still a never = stands after back a (λ i h k at has name. go i h k at has name (bool_cases (i == f.place)))
@@ -387,10 +388,10 @@ module _ {D : Type 0} (seen : D → Option (List ℕ)) (may_leave : D → List �
       stops_stores stop.LinkFault next s = inl (rest_stores s.1)
       stops_stores (stop.StoreFault role) next s = go (failed_stores role s.0 s.2)
         where
-          go : Tells ks ⊎ Tells (ks ++ record { role = role; what = s.0 } ∷ []) → Tells ks
+          go : Tells ks ⊎ Tells (ks ++ record { role = role; what = written.Record s.0 } ∷ []) → Tells ks
               ⊎ ((k : KeptRecord) × (next ≡ Some (Kept k)) × Tells (ks ++ k ∷ []))
           go (inl lost) = inl lost
-          go (inr stored) = inr (record { role = role; what = s.0 }, s.1, stored)
+          go (inr stored) = inr (record { role = role; what = written.Record s.0 }, s.1, stored)
 
       -- the count of each role stands, but of one whose append failed
       pub stops_still : (e : Stop) (next : Option Action)

@@ -7,6 +7,7 @@ use Rattle.std.proofs.lemmas.Option.{none-some, same_Some, slice_get-map}
 use Rattle.std.specs.Io.KnownBytes.{Appends}
 use Rattle.cx_base.specs.declared.cluster.Cluster.{Cluster}
 use Rattle.cx_msg.specs.declared.input.KeptRecord.{KeptRecord}
+use Rattle.cx_msg.specs.declared.input.Written.TheVariants as written
 use Rattle.cx_role.specs.Role.{Appending}
 use Rattle.cx_node.specs.declared.guest.Guest.{Guest}
 use Rattle.cx_node.specs.declared.node.Stop.{Stop}
@@ -99,7 +100,7 @@ module _ {K : Type 0} (gives : Appending K) where
     stops_as stop.NoMemory o n gs bs more s = s
     stops_as stop.WriteFault o n gs bs more s = s
     stops_as stop.LinkFault o n gs bs more s = ((s.0.0, more (Took s.0.0) s.0.1), s.1)
-    stops_as (stop.StoreFault role) o n gs bs more s = (s.0, more (Kept (record { role = role; what = s.0 })) s.1, s.2)
+    stops_as (stop.StoreFault role) o n gs bs more s = (s.0, more (Kept (record { role = role; what = written.Record s.0 })) s.1, s.2)
 
     -- it stopped, and what was to come wasn't done
     pub part_then : (xs ys : List Action) (e : Stop) (a b : Scene K) → DidPart gives c xs e a b

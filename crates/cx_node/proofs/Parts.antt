@@ -7,7 +7,8 @@ use Rattle.cx_base.specs.declared.event.Order.TheVariants as order
 use Rattle.cx_base.specs.declared.role.Kind.TheVariants as kind
 use Rattle.cx_base.specs.Role.{role}
 use Rattle.cx_edge.specs.Link.{LinkHistory}
-use Rattle.cx_msg.specs.Decoding.{Decodes, decoded}
+use Rattle.cx_msg.specs.Decoding.{decoded}
+use Rattle.cx_msg.specs.Decodes.{Decodes}
 use Rattle.cx_msg.specs.Letter.{Letter}
 use Rattle.cx_msg.specs.declared.fault.WireFault.{WireFault}
 use Rattle.cx_msg.specs.declared.fault.WireFault.TheVariants as faults

@@ -1,16 +1,22 @@
 -- The places of hosted roles, and what is asked of all of them.
-use Rattle.std.proofs.Common.{◌≡◌, ◌<◌, ◌+◌, ◌&&◌, ◌||◌, not, ℕ, suc, Bool, true, false, cond, List, [], ◌∷◌, length}
+use Rattle.std.proofs.Common.{◌≡◌, ◌<◌, ◌+◌, ◌&&◌, ◌||◌, not, ℕ, zero, suc, Bool, true, false, cond, List, [], ◌∷◌, length}
 use Rattle.std.proofs.Common.{arith, nat_lt, Option, None, Some, option_map, position, if◌then◌else◌, refl, sym, ap}
 use Rattle.std.proofs.Common.{◌∙◌, subst}
-use Rattle.std.specs.List.{list_all, list_any, position_or_len}
+use Rattle.std.specs.List.{list_all, list_any, position_or_len, range_with_len}
 use Rattle.std.proofs.lemmas.Bool.Decides.{nat_tests}
 use Rattle.std.proofs.lemmas.Option.{cond_some}
+use Rattle.cx_base.specs.Lists.{numbers}
 use Rattle.cx_base.specs.Role.{same_role}
 use Rattle.cx_base.specs.declared.role.RoleId.{RoleId}
 use Rattle.cx_node.specs.declared.guest.Guest.{Guest}
 use Rattle.cx_node.specs.Guest.{hosted_in, hosted_of, who}
 use Rattle.cx_node.specs.Hosted.{Hosted}
 use Rattle.cx_node.specs.Run.{all_finished, has_finished, is_client, place_of}
+
+-- std's numbers in rising order
+pub range_numbers : (first count : ℕ) → range_with_len first count ≡ numbers first count
+range_numbers first zero = refl
+range_numbers first (suc count) = ap (λ (l : List ℕ). first ∷ l) (range_numbers (first + 1) count)
 
 moved_on : (t : Bool) (n : ℕ) → cond t (Some (1 + n)) None ≡ option_map (λ (i : ℕ). i + 1) (cond t (Some n) None)
 moved_on true n = let e : 1 + n ≡ n + 1 = omega arith in ap (λ (k : ℕ). Some k) e

@@ -15,7 +15,7 @@ use Rattle.cx_model.specs.Acceptor.{acceptor_rules}
 use Rattle.cx_model.specs.Batcher.{batcher_rules}
 use Rattle.cx_model.specs.Leader.{leader_rules}
 use Rattle.cx_model.specs.Lists.{bool_cases, differ_role, get_set_other, get_set_same, not_both, number_itself}
-use Rattle.cx_model.specs.Lists.{records_other, same_number, same_role-itself}
+use Rattle.cx_model.specs.Lists.{same_number, same_role-itself}
 use Rattle.cx_model.specs.Matchmaker.{matchmaker_rules}
 use Rattle.cx_model.specs.Names.{names_role}
 use Rattle.cx_model.specs.Proxy.{proxy_rules}
@@ -27,6 +27,7 @@ use Rattle.cx_model.specs.World.{kept_by, records_of}
 use Rattle.cx_msg.specs.Letter.{Letter}
 use Rattle.cx_msg.specs.declared.input.Input.TheVariants as input
 use Rattle.cx_msg.specs.declared.input.KeptRecord.{KeptRecord}
+use Rattle.cx_msg.specs.declared.input.Written.TheVariants as written
 use Rattle.cx_msg.specs.declared.kept.Record.{Record}
 use Rattle.cx_role.specs.Role.{Appending}
 use Rattle.cx_node.specs.declared.doing.Doing.{Doing}
@@ -47,6 +48,10 @@ use Rattle.cx_node.proofs.Done.{did_nothing, guests_rest, rests_itself, same_at,
 use Rattle.cx_node.proofs.Grown.{before, behind, grows_none}
 
 -- what a role keeps is its own
+other_kept : (me who : RoleId) (o : Option Record) → same_role me who ≡ false → records_of me (kept_by who (option_map written.Record o)) ≡ []
+other_kept me who None e = refl
+other_kept me who (Some r) e = rw e refl
+
 kept_own : (h : Hosted) (what : Doing) (me : RoleId) → same_role me (name_of h) ≡ false
     → records_of me (does h what).kept ≡ []
 unfolding does
@@ -62,29 +67,29 @@ kept_own (ReaderAt s) Begin me e = refl
 kept_own (ClientAt s) (Give (input.Take d)) me e = refl
 kept_own (ClientAt s) (Give input.Tick) me e = refl
 kept_own (ClientAt s) (Give (input.Order order)) me e = refl
-kept_own (BatcherAt s) (Give i) me e = records_other me s.me [] (outcome_of batcher_rules s i).kept e
-kept_own (LeaderAt s) (Give i) me e = records_other me s.me [] (outcome_of leader_rules s i).kept e
-kept_own (ProxyAt s) (Give i) me e = records_other me s.me [] (outcome_of proxy_rules s i).kept e
-kept_own (AcceptorAt s) (Give i) me e = records_other me s.me [] (outcome_of acceptor_rules s i).kept e
-kept_own (MatchmakerAt s) (Give i) me e = records_other me s.me [] (outcome_of matchmaker_rules s i).kept e
-kept_own (ReplicaAt s) (Give i) me e = records_other me s.me [] (outcome_of replica_rules s i).kept e
-kept_own (UnbatcherAt s) (Give i) me e = records_other me s.me [] (outcome_of unbatcher_rules s i).kept e
-kept_own (ReaderAt s) (Give i) me e = records_other me s.me [] (outcome_of reader_rules s i).kept e
+kept_own (BatcherAt s) (Give i) me e = other_kept me s.me (outcome_of batcher_rules s i).kept e
+kept_own (LeaderAt s) (Give i) me e = other_kept me s.me (outcome_of leader_rules s i).kept e
+kept_own (ProxyAt s) (Give i) me e = other_kept me s.me (outcome_of proxy_rules s i).kept e
+kept_own (AcceptorAt s) (Give i) me e = other_kept me s.me (outcome_of acceptor_rules s i).kept e
+kept_own (MatchmakerAt s) (Give i) me e = other_kept me s.me (outcome_of matchmaker_rules s i).kept e
+kept_own (ReplicaAt s) (Give i) me e = other_kept me s.me (outcome_of replica_rules s i).kept e
+kept_own (UnbatcherAt s) (Give i) me e = other_kept me s.me (outcome_of unbatcher_rules s i).kept e
+kept_own (ReaderAt s) (Give i) me e = other_kept me s.me (outcome_of reader_rules s i).kept e
 
 -- the record that a step keeps is its first action
 first_of : (me : RoleId) (o : Option Record) (r : Record) (more : List Action)
-    → slice_get (records_of me (kept_by me o)) 0 ≡ Some r
-    → slice_get (map Kept (kept_by me o) ++ more) 0 ≡ Some (Kept (record { role = me; what = r }))
+    → slice_get (records_of me (kept_by me (option_map written.Record o))) 0 ≡ Some r
+    → slice_get (map Kept (kept_by me (option_map written.Record o)) ++ more) 0 ≡ Some (Kept (record { role = me; what = written.Record r }))
 first_of me None r more e = absurd (none-some r e)
 first_of me (Some x) r more e =
-    ap (λ y. Some (Kept (record { role = me; what = y }))) (same_Some x r (sym (own (same_role-itself me)) ∙ e))
+    ap (λ y. Some (Kept (record { role = me; what = written.Record y }))) (same_Some x r (sym (own (same_role-itself me)) ∙ e))
   where
     own : same_role me me ≡ true → slice_get (if same_role me me then x ∷ [] else []) 0 ≡ Some x
     own is = rw is refl
 
 kept_first : (h : Hosted) (what : Doing) (r : Record) (more : List Action)
     → slice_get (records_of (name_of h) (does h what).kept) 0 ≡ Some r
-    → slice_get (map Kept (does h what).kept ++ more) 0 ≡ Some (Kept (record { role = name_of h; what = r }))
+    → slice_get (map Kept (does h what).kept ++ more) 0 ≡ Some (Kept (record { role = name_of h; what = written.Record r }))
 unfolding does
 kept_first (ClientAt s) Begin r more e = absurd (none-some r e)
 kept_first (BatcherAt s) Begin r more e = absurd (none-some r e)
@@ -270,7 +275,7 @@ module _ {K : Type 0} (gives : Appending K) (c : Cluster) (gs : List (Guest K)) 
         stops = (
           f.0,
           subst (λ me. slice_get (step_actions step.kept step.sends step.text) 0 ≡ Some
-              (Kept (record { role = me; what = f.0 }))) name
+              (Kept (record { role = me; what = written.Record f.0 }))) name
               (kept_first (hosted_of h) what f.0 (map Sent step.sends ++ map Printed step.text) f.1),
           record {
             place = i;

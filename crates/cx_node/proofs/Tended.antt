@@ -1,10 +1,10 @@
 -- The parts of a tended turn, as acts.
-use Rattle.std.proofs.Common.{◌≡◌, ◌+◌, ◌<◌, ◌≤◌, ◌⊎◌, ◌==◌, ◌&&◌, not, nat_lt, ◌/◌, ℕ, zero, suc, min, arith, length, Bool, true, false, cond, List, [], ◌∷◌, map, Option, None, Some, option_map, Result, Ok, Err, slice_get, if◌then◌else◌, inl, inr, refl, sym, ap, ◌∙◌, subst, append-nil}
+use Rattle.std.proofs.Common.{◌≡◌, ◌+◌, ◌<◌, ◌==◌, ◌&&◌, not, nat_lt, ◌/◌, ℕ, min, length, Bool, true, false, cond, List, [], ◌∷◌, map, Option, None, Some, option_map, Result, Ok, Err, slice_get, if◌then◌else◌, refl, sym, ap, ◌∙◌, subst, append-nil}
 use Rattle.std.specs.Prelude.{OnOk, filter, is_some}
 use Rattle.std.specs.List.{count_by, sum_by}
 use Rattle.std.specs.Option.{option_map_or}
 use Rattle.std.proofs.lemmas.List.Sums.{length-filter, sum-map, sum_by-cons}
-use Rattle.std.proofs.lemmas.Option.{none-some, same_Some}
+use Rattle.std.proofs.lemmas.Option.{none-some, same_Some, slice_get-map, slice_get_within}
 use Rattle.cx_base.specs.declared.cluster.Cluster.{Cluster}
 use Rattle.cx_base.specs.declared.event.Order.{Order}
 use Rattle.cx_base.specs.declared.event.Order.TheVariants as order
@@ -32,7 +32,7 @@ use Rattle.cx_node.specs.Doing.{Scene, scene}
 use Rattle.cx_node.specs.Guest.{AreReady, hosted_in, hosted_of}
 use Rattle.cx_node.specs.Hosted.{Hosted}
 use Rattle.cx_node.specs.Run.{Moved, stays, took, at_place, does_at, is_client, ordered, place_of, then_do}
-use Rattle.cx_node.specs.Tending.{Care, Tended, all_completed, asks_again, at_or_none, beat, beat_over, clients_noted, clients_tended, collected, completed, completed_by, counted, decoded_heeded, first_leader, first_tick, flushed, gets, heeded, held_by, held_of, hosted_as, is_beat, is_of, is_overtaken, is_so, kind_ticks, leader_asked, leader_cared, leader_of, leader_tended, next_pass, others_tick, passes, reported, standing_of, tend_comes, tend_ordered, tended_turn, those_tick, turn_ended, with_care, within, without_care}
+use Rattle.cx_node.specs.Tending.{Care, Tended, all_completed, asks_again, at_or_none, beat, beat_over, clients_noted, clients_tended, collected, completed, completed_by, counted, decoded_heeded, first_leader, flushed, gets, heeded, held_by, held_of, hosted_as, in_turn, is_beat, is_of, is_overtaken, is_so, kind_ticks, leader_asked, leader_cared, leader_of, leader_tended, next_pass, others_tick, pass_begun, passes, reported, standing_of, tend_comes, tend_ordered, tended_turn, those_tick, ticks_if, turn_ended, with_care, within, without_care}
 use Rattle.cx_node.specs.Tends.{TendsOnce, is_leader_so, tended}
 use Rattle.cx_node.proofs.Actions.{Done, acts_before, acts_cut, acts_none, acts_nothing, acts_then, acts_took}
 use Rattle.cx_node.proofs.Seated.{hosted_at}
@@ -186,9 +186,9 @@ pub counts_as : (m n : Moved Tended) (r : Done) (k : Care) → m ≡ n → OnOk 
 counts_as m n r k is p = subst (λ (x : Moved Tended). OnOk r (k ≡ x.next.care)) (sym is) p
 
 -- the next pass begins with what is completed after it
-pub pass_counts : (now : Care) (marks : List ℕ) (hs last : List Hosted) → last ≡ (those_tick (is_overtaken now.marks) hs).next → marks ≡ completed_by last
-    → record now { marks = marks } ≡ (next_pass (tended now hs)).next.care
-pass_counts now marks hs last there is = ap (λ (l : List ℕ). record now { marks = l }) (is ∙ ap completed_by there)
+pub pass_counts : (now after : Care) (marks : List ℕ) (hs last : List Hosted) → last ≡ (in_turn (is_overtaken now.marks) now.queue hs).next → marks ≡ completed_by last
+    → after ≡ pass_begun marks now → after ≡ (next_pass (tended now hs)).next.care
+pass_counts now after marks hs last there is begun = begun ∙ ap (λ (l : List ℕ). pass_begun l now) (is ∙ ap completed_by there)
 
 pub kind_is : (k : Kind) (hs : List Hosted) → kind_ticks k hs ≡ those_tick (λ i h. is_of k h) hs
 unfolding kind_ticks
@@ -197,6 +197,22 @@ kind_is k hs = refl
 pub others_is : (hs : List Hosted) → others_tick hs ≡ those_tick (λ i h. not (is_client h)) hs
 unfolding others_tick
 others_is hs = refl
+
+-- ---- one after the other
+
+-- of whom this is so, there is one
+pub so_within : (test : Hosted → Bool) (hs : List Hosted) (i : ℕ) → is_so test (slice_get hs i) ≡ true → i < length hs
+so_within test hs i e = go (slice_get hs i) refl e
+  where
+    go : (o : Option Hosted) → slice_get hs i ≡ o → is_so test o ≡ true → i < length hs
+    go None none so = cc
+    go (Some h) here so = slice_get_within hs i h here
+
+-- whether it is so of the one at a place, where this list has the same
+pub so_at : {K : Type 0} (test : Hosted → Bool) (gs seats : List (Guest K)) (i : ℕ) (t : Bool) → seats ≡ gs → t ≡ is_so test (option_map hosted_of (slice_get seats i))
+    → is_so test (slice_get (hosted_in gs) i) ≡ t
+so_at {K} test gs seats i t same is =
+    ap (is_so test) (slice_get-map hosted_of gs i) ∙ ap (λ (l : List (Guest K)). is_so test (option_map hosted_of (slice_get l i))) (sym same) ∙ sym is
 
 module _ {K : Type 0} (gives : Appending K) (c : Cluster) where
   pub act_as : (m n : Moved (List Hosted)) (r : Done) (a b : Scene K) → m ≡ n → Acts gives c [] n r a b → Acts gives c [] m r a b
@@ -225,32 +241,32 @@ module _ {K : Type 0} (gives : Appending K) (c : Cluster) where
   pub gets_none : (o : Option Order) (a : Scene K) → o ≡ None → AreReady c a.guests → Acts gives c [] (gets o (hosted_in a.guests)) (Ok tt) a a
   gets_none o a is ready = subst (λ (q : Option Order). Acts gives c [] (gets q (hosted_in a.guests)) (Ok tt) a a) (sym is) (acts_nothing gives c a ready)
 
-  -- of the first roles those ticked that were meant
-  pub ticked_on : (test : ℕ → Hosted → Bool) (hs : List Hosted) (n : ℕ) (a b d : Scene K) → Acts gives c [] (first_tick test n hs) (Ok tt) a b
-      → Acts gives c [] (if is_so (test n) (slice_get (hosted_in b.guests) n) then does_at n (Give input.Tick) (hosted_in b.guests) else stays (hosted_in b.guests)) (Ok tt) b d
-      → Acts gives c [] (first_tick test (n + 1) hs) (Ok tt) a d
-  ticked_on test hs n a b d p q =
-      let next : suc n ≡ n + 1 = omega arith in
-      subst (λ k. Acts gives c [] (first_tick test k hs) (Ok tt) a d) next
-      (acts_then gives c [] [] (first_tick test n hs) (λ after. if is_so (test n) (slice_get after n) then does_at n (Give input.Tick) after else stays after) (Ok tt) a b d p q)
+  -- The roles at these places are asked to tick, and so far this was done: what comes of those that are left comes of all.
+  abbrev pub Asked : (ℕ → Hosted → Bool) → List ℕ → List ℕ → Scene K → Scene K → Type 0
+  Asked test all left a b =
+      (r : Done) (d : Scene K) → Acts gives c [] (in_turn test left (hosted_in b.guests)) r b d → Acts gives c [] (in_turn test all (hosted_in a.guests)) r a d
 
-  stopped_at : (test : ℕ → Hosted → Bool) (hs : List Hosted) (e : Stop) (a b : Scene K) (m n : ℕ) → n ≤ m → Acts gives c [] (first_tick test n hs) (Err e) a b → Acts gives c [] (first_tick test m hs) (Err e) a b
-  stopped_at test hs e a b zero n le p = let none : n ≡ 0 = omega (arith, le) in subst (λ k. Acts gives c [] (first_tick test k hs) (Err e) a b) none p
-  stopped_at test hs e a b (suc m) n le p = go (λ less. stopped_at test hs e a b m n less p) (cases le)
-    where
-      cases : n ≤ suc m → (n ≡ suc m) ⊎ (n ≤ m)
-      cases h = grind (arith, h)
+  pub none_asked : (test : ℕ → Hosted → Bool) (all left : List ℕ) (a : Scene K) → left ≡ all → Asked test all left a a
+  none_asked test all left a is r d q = subst (λ (l : List ℕ). Acts gives c [] (in_turn test l (hosted_in a.guests)) r a d) is q
 
-      go : (n ≤ m → Acts gives c [] (first_tick test m hs) (Err e) a b) → (n ≡ suc m) ⊎ (n ≤ m) → Acts gives c [] (first_tick test (suc m) hs) (Err e) a b
-      go earlier (inl same) = subst (λ k. Acts gives c [] (first_tick test k hs) (Err e) a b) same p
-      go earlier (inr less) = acts_before gives c [] [] (first_tick test m hs) (λ after. if is_so (test m) (slice_get after m) then does_at m (Give input.Tick) after else stays after) e a b (earlier less)
+  pub one_asked : (test : ℕ → Hosted → Bool) (all left rest : List ℕ) (i : ℕ) (a b d : Scene K) → left ≡ i ∷ rest → Asked test all left a b
+      → Acts gives c [] (ticks_if test i (hosted_in b.guests)) (Ok tt) b d → Asked test all rest a d
+  one_asked test all left rest i a b d is before p r f q =
+      before r f
+      (subst (λ (l : List ℕ). Acts gives c [] (in_turn test l (hosted_in b.guests)) r b f) (sym is)
+      (acts_then gives c [] [] (ticks_if test i (hosted_in b.guests)) (λ after. in_turn test rest after) r b d f p q))
 
-  pub ticked_stops : (test : ℕ → Hosted → Bool) (hs : List Hosted) (n : ℕ) (e : Stop) (a b d : Scene K) → n < length hs → Acts gives c [] (first_tick test n hs) (Ok tt) a b
-      → Acts gives c [] (if is_so (test n) (slice_get (hosted_in b.guests) n) then does_at n (Give input.Tick) (hosted_in b.guests) else stays (hosted_in b.guests)) (Err e) b d
-      → Acts gives c [] (those_tick test hs) (Err e) a d
-  ticked_stops test hs n e a b d more p q =
-      stopped_at test hs e a d (length hs) (suc n) (omega (arith, more))
-      (acts_then gives c [] [] (first_tick test n hs) (λ after. if is_so (test n) (slice_get after n) then does_at n (Give input.Tick) after else stays after) (Err e) a b d p q)
+  pub one_stopped : (test : ℕ → Hosted → Bool) (all left rest : List ℕ) (i : ℕ) (e : Stop) (a b d : Scene K) → left ≡ i ∷ rest → Asked test all left a b
+      → Acts gives c [] (ticks_if test i (hosted_in b.guests)) (Err e) b d → Acts gives c [] (in_turn test all (hosted_in a.guests)) (Err e) a d
+  one_stopped test all left rest i e a b d is before p =
+      before (Err e) d
+      (subst (λ (l : List ℕ). Acts gives c [] (in_turn test l (hosted_in b.guests)) (Err e) b d) (sym is)
+      (acts_before gives c [] [] (ticks_if test i (hosted_in b.guests)) (λ after. in_turn test rest after) e b d p))
+
+  pub all_asked : (test : ℕ → Hosted → Bool) (all left : List ℕ) (a b : Scene K) → left ≡ [] → Asked test all left a b → AreReady c b.guests
+      → Acts gives c [] (in_turn test all (hosted_in a.guests)) (Ok tt) a b
+  all_asked test all left a b is before ready =
+      before (Ok tt) b (subst (λ (l : List ℕ). Acts gives c [] (in_turn test l (hosted_in b.guests)) (Ok tt) b b) (sym is) (acts_nothing gives c b ready))
 
   -- ---- the parts of a turn
 

@@ -6,6 +6,7 @@ use Rattle.cx_base.specs.declared.role.RoleId.{RoleId}
 use Rattle.cx_edge.specs.Link.{LinkHistory}
 use Rattle.cx_msg.specs.Letter.{Letter}
 use Rattle.cx_msg.specs.declared.input.KeptRecord.{KeptRecord}
+use Rattle.cx_msg.specs.declared.input.Written.TheVariants as written
 use Rattle.cx_msg.specs.declared.kept.Record.{Record}
 use Rattle.cx_role.specs.Role.{Appending}
 use Rattle.cx_node.specs.declared.guest.Guest.{Guest}
@@ -91,7 +92,7 @@ StopsAt gives stop.WriteFault next old new = GuestsRest gives old new
 StopsAt gives stop.LinkFault next old new =
     ((what : Option (List ℕ)) × (next ≡ Some (Took what))) × GuestsRest gives old new
 StopsAt gives (stop.StoreFault role) next old new =
-    (r : Record) × (next ≡ Some (Kept (record { role = role; what = r }))) × GuestFails gives role r old new
+    (r : Record) × (next ≡ Some (Kept (record { role = role; what = written.Record r }))) × GuestFails gives role r old new
 
 -- The first of these actions were done, and no others, when this stopped the run.
 pub record DidPart {K : Type 0} (gives : Appending K) (c : Cluster) (actions : List Action) (e : Stop)

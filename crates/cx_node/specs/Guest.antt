@@ -1,6 +1,7 @@
 -- What contracts see of a hosted role, and what its keeper was given.
 use Rattle.std.specs.Prelude.{◌≡◌, ℕ, List, [], ◌∷◌, map, Option, None, Some, Result, Ok, Err, slice_get}
 use Rattle.std.specs.Prelude.{IsErrOf, IsTrue, OnErr, OnOk, true}
+use Rattle.std.specs.Option.{option_map}
 use Rattle.cx_base.specs.declared.cluster.Cluster.{Cluster}
 use Rattle.cx_base.specs.declared.role.RoleId.{RoleId}
 use Rattle.cx_keeper.specs.declared.keeper.KeepFault.{KeepFault}
@@ -11,6 +12,7 @@ use Rattle.cx_model.specs.Rules.{Rules, Running, running_after}
 use Rattle.cx_model.specs.World.{kept_by, records_of}
 use Rattle.cx_msg.specs.Letter.{Letter}
 use Rattle.cx_msg.specs.declared.input.KeptRecord.{KeptRecord}
+use Rattle.cx_msg.specs.declared.input.Written.TheVariants as written
 use Rattle.cx_msg.specs.declared.kept.Record.{Record}
 use Rattle.cx_role.specs.Role.{Appending, Refuses}
 use Rattle.cx_node.specs.declared.guest.Guest.{Guest}
@@ -104,11 +106,11 @@ FailsIn gives next (Some old) (Some new) = Fails gives next old new
 pub record MakesRow {K D V : Type 0} (gives : Appending K) (rules : Rules D V) (before : Running D V) (row : Outcome V)
     (result : Result (Unit {0}) KeepFault) (after : Running D V) (old new : K) (sent : List Letter) : Type 0 where
   pub state : OnOk result (after ≡ running_after rules before row)
-  pub kept : OnOk result (Appended gives (records_of before.me (kept_by before.me row.kept)) old new)
+  pub kept : OnOk result (Appended gives (records_of before.me (kept_by before.me (option_map written.Record row.kept))) old new)
   pub sends : OnOk result (sent ≡ row.sends)
   pub rests : IsErrOf result NoMemory → Refuses gives old new
   pub failed : IsErrOf result Failed → Fails gives
-      (slice_get (records_of before.me (kept_by before.me row.kept)) 0) old new
+      (slice_get (records_of before.me (kept_by before.me (option_map written.Record row.kept))) 0) old new
   pub name : OnErr result (after.live ≡ true → after.me ≡ before.me)
 
 -- the keeper of a role, if it has one, keeps nothing more

@@ -1,10 +1,12 @@
 -- A hosted role, and what it does with what it is given.
 use Rattle.std.specs.Prelude.{ℕ, Bool, true, false, List, [], if◌then◌else◌}
+use Rattle.std.specs.Option.{option_map}
 use Rattle.cx_base.specs.declared.role.RoleId.{RoleId}
 use Rattle.cx_msg.specs.Letter.{Letter}
 use Rattle.cx_msg.specs.declared.input.Input.{Input}
 use Rattle.cx_msg.specs.declared.input.Input.TheVariants as input
 use Rattle.cx_msg.specs.declared.input.KeptRecord.{KeptRecord}
+use Rattle.cx_msg.specs.declared.input.Written.TheVariants as written
 use Rattle.cx_client.specs.Client.{ClientState, ClientMoved, client_start, client_takes, client_ticks}
 use Rattle.cx_model.specs.Acceptor.{AcceptorDurable, acceptor_rules}
 use Rattle.cx_model.specs.Batcher.{BatcherVolatile, batcher_rules}
@@ -60,7 +62,7 @@ abbrev pub by_row : {D V : Type 0} → Rules D V → (Running D V → Hosted) �
 by_row rules make s i =
     record {
       next = make (running_after rules s (outcome_of rules s i));
-      kept = kept_by s.me (outcome_of rules s i).kept;
+      kept = kept_by s.me (option_map written.Record (outcome_of rules s i).kept);
       sends = (outcome_of rules s i).sends;
       text = [];
     }

@@ -1,16 +1,14 @@
 -- The result of a part of a tended turn: what its roles did, and what is counted.
-use Rattle.std.specs.Prelude.{◌≡◌, ℕ, Bool, List, [], Option, Result, OnOk, slice_get, if◌then◌else◌}
+use Rattle.std.specs.Prelude.{◌≡◌, ℕ, List, [], Option, Result, OnOk}
 use Rattle.cx_base.specs.declared.cluster.Cluster.{Cluster}
 use Rattle.cx_role.specs.Role.{Appending}
-use Rattle.cx_msg.specs.declared.input.Input.TheVariants as input
-use Rattle.cx_node.specs.declared.doing.Doing.TheVariants.{Give}
 use Rattle.cx_node.specs.declared.node.Stop.{Stop}
 use Rattle.cx_node.specs.Acts.{Acts}
 use Rattle.cx_node.specs.Doing.{Scene}
 use Rattle.cx_node.specs.Guest.{hosted_in}
 use Rattle.cx_node.specs.Hosted.{Hosted}
-use Rattle.cx_node.specs.Run.{Moved, does_at, stays}
-use Rattle.cx_node.specs.Tending.{Care, Tended, first_leader, is_so, leader_tended, without_care}
+use Rattle.cx_node.specs.Run.{Moved}
+use Rattle.cx_node.specs.Tending.{Care, Tended, first_leader, leader_tended, without_care}
 use Rattle.cx_node.specs.Tends.{TendsOnce, tended}
 
 -- what the roles did in a part without a take, by what was counted before it
@@ -32,8 +30,3 @@ ActsTurn gives c turn result before after old new =
 -- the leader's part of a beat
 abbrev pub leader_part : Cluster → Tended → Moved Tended
 leader_part c t = leader_tended c (first_leader t.hosted) t
-
--- the role at a place ticks, if there is one of which this is so
-abbrev pub ticks_if : (ℕ → Hosted → Bool) → ℕ → List Hosted → Moved (List Hosted)
-ticks_if test i hs =
-    if is_so (test i) (slice_get hs i) then does_at i (Give input.Tick) hs else stays hs

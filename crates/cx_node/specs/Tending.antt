@@ -1,6 +1,6 @@
 -- The turns of a node that tends its roles, and the run of a node with and without tending. A tended node has the roles tick, and gives its
 -- leader orders, by what it has counted, and not by the numbers of its turns.
-use Rattle.std.specs.Prelude.{ℕ, zero, suc, ◌+◌, ◌*◌, ◌/◌, ◌%◌, ◌==◌, min, nat_lt, nat_le, Bool, true, false, not, ◌&&◌, ◌||◌, List, [], ◌∷◌, map, length, sum, count_by, is_some, Option, None, Some, Result, Ok, Err, option_map, slice_get, if◌then◌else◌}
+use Rattle.std.specs.Prelude.{ℕ, ◌+◌, ◌*◌, ◌/◌, ◌%◌, ◌==◌, min, nat_lt, nat_le, Bool, true, false, not, ◌&&◌, ◌||◌, List, [], ◌∷◌, ◌++◌, filter, map, length, sum, count_by, is_some, Option, None, Some, Result, Ok, Err, option_map, slice_get, if◌then◌else◌}
 use Rattle.std.specs.Option.{option_map_or}
 use Rattle.cx_base.specs.declared.cluster.Cluster.{Cluster}
 use Rattle.cx_base.specs.declared.event.Order.{Order}
@@ -8,9 +8,11 @@ use Rattle.cx_base.specs.declared.event.Order.TheVariants as order
 use Rattle.cx_base.specs.declared.role.Kind.{Kind}
 use Rattle.cx_base.specs.declared.role.Kind.TheVariants as kind
 use Rattle.cx_base.specs.declared.role.RoleId.{RoleId}
+use Rattle.cx_base.specs.Lists.{below}
 use Rattle.cx_base.specs.Role.{role, same_role}
 use Rattle.cx_leader.specs.Tending.{can_collect, has_heard, has_open, is_new, is_spent}
 use Rattle.cx_model.specs.Leader.{LeaderDurable, LeaderVolatile, is_idle}
+use Rattle.cx_model.specs.Replica.{held}
 use Rattle.cx_model.specs.Rules.{Running}
 use Rattle.cx_msg.specs.Decoding.{decoded}
 use Rattle.cx_msg.specs.Letter.{Letter}
@@ -31,8 +33,10 @@ pub record Care : Type 0 where
   -- how many requests the hosted clients had completed at the last beat, and for how many beats they have completed none
   pub done : ℕ
   pub still : ℕ
-  -- how many requests each hosted role had completed when the last pass began, 0 for one that is no client
+  -- how many requests each hosted role had completed when the last pass began, 0 for one that is no client; and the places of all in the
+  -- order in which clients ask at its end
   pub marks : List ℕ
+  pub queue : List ℕ
   -- the leader's watermark at the last beat, and for how many beats it has not risen while a slot was open
   pub cw : ℕ
   pub stuck : ℕ
@@ -44,7 +48,7 @@ pub record Tended : Type 0 where
 
 -- nothing is counted yet
 abbrev pub no_care : List Hosted → Care
-no_care hs = record { turns = 0; empty = 0; came = false; done = 0; still = 0; marks = map (λ (h : Hosted). 0) hs; cw = 0; stuck = 0 }
+no_care hs = record { turns = 0; empty = 0; came = false; done = 0; still = 0; marks = map (λ (h : Hosted). 0) hs; queue = below (length hs); cw = 0; stuck = 0 }
 
 -- one more turn or beat
 abbrev pub one_more : ℕ → ℕ
@@ -86,7 +90,7 @@ first_leader hs = leader_in (hosted_as (role kind.Leader 0) hs)
 
 -- how many slots a replica holds
 abbrev pub held_of : Hosted → ℕ
-held_of (ReplicaAt s) = length s.durable.log
+held_of (ReplicaAt s) = held s.durable
 held_of other = 0
 
 unfoldable pub held_by : RoleId → List Hosted → ℕ
@@ -110,13 +114,18 @@ abbrev pub is_so : (Hosted → Bool) → Option Hosted → Bool
 is_so test None = false
 is_so test (Some h) = test h
 
--- of the first n hosted roles those tick of which this is so, in order; what is asked may regard the place
-abbrev pub first_tick : (ℕ → Hosted → Bool) → ℕ → List Hosted → Moved (List Hosted)
-first_tick test zero hs = stays hs
-first_tick test (suc n) hs = then_do (first_tick test n hs) (λ after. if is_so (test n) (slice_get after n) then does_at n (Give input.Tick) after else stays after)
+-- the hosted role at a place ticks, if there is one of which this is so; what is asked may regard the place
+abbrev pub ticks_if : (ℕ → Hosted → Bool) → ℕ → List Hosted → Moved (List Hosted)
+ticks_if test i hs = if is_so (test i) (slice_get hs i) then does_at i (Give input.Tick) hs else stays hs
 
+-- of the hosted roles at these places those tick of which this is so, one after the other
+abbrev pub in_turn : (ℕ → Hosted → Bool) → List ℕ → List Hosted → Moved (List Hosted)
+in_turn test [] hs = stays hs
+in_turn test (i ∷ places) hs = then_do (ticks_if test i hs) (λ after. in_turn test places after)
+
+-- of all those, in their order
 abbrev pub those_tick : (ℕ → Hosted → Bool) → List Hosted → Moved (List Hosted)
-those_tick test hs = first_tick test (length hs) hs
+those_tick test hs = in_turn test (below (length hs)) hs
 
 abbrev pub is_of : Kind → Hosted → Bool
 is_of k h = same_role (name_of h) (role k (name_of h).index)
@@ -241,11 +250,25 @@ is_marked marks i done = option_map_or (λ n. n == done) (slice_get marks i) fal
 abbrev pub is_overtaken : List ℕ → ℕ → Hosted → Bool
 is_overtaken marks i h = is_client h && is_marked marks i (completed h)
 
--- who was overtaken asks again, and the next pass begins
+-- whether the role at this place has completed as many by now as before
+abbrev pub is_still : List ℕ → List ℕ → ℕ → Bool
+is_still before now i = option_map_or (is_marked before i) (slice_get now i) false
+
+-- The order of the next pass: who completed none in this one stays in front, and the others go behind. So nobody comes to be in front of one
+-- that waits longer, and whoever waits comes to be the first. By their places the last would be asked last at each pass, and where more is
+-- asked than the leader's window has room for, they would wait for ever longer.
+abbrev pub requeued : List ℕ → List ℕ → List ℕ → List ℕ
+requeued before now queue = filter (is_still before now) queue ++ filter (λ i. not (is_still before now i)) queue
+
+-- a pass begins, when each hosted role has completed this many
+abbrev pub pass_begun : List ℕ → Care → Care
+pass_begun now k = record k { marks = now; queue = requeued k.marks now k.queue }
+
+-- who was overtaken asks again, in the order of the queue, and the next pass begins
 abbrev pub next_pass : Tended → Moved Tended
 next_pass t =
-    let m = those_tick (is_overtaken t.care.marks) t.hosted in
-    with_care (record t.care { marks = completed_by m.next }) m
+    let m = in_turn (is_overtaken t.care.marks) t.care.queue t.hosted in
+    with_care (pass_begun (completed_by m.next) t.care) m
 
 -- The clients: all ask again where none was answered for some beats; else, where a pass ends, those that were overtaken.
 unfoldable pub clients_tended : Tended → Moved Tended

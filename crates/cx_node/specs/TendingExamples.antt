@@ -1,15 +1,17 @@
 -- Worked parts of a tended turn.
 use Rattle.std.specs.Prelude.{◌≡◌, ℕ, zero, suc, true, false, List, [], ◌∷◌, replicate, None, Some}
 use Rattle.cx_base.specs.declared.command.Value.TheVariants.{Noop}
-use Rattle.cx_base.specs.declared.role.Kind.TheVariants.{Replica, Leader}
+use Rattle.cx_base.specs.declared.event.Event.TheVariants as event
+use Rattle.cx_base.specs.declared.role.Kind.TheVariants.{Client, Reader, Replica, Leader}
 use Rattle.cx_base.specs.Role.{role}
 use Rattle.cx_model.specs.Examples.{one_of_each}
-use Rattle.cx_msg.specs.Letter.{letter}
+use Rattle.cx_model.specs.Replica.{replica_rules}
+use Rattle.cx_msg.specs.Letter.{Letter, letter}
 use Rattle.cx_msg.specs.declared.message.Msg.TheVariants as msg
 use Rattle.cx_node.specs.Action.{sent_in}
-use Rattle.cx_node.specs.Hosted.{Hosted, ReplicaAt}
-use Rattle.cx_node.specs.Run.{stays}
-use Rattle.cx_node.specs.Tending.{Care, asks_again, collected, counted, first_leader, is_beat, is_time, leader_tended, no_care, reported, tend_ordered, untended}
+use Rattle.cx_node.specs.Hosted.{Hosted, ClientAt, ReplicaAt}
+use Rattle.cx_node.specs.Run.{Moved, stays}
+use Rattle.cx_node.specs.Tending.{Care, Tended, asks_again, collected, counted, first_leader, is_beat, is_time, leader_tended, next_pass, no_care, reported, tend_ordered, untended}
 
 -- n takes gave nothing
 abbrev pub quiet : ℕ → Care → Care
@@ -36,7 +38,7 @@ pub record Beats : Type 0 where
 -- replica 0 of a cluster with one role of each kind, with n slots
 abbrev pub replica_with : ℕ → Hosted
 replica_with n =
-    ReplicaAt (record { cluster = one_of_each; me = role Replica 0; live = true; durable = record { log = replicate n Noop }; volatile = record { early = []; deferred = [] } })
+    ReplicaAt (record { cluster = one_of_each; me = role Replica 0; live = true; durable = record (replica_rules.empty) { log = replicate n Noop }; volatile = replica_rules.fresh one_of_each })
 
 -- a replica reports each further multiple of 8 slots
 pub record Reports : Type 0 where
@@ -61,3 +63,37 @@ pub record Waits : Type 0 where
   pub time_16 : is_time 16 ≡ true
   pub time_48 : is_time 48 ≡ false
   pub time_3072 : is_time 3072 ≡ true
+
+-- a client that has completed n requests, and waits for the answer to a read
+abbrev pub client_with : ℕ → ℕ → Hosted
+client_with index n =
+    ClientAt (record { cluster = one_of_each; me = role Client index; script = replicate (suc n) (event.Read index 1 0 0 0 []); done = n; window = 1 })
+
+-- the read that it sends
+abbrev pub asks : ℕ → Letter
+asks index = letter (role Client index) (role Reader 0) (msg.ReadReq 1 0 [])
+
+-- three clients that have completed so many
+abbrev pub three_with : ℕ → ℕ → ℕ → List Hosted
+three_with a b d = client_with 0 a ∷ client_with 1 b ∷ client_with 2 d ∷ []
+
+-- a pass ends when they have
+abbrev pub ends_with : List Hosted → Care → Moved Tended
+ends_with hs k = next_pass (record { care = k; hosted = hs })
+
+-- three passes, in each of which one client alone is answered, each time another one
+abbrev pub first_end : Moved Tended
+first_end = ends_with (three_with 7 0 0) (no_care (three_with 0 0 0))
+
+abbrev pub second_end : Moved Tended
+second_end = ends_with (three_with 7 7 0) first_end.next.care
+
+abbrev pub third_end : Moved Tended
+third_end = ends_with (three_with 7 7 7) second_end.next.care
+
+-- who waits asks again, and who waits longest asks first: at the end of the second pass client 2 before client 0
+pub record Queues : Type 0 where
+  pub first : sent_in first_end.actions ≡ asks 1 ∷ asks 2 ∷ []
+  pub second : sent_in second_end.actions ≡ asks 2 ∷ asks 0 ∷ []
+  pub third : sent_in third_end.actions ≡ asks 0 ∷ asks 1 ∷ []
+  pub order : third_end.next.care.queue ≡ 0 ∷ 1 ∷ 2 ∷ []

@@ -21,7 +21,7 @@ pub record IsWoken {D V : Type 0} (rules : Rules D V) (c : Cluster) (me : RoleId
   pub told : is_some seen_after ≡ is_some seen
 
 -- The place at which the bytes are no store of this role: their first break, or that of the first record which the
--- role could not have appended.
+-- role could not have appended, or the end of records that end too early.
 abbrev pub IsBadStore : {D V : Type 0} → Rules D V → Cluster → RoleId → List ℕ → ℕ → Type 0
 IsBadStore rules c me file at =
     (image (Some me.kind) file ≡ Err at)

@@ -1,9 +1,11 @@
 //! What a tended node counts.
 
-ghost use Rattle.std.specs.Prelude.{◌≡◌, ◌&&◌, not, min, List, length, IfOk};
+ghost use Rattle.std.specs.Prelude.{◌≡◌, ◌&&◌, not, min, filter, List, length, IfOk, OnOk};
 ghost use Rattle.std.specs.List.{sum};
+ghost use Rattle.cx_base.specs.Lists.{below};
 ghost use Rattle.cx_node.specs.Hosted.{Hosted};
-ghost use Rattle.cx_node.specs.Tending.{asks_again, beat_over, clients_noted, counted, is_beat, is_marked, is_time, leader_noted, no_care, passes};
+ghost use Rattle.cx_node.specs.Tending.{asks_again, beat_over, clients_noted, counted, is_beat, is_marked, is_still};
+ghost use Rattle.cx_node.specs.Tending.{is_time, leader_noted, no_care, pass_begun, passes, requeued};
 
 use cx_base::NoMemory;
 use std::alloc::Global;
@@ -23,8 +25,10 @@ pub struct Care {
     // How many requests the hosted clients had completed at the last beat, and for how many beats they have completed none.
     done: u64,
     still: u32,
-    // How many each hosted role had completed when the last pass began.
+    // How many each hosted role had completed when the last pass began; and the places of all, in the order in which
+    // clients ask at its end.
     marks: Vec<u64>,
+    queue: Vec<usize>,
     // The leader's watermark at the last beat, and for how many beats it has not risen while a slot was open.
     cw: u64,
     stuck: u32,
@@ -42,6 +46,7 @@ impl Model for Care {
       done = k.done;
       still = k.still;
       marks = k.marks.items;
+      queue = k.queue.items;
       cw = k.cw;
       stuck = k.stuck;
     } };
@@ -58,6 +63,83 @@ fn total(numbers: &[u64]) -> u64
     total
 }
 
+// All places.
+fn places(alloc: Global, count: usize) -> Result<Vec<usize>, NoMemory>
+    ensures { IfOk result (λ places. places.items ≡ below count) }
+{
+    let places = (0..count).collect::<Vec<usize>>(alloc)?;
+    Ok(places)
+}
+
+// Whether the role at this place had completed this many.
+fn is_marked(marks: &[u64], place: usize, done: u64) -> bool
+    ensures { result ≡ is_marked marks.now place done }
+{
+    match marks.get(place) {
+        Some(mark) => *mark == done,
+        None => false,
+    }
+}
+
+// Whether the role at this place has completed as many by now as before.
+fn is_still(before: &[u64], now: &[u64], place: usize) -> bool
+    ensures { result ≡ is_still before.now now.now place }
+{
+    match now.get(place) {
+        Some(done) => is_marked(before, place, *done),
+        None => false,
+    }
+}
+
+// Those of the queue that completed none.
+fn waiting(
+    alloc: Global,
+    before: &[u64],
+    now: &[u64],
+    queue: &[usize],
+) -> Result<Vec<usize>, NoMemory>
+    ensures { IfOk result (λ list. list.items ≡ filter (is_still before.now now.now) queue.now) }
+{
+    let list = queue
+        .iter()
+        .copied()
+        .filter(|place| is_still(before, now, *place))
+        .collect::<Vec<usize>>(alloc)?;
+    Ok(list)
+}
+
+// Those of the queue that completed some.
+fn served(
+    alloc: Global,
+    before: &[u64],
+    now: &[u64],
+    queue: &[usize],
+) -> Result<Vec<usize>, NoMemory>
+    ensures { IfOk result (λ list. list.items ≡ filter (λ i. not (is_still before.now now.now i)) queue.now) }
+{
+    let list = queue
+        .iter()
+        .copied()
+        .filter(|place| !is_still(before, now, *place))
+        .collect::<Vec<usize>>(alloc)?;
+    Ok(list)
+}
+
+// The order of the next pass.
+fn requeued(
+    alloc: Global,
+    before: &[u64],
+    now: &[u64],
+    queue: &[usize],
+) -> Result<Vec<usize>, NoMemory>
+    ensures { IfOk result (λ next. next.items ≡ requeued before.now now.now queue.now) }
+{
+    let mut next = waiting(alloc, before, now, queue)?;
+    let behind = served(alloc, before, now, queue)?;
+    next.extend_from_slice(&behind)?;
+    Ok(next)
+}
+
 impl Care {
     /// Nothing is counted yet, of this many hosted roles.
     pub fn new(alloc: Global, roles: usize) -> Result<Self, NoMemory>
@@ -66,6 +148,7 @@ impl Care {
         let Ok(marks) = vec![in alloc; 0u64; roles] else {
             return Err(NoMemory);
         };
+        let queue = places(alloc, roles)?;
         Ok(Care {
             turns: 0,
             empty: 0,
@@ -73,6 +156,7 @@ impl Care {
             done: 0,
             still: 0,
             marks,
+            queue,
             cw: 0,
             stuck: 0,
         })
@@ -170,16 +254,24 @@ impl Care {
     pub fn is_marked(&self, place: usize, done: u64) -> bool
         ensures { result ≡ is_marked self.now.marks place done }
     {
-        match self.marks.get(place) {
-            Some(mark) => *mark == done,
-            None => false,
-        }
+        is_marked(&self.marks, place, done)
     }
 
-    /// The next pass begins, with these numbers of requests completed by each role.
-    pub fn begin_pass(&mut self, marks: Vec<u64>)
-        ensures { self.new ≡ record self.old { marks = marks.items } }
+    /// The places of all roles, in the order in which clients ask.
+    pub fn queue(&self) -> &[usize]
+        ensures { result.now ≡ self.now.queue }
     {
+        &self.queue
+    }
+
+    /// The next pass begins, with these numbers of requests completed by each role. Who completed none in this one stays
+    /// in front.
+    pub fn begin_pass(&mut self, alloc: Global, marks: Vec<u64>) -> Result<(), NoMemory>
+        ensures { OnOk result (self.new ≡ pass_begun marks.items self.old) }
+    {
+        let queue = requeued(alloc, &self.marks, &marks, &self.queue)?;
         self.marks = marks;
+        self.queue = queue;
+        Ok(())
     }
 }

@@ -31,7 +31,7 @@ mod whom;
 pub use closing::close_seats;
 pub use come::Come;
 pub use doing::Doing;
-pub use examples::{beats, no_leader, reports, waits};
+pub use examples::{beats, no_leader, queues, reports, waits};
 pub use guest::Guest;
 pub use input::{Heard, Refusal, listen};
 pub use law::stops_are_crashes;

@@ -1,7 +1,7 @@
 //! The turns of a node that tends its roles.
 
-ghost use Rattle.std.specs.Prelude.{◌≡◌, ◌<◌, ◌/◌, ◌==◌, ◌&&◌, nat_lt, ℕ, [], ◌∷◌, List, length, filter, map, min, not};
-ghost use Rattle.std.specs.Prelude.{sum_by, Option, is_some, IfOk, if◌then◌else◌};
+ghost use Rattle.std.specs.Prelude.{◌≡◌, ◌/◌, ◌==◌, ◌&&◌, nat_lt, ℕ, [], ◌∷◌, List, length, filter, map, min, not};
+ghost use Rattle.std.specs.Prelude.{sum_by, Option, is_some, slice_get, IfOk, if◌then◌else◌};
 ghost use Rattle.std.specs.Option.{option_map};
 ghost use Rattle.cx_base.specs.Role.{role, same_role};
 ghost use Rattle.cx_base.specs.declared.role.Kind.TheVariants as kind;
@@ -10,9 +10,9 @@ ghost use Rattle.cx_node.specs.Acts.{Acts, ActsPart, Blames, failed, scene_of};
 ghost use Rattle.cx_node.specs.Guest.{AreReady, hosted_in, hosted_of};
 ghost use Rattle.cx_node.specs.Run.{is_client, stays};
 ghost use Rattle.cx_node.specs.Tending.{beat, clients_tended, collected, completed, first_leader, flushed, gets};
-ghost use Rattle.cx_node.specs.Tending.{heeded, held_by, leader_asked, leader_cared, next_pass, reported, standing_of};
-ghost use Rattle.cx_node.specs.Tending.{tend_comes, tend_ordered, tended_turn, those_tick, turn_ended};
-ghost use Rattle.cx_node.specs.TendedParts.{ActsTended, ActsTurn, Counts, leader_part, ticks_if};
+ghost use Rattle.cx_node.specs.Tending.{heeded, held_by, in_turn, is_so, leader_asked, leader_cared, next_pass, reported, standing_of};
+ghost use Rattle.cx_node.specs.Tending.{tend_comes, tend_ordered, tended_turn, those_tick, ticks_if, turn_ended};
+ghost use Rattle.cx_node.specs.TendedParts.{ActsTended, ActsTurn, Counts, leader_part};
 ghost use Rattle.cx_node.specs.Tends.{done_of, is_leader_so, is_meant};
 
 use crate::care::Care;
@@ -42,6 +42,17 @@ fn is_meant<K: Keeper>(whom: Whom, care: &Care, place: usize, seat: &Seat<K>) ->
         Whom::Kind { kind } => seat.is_of(kind),
         Whom::Others => !seat.is_client(),
         Whom::Overtaken => seat.is_client() && care.is_marked(place, seat.completed()),
+    }
+}
+
+// Whether there is a role at this place, and it is meant to tick.
+fn is_meant_at<K: Keeper>(whom: Whom, care: &Care, place: usize, seats: &[Seat<K>]) -> bool
+    ensures { result
+        ≡ is_so (is_meant whom care.now.marks place) (option_map hosted_of (slice_get seats.now place)) }
+{
+    match seats.get(place) {
+        Some(seat) => is_meant(whom, care, place, seat),
+        None => false,
     }
 }
 
@@ -175,7 +186,7 @@ impl<K: Keeper + Drop> Node<K> {
         }
     }
 
-    // The role at a place ticks, if it is meant to.
+    // The role at a place ticks, if there is one that is meant to.
     fn tick_at<L: Link, W: Sink>(
         &mut self,
         whom: Whom,
@@ -184,15 +195,35 @@ impl<K: Keeper + Drop> Node<K> {
         link: &mut L,
         out: &mut W,
     ) -> Result<(), Stop>
-        requires place { place < length self.old.guests }
         requires ready { AreReady self.old.cluster self.old.guests }
         ensures acts { ActsPart K.append_gives self.old.cluster (ticks_if (is_meant whom care.now.marks) place) result
             (scene_of L.Link W.Sink self.old link.old out.old) (scene_of L.Link W.Sink self.new link.new out.new) }
         ensures blames { Blames result (failed L.Link W.Sink link.old out.old) (failed L.Link W.Sink link.new out.new) }
         ensures cluster { self.new.cluster ≡ self.old.cluster }
     {
-        if is_meant(whom, care, place, &self.seats[place]) {
+        if is_meant_at(whom, care, place, &self.seats) {
             return self.act(place, &Doing::Give { input: Input::Tick }, link, out);
+        }
+        Ok(())
+    }
+
+    // Those at these places that are meant to tick, one after the other.
+    fn tick_in_turn<L: Link, W: Sink>(
+        &mut self,
+        whom: Whom,
+        care: &Care,
+        places: &[usize],
+        link: &mut L,
+        out: &mut W,
+    ) -> Result<(), Stop>
+        requires ready { AreReady self.old.cluster self.old.guests }
+        ensures acts { ActsPart K.append_gives self.old.cluster (in_turn (is_meant whom care.now.marks) places.now) result
+            (scene_of L.Link W.Sink self.old link.old out.old) (scene_of L.Link W.Sink self.new link.new out.new) }
+        ensures blames { Blames result (failed L.Link W.Sink link.old out.old) (failed L.Link W.Sink link.new out.new) }
+        ensures cluster { self.new.cluster ≡ self.old.cluster }
+    {
+        for place in places {
+            self.tick_at(whom, care, *place, link, out)?;
         }
         Ok(())
     }
@@ -391,7 +422,7 @@ impl<K: Keeper + Drop> Node<K> {
         }
     }
 
-    // Who was overtaken asks again, and the next pass begins.
+    // Who was overtaken asks again, in the order of the queue, and the next pass begins.
     fn end_pass<L: Link, W: Sink>(
         &mut self,
         care: &mut Care,
@@ -405,9 +436,9 @@ impl<K: Keeper + Drop> Node<K> {
         ensures blames { Blames result (failed L.Link W.Sink link.old out.old) (failed L.Link W.Sink link.new out.new) }
         ensures cluster { self.new.cluster ≡ self.old.cluster }
     {
-        self.tick_those(Whom::Overtaken, care, link, out)?;
+        self.tick_in_turn(Whom::Overtaken, care, care.queue(), link, out)?;
         let marks = completed_by(self.alloc, &self.seats)?;
-        care.begin_pass(marks);
+        care.begin_pass(self.alloc, marks)?;
         Ok(())
     }
 

@@ -27,8 +27,8 @@ pub enum WakeStop {
 
 /// Wakes a role from its store: its journal is opened, and the role from the records that were read. `Failed` comes
 /// exactly where the disk's count rose; `Bad` names exactly the first break of the bytes, or the place of the first
-/// record that the role could not have appended. The disk is given back with the fault, and its records are as they
-/// were.
+/// record that the role could not have appended, or the end of records that end too early. The disk is given back with
+/// the fault, and its records are as they were.
 pub fn wake<D: Disk, R: Role>(
     alloc: Global,
     cluster: &Cluster,

@@ -1,32 +1,37 @@
-use Rattle.std.proofs.Common.{◌≡◌, Some, length, get_or, slice_get, arith, refl, sym, ap, ◌∙◌}
-use Rattle.std.proofs.lemmas.Option.{slice_get_read}
+use Rattle.std.proofs.Common.{length, slice_get, arith, ap, ◌∙◌}
+use Rattle.std.proofs.lemmas.List.{length-map}
 use Rattle.cx_msg.specs.declared.input.Input.TheVariants as input
-use Rattle.cx_node.specs.Doing.{scene}
-use Rattle.cx_node.specs.Guest.{hosted_in}
+use Rattle.cx_node.specs.Acts.{scene_of}
+use Rattle.cx_node.specs.Guest.{hosted_in, hosted_of}
 use Rattle.cx_node.specs.Node.{NodeState}
 use Rattle.cx_node.specs.Run.{does_at}
 use Rattle.cx_node.specs.Tending.{is_so}
 use Rattle.cx_node.specs.Tends.{is_meant}
 use Rattle.cx_node.specs.declared.doing.Doing.TheVariants.{Give}
-use Rattle.cx_node.proofs.Seated.{hosted_at}
-use Rattle.cx_node.proofs.Tended.{due, not_due}
+use Rattle.cx_node.proofs.Tended.{due, not_due, so_at, so_within}
 use Rattle.cx_node.proofs.node.Node.tick_at.Goals as goal
 
-pub index-requires : goal.index-requires
-index-requires g c =
+pub act-requires-clause-place : goal.act-requires-clause-place
+act-requires-clause-place g c =
+    let gs = c.args.self.now.guests in
     let same = ap (λ (s : NodeState g.row.K.Denot). s.guests) c.self.view_is in
-    omega (arith, c.requires.place, ap length same, c.self.inside.seats.ok.0)
+    let test = is_meant c.args.whom c.args.care.now.marks c.args.place in
+    let so = so_at test gs _ c.args.place c.is_meant_at.result (c.deref.ensures.value ∙ same) c.is_meant_at.ensures
+    ∙ c.if-is_meant_at.true in
+    omega (arith, so_within test (hosted_in gs) c.args.place so, length-map gs (hosted_of {K = g.row.K.Denot}))
 
-pub returns-then-is_meant-clause-acts : goal.returns-then-is_meant-clause-acts
-returns-then-is_meant-clause-acts g c =
+pub returns-then-is_meant_at-clause-acts : goal.returns-then-is_meant_at-clause-acts
+returns-then-is_meant_at-clause-acts g c =
     let gs = c.args.self.now.guests in
     let hs = hosted_in gs in
     let same = ap (λ (s : NodeState g.row.K.Denot). s.guests) c.self.view_is in
     let i = c.args.place in
-    let h = c.index.result.now in
-    let here : slice_get gs i ≡ Some h = slice_get_read gs (length gs) i h refl c.requires.place (c.index.ensures ∙ ap (λ xs. get_or xs i h) same) in
-    due g.K.Keeper.append_gives c.args.self.now.cluster (is_so (is_meant c.args.whom c.args.care.now.marks c.args.place) (slice_get hs i)) (does_at i (Give input.Tick) hs) c.act.result (scene c.args.self.now.guests (g.L.Link.told c.args.link.now) (g.W.Sink.taken c.args.out.now)) (scene c.act.new.self.guests (g.L.Link.told c.act.new.link) (g.W.Sink.taken c.act.new.out))
-    (ap (is_so (is_meant c.args.whom c.args.care.now.marks c.args.place)) (hosted_at gs i h here) ∙ sym c.is_meant.ensures ∙ c.if-is_meant.true) c.act.ensures.acts
+    let test = is_meant c.args.whom c.args.care.now.marks i in
+    due g.K.Keeper.append_gives c.args.self.now.cluster (is_so test (slice_get hs i)) (does_at i (Give input.Tick) hs)
+    c.act.result (scene_of g.L.Link g.W.Sink c.args.self.now c.args.link.now c.args.out.now)
+    (scene_of g.L.Link g.W.Sink c.act.new.self c.act.new.link c.act.new.out)
+    (so_at test gs _ i c.is_meant_at.result (c.deref.ensures.value ∙ same) c.is_meant_at.ensures ∙ c.if-is_meant_at.true)
+    c.act.ensures.acts
 
 pub returns-clause-acts : goal.returns-clause-acts
 returns-clause-acts g c =
@@ -34,7 +39,8 @@ returns-clause-acts g c =
     let hs = hosted_in gs in
     let same = ap (λ (s : NodeState g.row.K.Denot). s.guests) c.self.view_is in
     let i = c.args.place in
-    let h = c.index.result.now in
-    let here : slice_get gs i ≡ Some h = slice_get_read gs (length gs) i h refl c.requires.place (c.index.ensures ∙ ap (λ xs. get_or xs i h) same) in
-    not_due g.K.Keeper.append_gives c.args.self.now.cluster (is_so (is_meant c.args.whom c.args.care.now.marks c.args.place) (slice_get hs i)) (does_at i (Give input.Tick) hs) (scene c.args.self.now.guests (g.L.Link.told c.args.link.now) (g.W.Sink.taken c.args.out.now))
-    (ap (is_so (is_meant c.args.whom c.args.care.now.marks c.args.place)) (hosted_at gs i h here) ∙ sym c.is_meant.ensures ∙ c.if-is_meant.false) c.requires.ready
+    let test = is_meant c.args.whom c.args.care.now.marks i in
+    not_due g.K.Keeper.append_gives c.args.self.now.cluster (is_so test (slice_get hs i)) (does_at i (Give input.Tick) hs)
+    (scene_of g.L.Link g.W.Sink c.args.self.now c.args.link.now c.args.out.now)
+    (so_at test gs _ i c.is_meant_at.result (c.deref.ensures.value ∙ same) c.is_meant_at.ensures ∙ c.if-is_meant_at.false)
+    c.requires.ready

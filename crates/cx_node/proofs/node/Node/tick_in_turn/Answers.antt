@@ -1,0 +1,73 @@
+use Rattle.std.proofs.Common.{◌≡◌, ◌+◌, [], drop, get_or, Ok, Err, refl, ap, ◌∙◌, subst}
+use Rattle.std.proofs.lemmas.List.{drop_all, drop_more}
+use Rattle.std.proofs.lemmas.Result.{err_from_is_err_and}
+use Rattle.cx_base.specs.declared.cluster.Cluster.{Cluster}
+use Rattle.cx_node.specs.Acts.{Acts, failed, scene_of}
+use Rattle.cx_node.specs.Guest.{AreReady, hosted_in}
+use Rattle.cx_node.specs.Tending.{ticks_if}
+use Rattle.cx_node.specs.Tends.{is_meant}
+use Rattle.cx_node.proofs.Actions.{blames_then, no_blame}
+use Rattle.cx_node.proofs.Tended.{all_asked, none_asked, one_asked, one_stopped}
+use Rattle.cx_node.proofs.node.Node.tick_in_turn.Goals as goal
+
+pub loop-place-init : goal.loop-place-init
+loop-place-init g c =
+    record {
+      acts =
+          none_asked g.K.Keeper.append_gives c.args.self.now.cluster (is_meant c.args.whom c.args.care.now.marks)
+          c.args.places.now c.args.places.now
+          (scene_of g.L.Link g.W.Sink c.args.self.now c.args.link.now c.args.out.now) refl;
+      ready = c.requires.ready;
+      blames = no_blame (failed g.L.Link g.W.Sink c.args.link.now c.args.out.now);
+      cluster = refl;
+    }
+
+pub loop-place-preserved : goal.loop-place-preserved
+loop-place-preserved g c =
+    let l = c.loop-place in
+    let all = c.args.places.now in
+    let test = is_meant c.args.whom c.args.care.now.marks in
+    let place = get_or all l.place-index 0 in
+    let before = scene_of g.L.Link g.W.Sink l.self l.link l.out in
+    let now = scene_of g.L.Link g.W.Sink c.tick_at.new.self c.tick_at.new.link c.tick_at.new.out in
+    record {
+      acts =
+          one_asked g.K.Keeper.append_gives c.args.self.now.cluster test all (drop l.place-index all)
+          (drop (l.place-index + 1) all) place
+          (scene_of g.L.Link g.W.Sink c.args.self.now c.args.link.now c.args.out.now) before now
+          (drop_more all l.place-index 0 c.loop-place-test.true) l.invariant.acts
+          (subst (λ (cl : Cluster). Acts g.K.Keeper.append_gives cl []
+          (ticks_if test place (hosted_in l.self.guests)) (Ok tt) before now)
+          l.invariant.cluster c.in_ok-tick_at.ensures.acts);
+      ready = subst (λ (cl : Cluster). AreReady cl c.tick_at.new.self.guests) l.invariant.cluster c.in_ok-tick_at.ensures.acts.ready;
+      blames = blames_then (Ok tt) _ _ _ l.invariant.blames c.in_ok-tick_at.ensures.blames;
+      cluster = c.in_ok-tick_at.ensures.cluster ∙ l.invariant.cluster;
+    }
+
+pub returns-in_err-tick_at-clause-acts : goal.returns-in_err-tick_at-clause-acts
+returns-in_err-tick_at-clause-acts g c =
+    let l = c.loop-place in
+    let all = c.args.places.now in
+    let test = is_meant c.args.whom c.args.care.now.marks in
+    let place = get_or all l.place-index 0 in
+    let before = scene_of g.L.Link g.W.Sink l.self l.link l.out in
+    let now = scene_of g.L.Link g.W.Sink c.tick_at.new.self c.tick_at.new.link c.tick_at.new.out in
+    let p = err_from_is_err_and c.from_residual.result c.from_residual.ensures.1 in
+    let is : c.from_residual.result ≡ Err c.in_err-tick_at.field-0.0 = p.1 ∙ ap Err p.2 in
+    rw is
+    (one_stopped g.K.Keeper.append_gives c.args.self.now.cluster test all (drop l.place-index all)
+    (drop (l.place-index + 1) all) place c.in_err-tick_at.field-0.0
+    (scene_of g.L.Link g.W.Sink c.args.self.now c.args.link.now c.args.out.now) before now
+    (drop_more all l.place-index 0 c.loop-place-test.true) l.invariant.acts
+    (subst (λ (cl : Cluster). Acts g.K.Keeper.append_gives cl []
+    (ticks_if test place (hosted_in l.self.guests)) (Err c.in_err-tick_at.field-0.0) before now)
+    l.invariant.cluster c.in_err-tick_at.ensures.acts))
+
+pub returns-clause-acts : goal.returns-clause-acts
+returns-clause-acts g c =
+    let l = c.loop-place in
+    let all = c.args.places.now in
+    all_asked g.K.Keeper.append_gives c.args.self.now.cluster (is_meant c.args.whom c.args.care.now.marks) all
+    (drop l.place-index all) (scene_of g.L.Link g.W.Sink c.args.self.now c.args.link.now c.args.out.now)
+    (scene_of g.L.Link g.W.Sink l.self l.link l.out) (drop_all l.place-index all c.loop-place-test.false)
+    l.invariant.acts l.invariant.ready

@@ -1,0 +1,16 @@
+use Rattle.std.proofs.Common.{◌≡◌, drop, Ok}
+use Rattle.cx_node.specs.Acts.{Blames, failed, scene_of}
+use Rattle.cx_node.specs.Guest.{AreReady}
+use Rattle.cx_node.specs.Tends.{is_meant}
+use Rattle.cx_node.proofs.Tended.{Asked}
+use Rattle.cx_node.proofs.node.Node.tick_in_turn.Given as goal
+
+abbrev pub invariant-loop-place : goal.invariant-loop-place
+invariant-loop-place g l = record {
+  acts : Asked g.K.Keeper.append_gives l.fn.self.cluster (is_meant l.whom l.care.marks) l.places
+      (drop l.place-index l.places)
+      (scene_of g.L.Link g.W.Sink l.fn.self l.fn.link l.fn.out) (scene_of g.L.Link g.W.Sink l.self l.link l.out);
+  ready : AreReady l.fn.self.cluster l.self.guests;
+  blames : Blames (Ok tt) (failed g.L.Link g.W.Sink l.fn.link l.fn.out) (failed g.L.Link g.W.Sink l.link l.out);
+  cluster : l.self.cluster ≡ l.fn.self.cluster;
+}
