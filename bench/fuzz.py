@@ -115,8 +115,10 @@ def events(rng, values, count):
             yield f"tick {role(rng, values, others)}"
         elif what < 94:
             yield f"{rng.choice(['lead', 'change'])} {role(rng, values, ['leader'])} {grid(rng, values)}"
-        elif what < 96:
+        elif what < 95:
             yield f"collect {role(rng, values, ['leader'])}"
+        elif what < 97:
+            yield f"snap {role(rng, values, ['replica'])}" + rng.choice([""] * 8 + [" torn", " kept"])
         else:
             yield f"{rng.choice(['crash', 'restart', 'restart', 'restart'])} {role(rng, values, others)}"
 

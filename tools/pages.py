@@ -4,6 +4,8 @@ import math
 from collections import defaultdict
 from dataclasses import dataclass
 
+from traces import FORGETS
+
 KINDS = ["client", "batcher", "leader", "match", "proxy", "acceptor", "replica", "unbatcher", "reader"]     # from left to right
 
 # Lengths are in pixels.
@@ -41,6 +43,13 @@ def marks(event):
     """What is said of an event at the right edge: the class and the text of each mark."""
     chosen = [] if event.slot is None else [("chosen", f"slot {event.slot} chosen")]
     return chosen + [("answer", it) for it in event.answers]
+
+
+def sign_of(event):
+    """What stands on the line of life of an event's role."""
+    if marks(event):
+        return marks(event)[0][0]
+    return "snap" if event.word == FORGETS else "event"
 
 
 @dataclass

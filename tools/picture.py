@@ -2,7 +2,7 @@
 
 from html import escape
 
-from pages import BESIDE, EDGE, MARK, SIZES, Page, Room, cut, marks, row_text, width
+from pages import BESIDE, EDGE, MARK, SIZES, Page, Room, cut, marks, row_text, sign_of, width
 from traces import STOPS, stops_of
 
 ROUNDS = {"Leads", "MatchA", "MatchB", "MatchNack", "Phase1A", "Phase1B", "Nack", "Inform", "Informed", "GarbageA", "GarbageB"}
@@ -17,7 +17,7 @@ STYLE = "\n".join([
     ".guide { stroke: #eee } .life { stroke: #999; stroke-width: 2 } .gap { stroke: #111; stroke-width: 2.5 } .band { fill: #f4f4f4 }",
     ".arrow { stroke-width: 1.4 } .again .arrow { stroke-dasharray: 6 3 } .cross { fill: none; stroke: #111; stroke-width: 1.8 }",
     ".reach { stroke: #fff; stroke-opacity: 0; stroke-width: 9 }",
-    ".chosen { fill: #f0e442; stroke: #111 } .answer { fill: #a9dcf7; stroke: #111 }",
+    ".chosen { fill: #f0e442; stroke: #111 } .answer { fill: #a9dcf7; stroke: #111 } .snap { fill: #d9d9d9; stroke: #111 }",
     *(f".{group} .arrow {{ stroke: {colour} }} text.{group} {{ fill: {colour} }}" for group, colour in COLOURS.items())])
 
 
@@ -51,6 +51,8 @@ def point(kind, x, y):
             return f'<path class="chosen" d="M{number(x)} {number(y - 8)}l8 8l-8 8l-8 -8z"/>'
         case "answer":
             return f'<path class="answer" d="M{number(x - 6)} {number(y - 6)}h12v12h-12z"/>'
+        case "snap":
+            return f'<path class="snap" d="M{number(x - 7)} {number(y - 6)}h14l-7 12z"/>'
     return f'<circle cx="{number(x)}" cy="{number(y)}" r="3.5"/>'
 
 
@@ -122,7 +124,7 @@ def word_boxes(page, event):
 def word(page, room, event):
     boxes = word_boxes(page, event)
     left, _, right, bottom = room.best(boxes) or boxes[0]
-    strong = " strong" if event.word in STOPS or marks(event) else ""
+    strong = " strong" if event.word in STOPS or sign_of(event) != "event" else ""
     if left < page.columns[event.who]:
         return text("word" + strong, right, bottom - 2, event.word, "end")
     return text("word" + strong, left, bottom - 2, event.word)
@@ -194,8 +196,7 @@ def row(page, event):
     y = page.rows[event.number]
     drawn = [text("row", EDGE, y + 4, row_text(event))]
     if event.who:
-        kind = marks(event)[0][0] if marks(event) else "event"
-        drawn.append(titled("event", event.line, point(kind, page.columns[event.who], y)))
+        drawn.append(titled("event", event.line, point(sign_of(event), page.columns[event.who], y)))
     return drawn
 
 
@@ -219,7 +220,7 @@ def band(page, y):
 def signs(page, stops):
     """The signs that the page has, each with what it means."""
     groups = [it for it in COLOURS if it in {group_of(datagram) for datagram in page.datagrams}]
-    kinds = {kind for event in page.events for kind, _ in marks(event)}
+    kinds = {kind for event in page.events for kind, _ in marks(event)} | {sign_of(it) for it in page.events}
     found = [(f'<g class="{it}">{path("arrow", 0, 0, 26, 0, head(it))}</g>', it + "s") for it in groups]
     if any(arrival != it.arrivals[0] for it, arrival in page.deliveries()):
         found.append((f'<g class="{groups[0]} again">{path("arrow", 0, 0, 26, 0)}</g>', "delivered again"))
@@ -227,7 +228,8 @@ def signs(page, stops):
         found.append((f'<g class="{groups[0]}">{path("arrow", 2, 0, 22, 0)}</g>{cross(22, 0)}', "never delivered"))
     if any("gap" in it for it in lives(page, stops)):
         found.append(('<path class="gap" d="M5 -5h16M5 5h16"/>', "stopped"))
-    return found + [(point(kind, 13, 0), said) for kind, said in (("chosen", "a slot is chosen"), ("answer", "an answer")) if kind in kinds]
+    meant = ("chosen", "a slot is chosen"), ("answer", "an answer"), ("snap", "a replica forgets")
+    return found + [(point(kind, 13, 0), said) for kind, said in meant if kind in kinds]
 
 
 def legend(page, stops):

@@ -12,7 +12,7 @@ from xml.etree import ElementTree
 TOP = pathlib.Path(__file__).resolve().parent.parent
 RUNS = TOP / "crates/compax/runs"
 DRAW = TOP / "tools/draw"
-COUNTED = ["torn-vote", "collection", "random-small-too", "random-usual", "random-with-bad-line"]
+COUNTED = ["torn-vote", "collection", "snapshot-kept", "random-small-too", "random-usual", "random-with-bad-line"]
 SVG = "{http://www.w3.org/2000/svg}"
 
 
@@ -94,6 +94,12 @@ class Counts(unittest.TestCase):
             slots = [int(line.split()[4][:16], 16) for line in self.first_chosen(told, chosen)]
             self.assertEqual(drawn.titles("chosen-mark"), [f"slot {it} chosen" for it in slots])
 
+    def test_a_triangle_for_each_time_that_a_replica_forgets(self):
+        for run in [*COUNTED, "snapshot-of-one", "snapshot-is-behind"]:
+            told, drawn = told_and_drawn(run)
+            self.assertEqual(drawn.count("snap"), len(told.ending("snapped")))
+        self.assertEqual(len(Told("snapshot-is-behind").ending("snapped")), 2)
+
     def first_chosen(self, told, events):
         """The line after each of these."""
         return [told.lines[told.lines.index(it) + 1] for it in events]
@@ -138,7 +144,7 @@ class Places(unittest.TestCase):
             self.assertEqual(ends, {rows[it.split()[0]] for it in told.events if it.split()[1] == "deliver" and not it.endswith(" absent")})
 
     def test_labels_of_small_runs_lie_apart(self):
-        for run in ["one-put", "torn-vote", "collection", "later-round", "grid-of-four"]:
+        for run in ["one-put", "torn-vote", "collection", "later-round", "grid-of-four", "snapshot-is-behind"]:
             _, drawn = told_and_drawn(run)
             boxes = [self.box(it) for kind in ("role", "row", "word", "name", "mark") for it in drawn.texts(kind)]
             for at, one in enumerate(boxes):

@@ -91,6 +91,12 @@ class WorkloadsTest(unittest.TestCase):
         before = Trace("lagging", 8 + turn + 20 * (8 + 3) + 10)
         self.has(before, proposed=40, applied=60, fetched=20)
 
+    def test_snapshots(self) -> None:
+        turn = 60 * 10 + 30 + 50 * 3 + 25 + 8
+        trace = Trace("snapshots", LED + 4 * turn)
+        self.has(trace, proposed=240, applied=440, fetched=201, unbatched=220, opened=8, snapped=6, kept=1, torn=1, past=3, window=0)
+        self.assertEqual([len(trace.held[f"replica:{index}"]) for index in (0, 1)], [236, 196])
+
     def test_repeats(self) -> None:
         trace = Trace("repeats", LED + 10 + 12 * 5)
         self.has(trace, sent=1, voted=1, chosen=1, applied=1, batched=6, done=5, past=10, old=10, unbatched=6)

@@ -13,6 +13,8 @@ Schedules of SIZE lines after the header:
     folds       puts of 64 clients in turn; after each twentieth the replica crashes and is opened again
     wide        f = 3, a grid of 4x4 among 64 acceptors, batches of eight: 64 puts at once are carried to their answers, and so on
     lagging     f = 1: of twenty puts one replica hears nothing, then it asks the other for each value, and so on
+    snapshots   of two replicas the first executes sixty commands of 64 clients, the second asks it for fifty values; then both forget
+                what they may, and are opened again, and so on; sometimes a renewal is cut off
     repeats     one put is carried to its answer; then its datagrams and those of its round arrive again, over and over
     stale       half of the lines are puts of one client, the others ask something else with the same numbers
     resend      half of the lines are puts of one client, the others send the same puts again
@@ -203,6 +205,42 @@ def lagging():
                 n += 2
 
 
+def changing(at):
+    """The command with this place: a put to one of 300 keys, later an append. Clients of an even number tell floor 0."""
+    client, number = at % 64, at // 64 + 1
+    seq = f"{number}/0" if client % 2 == 0 and number <= 64 else number
+    return f"write client:{client} {seq} batcher:0 {'put' if at < 300 else 'app'} key-{at * 7 % 300} v{at % 10}"
+
+
+def snapshots():
+    """Datagrams as in `lagging`, but the second replica stays behind. Each turn begins with the command before it, which is answered again.
+
+    Replica 0 asks for what nobody has, in the turn's last datagram. Replica 1 asks for what it lacks; the first of these Fetch comes once
+    more after the renewal, and is past, unless the renewal was lost."""
+    yield from led()
+    n, held = 3, 0
+    for turn in itertools.count():
+        for slot in range(60 * turn, 60 * turn + 60):
+            yield from [changing(max(0, slot - turn - 1)), *delivered(*range(n, n + 6), n + 7)]
+            n += 8
+            if slot % 2 == 0:
+                yield from delivered(n)
+                n += 2
+            yield from ["tick replica:0", *delivered(n)]
+            n += 2
+        fetches = (n + 1, n - 1)
+        for slot in range(held, held + 50):
+            yield from ["tick replica:1", *delivered(n + 1, n + 2)]
+            n += 3
+            if slot % 2 == 1:
+                yield from delivered(n)
+                n += 2
+        held += 50
+        cut = ("", " kept", "", " torn")[turn % 4]
+        yield from [f"snap replica:0{cut}", *restarted("replica:0"), *delivered(*fetches), "snap replica:1", *restarted("replica:1")]
+        n += cut == " torn"
+
+
 def repeats():
     """The round and the put have the datagrams 0 to 12; of these 11 is Answer, which arrives nowhere, and 12 is Held."""
     yield from [*led(), *carried(3, put(0))]
@@ -284,6 +322,7 @@ SCHEDULES = {
     "folds": lambda size: cut(size, folds(), clients=64),
     "wide": lambda size: cut(size, wide(), **WIDE),
     "lagging": lambda size: cut(size, lagging(), f=1, replicas=2),
+    "snapshots": lambda size: cut(size, snapshots(), replicas=2, clients=64),
     "repeats": lambda size: cut(size, repeats()),
     "stale": lambda size: cut(size, asked_twice(size, "other")),
     "resend": lambda size: cut(size, asked_twice(size, None)),

@@ -1,0 +1,1 @@
+snapshots 8000
