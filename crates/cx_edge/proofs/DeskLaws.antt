@@ -1,47 +1,17 @@
 -- What a count does to the counts of all roles, and changes at a place that was found.
-use Rattle.std.proofs.Common.{map, ◌≡◌, ◌≤◌, ◌<◌, ℕ, zero, suc, Bool, true, false, ◌==◌, ◌&&◌, if◌then◌else◌, List, [], ◌∷◌, arith, refl, sym, ap, ◌∙◌, inl, inr, length, None, Some, cond, nat_lt, slice_index_or, slice_set}
+use Rattle.std.proofs.Common.{map, ◌≡◌, ◌≤◌, ◌<◌, ℕ, zero, suc, Bool, true, false, if◌then◌else◌, List, [], ◌∷◌, arith, refl, sym, ap, ◌∙◌, inl, inr, length, None, Some, cond, nat_lt, slice_index_or, slice_set}
 use Rattle.std.specs.List.{position, position_or_len, remove}
 use Rattle.std.proofs.lemmas.Bool.{cases_Bool}
 use Rattle.std.proofs.lemmas.Bool.Decides.{nat_tests}
 use Rattle.cx_base.specs.declared.role.RoleId.{RoleId}
-use Rattle.cx_base.specs.declared.role.Kind.{Kind}
-use Rattle.cx_base.specs.declared.role.Kind.TheVariants.{Client, Batcher, Leader, Proxy, Acceptor, Matchmaker, Replica, Unbatcher, Reader}
 use Rattle.cx_base.specs.Faults.{Rises}
-use Rattle.cx_base.specs.Role.{same_role, code_of, kind_of}
+use Rattle.cx_base.specs.Role.{same_role}
 use Rattle.cx_edge.specs.declared.rows.CountRow.{CountRow}
+use Rattle.cx_edge.specs.declared.shelf.Shelf.{Shelf}
 use Rattle.cx_edge.specs.Depot.{without, first_faults}
 use Rattle.cx_edge.specs.Desk.{plus, of_role, no_faults, count_of, counted}
-
-same_number : (i j : ℕ) → (i == j) ≡ true → i ≡ j
-same_number i j h = grind (arith, nat_tests)
-
-and_both : (a b : Bool) → (a && b) ≡ true → (a ≡ true) × (b ≡ true)
-and_both true b h = (refl, h)
-and_both false b h = cc
-
-kind_back : (k : Kind) → kind_of (code_of k) ≡ k
-kind_back Client = refl
-kind_back Batcher = refl
-kind_back Leader = refl
-kind_back Proxy = refl
-kind_back Acceptor = refl
-kind_back Matchmaker = refl
-kind_back Replica = refl
-kind_back Unbatcher = refl
-kind_back Reader = refl
-
-pub same_role-true : (a b : RoleId) → same_role a b ≡ true → a ≡ b
-same_role-true a b h =
-    let p = and_both (code_of a.kind == code_of b.kind) (a.index == b.index) h in
-    let kinds : a.kind ≡ b.kind = sym (kind_back a.kind) ∙ ap kind_of (same_number (code_of a.kind) (code_of b.kind) p.0) ∙ kind_back b.kind in
-    let indexes = same_number a.index b.index p.1 in
-    λ i. record { kind = kinds i; index = indexes i }
-
-number_itself : (i : ℕ) → (i == i) ≡ true
-number_itself i = grind (arith, nat_tests)
-
-pub same_role-itself : (a : RoleId) → same_role a a ≡ true
-same_role-itself a = rw (number_itself (code_of a.kind), number_itself a.index) refl
+use Rattle.cx_edge.specs.Shelf.{same_shelf}
+use Rattle.cx_edge.proofs.ShelfLaws.{same_role-true}
 
 plus_later : (a b : ℕ) → a ≤ plus a b
 plus_later a b = omega arith
@@ -98,12 +68,12 @@ counted_at role n (row ∷ rest) zero d within at before = rw at refl
 counted_at role n (row ∷ rest) (suc i) d within at before =
     rw (before 0 (omega arith)) (ap (λ (rs : List CountRow). row ∷ rs) (counted_at role n rest i d (omega arith) at (λ k less. before (suc k) (omega arith))))
 
-pub without_at : (role : RoleId) (roles : List RoleId) (i : ℕ) (d : RoleId) → i < length roles → same_role role (slice_index_or roles i d) ≡ true
-    → ((k : ℕ) → k < i → same_role role (slice_index_or roles k d) ≡ false) → remove roles i ≡ without role roles
-without_at role [] i d within at before = absurd (omega arith)
-without_at role (r ∷ rest) zero d within at before = rw at refl
-without_at role (r ∷ rest) (suc i) d within at before =
-    rw (before 0 (omega arith)) (ap (λ (rs : List RoleId). r ∷ rs) (without_at role rest i d (omega arith) at (λ k less. before (suc k) (omega arith))))
+pub without_at : (place : Shelf) (places : List Shelf) (i : ℕ) (d : Shelf) → i < length places → same_shelf place (slice_index_or places i d) ≡ true
+    → ((k : ℕ) → k < i → same_shelf place (slice_index_or places k d) ≡ false) → remove places i ≡ without place places
+without_at place [] i d within at before = absurd (omega arith)
+without_at place (p ∷ rest) zero d within at before = rw at refl
+without_at place (p ∷ rest) (suc i) d within at before =
+    rw (before 0 (omega arith)) (ap (λ (ps : List Shelf). p ∷ ps) (without_at place rest i d (omega arith) at (λ k less. before (suc k) (omega arith))))
 
 pub past_end : {T : Type 0} (p : T → Bool) (xs : List T) → position p xs ≡ None → length xs ≤ position_or_len p xs
 past_end p xs none = go (nat_lt (position_or_len p xs) (length xs)) refl none
@@ -122,12 +92,12 @@ counted_nowhere role n rows none = go rows (past_end (of_role role) rows none)
       | inr other ↦ rw other (ap (λ (rs : List CountRow). row ∷ rs) (go rest (omega (arith, rw other at past))))
     ]
 
-pub without_nowhere : (role : RoleId) (roles : List RoleId) → position (same_role role) roles ≡ None → without role roles ≡ roles
-without_nowhere role roles none = go roles (past_end (same_role role) roles none)
+pub without_nowhere : (place : Shelf) (places : List Shelf) → position (same_shelf place) places ≡ None → without place places ≡ places
+without_nowhere place places none = go places (past_end (same_shelf place) places none)
   where
-    go : (rs : List RoleId) → length rs ≤ position_or_len (same_role role) rs → without role rs ≡ rs
+    go : (ps : List Shelf) → length ps ≤ position_or_len (same_shelf place) ps → without place ps ≡ ps
     go [] past = refl
-    go (r ∷ rest) past = elim (cases_Bool (same_role role r)) [
+    go (p ∷ rest) past = elim (cases_Bool (same_shelf place p)) [
       | inl is ↦ absurd (omega (arith, rw is at past))
-      | inr other ↦ rw other (ap (λ (rs : List RoleId). r ∷ rs) (go rest (omega (arith, rw other at past))))
+      | inr other ↦ rw other (ap (λ (ps : List Shelf). p ∷ ps) (go rest (omega (arith, rw other at past))))
     ]

@@ -1,7 +1,8 @@
 mod BindLaws
 mod DeskLaws
 mod FileLaws
-pub mod HeldLaws
+mod HeldLaws
 mod LineLaws
 mod NotesLaws
+pub mod ShelfLaws
 mod SlotLaws

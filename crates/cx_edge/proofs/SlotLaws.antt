@@ -5,12 +5,12 @@ use Rattle.std.proofs.lemmas.Bool.{cases_Bool}
 use Rattle.std.specs.List.{position, position_or_len}
 use Rattle.std.proofs.lemmas.List.{map-set, set-get_or, length-map}
 use Rattle.std.proofs.lemmas.List.Quantifiers.{position-Some}
-use Rattle.cx_base.specs.declared.role.RoleId.{RoleId}
 use Rattle.cx_disk.specs.declared.memory.MemDisk.{MemDisk}
 use Rattle.cx_disk.specs.MemDiskViews.{told_by}
+use Rattle.cx_edge.specs.declared.shelf.Shelf.{Shelf}
 use Rattle.cx_edge.specs.declared.slot.Slot.{Slot}
-use Rattle.cx_edge.specs.Held.{Held, is_held_by, has_store, held_by, with_bytes}
-use Rattle.cx_edge.specs.Slot.{slot_held, is_slot_of}
+use Rattle.cx_edge.specs.Held.{Held, is_held_at, has_store, held_by, with_bytes}
+use Rattle.cx_edge.specs.Slot.{slot_held, is_slot_at}
 use Rattle.cx_edge.proofs.HeldLaws.{held_at, with_at}
 use Rattle.cx_edge.proofs.DeskLaws.{past_end}
 
@@ -18,18 +18,18 @@ pub if_some : {T : Type 0} {P : Type 0} (o : Option T) → P → IfSome o (λ x.
 if_some None p = tt
 if_some (Some x) p = p
 
-module _ (role : RoleId) (slots : List Slot) (i : ℕ) (s : Slot) (found : position (is_slot_of role) slots ≡ Some i) (there : s ≡ slice_index_or slots i s) where
+module _ (place : Shelf) (slots : List Slot) (i : ℕ) (s : Slot) (found : position (is_slot_at place) slots ≡ Some i) (there : s ≡ slice_index_or slots i s) where
   row : (k : ℕ) → slice_index_or (map slot_held slots) k (slot_held s) ≡ slot_held (slice_index_or slots k s)
   row k = get_or-map slot_held slots k s
 
   within : i < length (map slot_held slots)
-  within = subst (λ n. i < n) (sym (length-map _ _)) (position-Some (is_slot_of role) slots i s found).0
+  within = subst (λ n. i < n) (sym (length-map _ _)) (position-Some (is_slot_at place) slots i s found).0
 
-  is : is_held_by role (slice_index_or (map slot_held slots) i (slot_held s)) ≡ true
-  is = ap (is_held_by role) (row i) ∙ (position-Some (is_slot_of role) slots i s found).1
+  is : is_held_at place (slice_index_or (map slot_held slots) i (slot_held s)) ≡ true
+  is = ap (is_held_at place) (row i) ∙ (position-Some (is_slot_at place) slots i s found).1
 
-  before : (k : ℕ) → k < i → is_held_by role (slice_index_or (map slot_held slots) k (slot_held s)) ≡ false
-  before k less = ap (is_held_by role) (row k) ∙ (position-Some (is_slot_of role) slots i s found).2 k less
+  before : (k : ℕ) → k < i → is_held_at place (slice_index_or (map slot_held slots) k (slot_held s)) ≡ false
+  before k less = ap (is_held_at place) (row k) ∙ (position-Some (is_slot_at place) slots i s found).2 k less
 
   this : slice_index_or (map slot_held slots) i (slot_held s) ≡ slot_held s
   this = row i ∙ ap slot_held (sym there)
@@ -38,24 +38,24 @@ module _ (role : RoleId) (slots : List Slot) (i : ℕ) (s : Slot) (found : posit
   slot_same new same =
       map-set slot_held slots i new ∙ ap (slice_set (map slot_held slots) i) (same ∙ sym this) ∙ set-get_or (map slot_held slots) i (slot_held s)
 
-  pub slot_has : has_store role (map slot_held slots) ≡ true
-  slot_has = (held_at role (map slot_held slots) i (slot_held s) within is before).1
+  pub slot_has : has_store place (map slot_held slots) ≡ true
+  slot_has = (held_at place (map slot_held slots) i (slot_held s) within is before).1
 
-  pub slot_bytes : (slot_held s).bytes ≡ held_by (map slot_held slots) role
-  slot_bytes = sym ((held_at role (map slot_held slots) i (slot_held s) within is before).0 ∙ ap (λ (r : Held). r.bytes) this)
+  pub slot_bytes : (slot_held s).bytes ≡ held_by (map slot_held slots) place
+  slot_bytes = sym ((held_at place (map slot_held slots) i (slot_held s) within is before).0 ∙ ap (λ (r : Held). r.bytes) this)
 
-  pub slot_filled : (disk : MemDisk) → map slot_held (slice_set slots i (record { role = s.role; disk = Some disk; before = s.before })) ≡ with_bytes role (told_by disk) (map slot_held slots)
+  pub slot_filled : (disk : MemDisk) → map slot_held (slice_set slots i (record { place = s.place; disk = Some disk; before = s.before })) ≡ with_bytes place (told_by disk) (map slot_held slots)
   slot_filled disk =
-      map-set slot_held slots i (record { role = s.role; disk = Some disk; before = s.before })
+      map-set slot_held slots i (record { place = s.place; disk = Some disk; before = s.before })
       ∙ ap (λ (r : Held). slice_set (map slot_held slots) i (record r { bytes = told_by disk })) (sym this)
-      ∙ with_at role (told_by disk) (map slot_held slots) i (slot_held s) within is before
+      ∙ with_at place (told_by disk) (map slot_held slots) i (slot_held s) within is before
 
-pub slot_nowhere : (role : RoleId) (bytes : List ℕ) (slots : List Slot) → position (is_slot_of role) slots ≡ None → with_bytes role bytes (map slot_held slots) ≡ map slot_held slots
-slot_nowhere role bytes slots none = go slots (past_end (is_slot_of role) slots none)
+pub slot_nowhere : (place : Shelf) (bytes : List ℕ) (slots : List Slot) → position (is_slot_at place) slots ≡ None → with_bytes place bytes (map slot_held slots) ≡ map slot_held slots
+slot_nowhere place bytes slots none = go slots (past_end (is_slot_at place) slots none)
   where
-    go : (ss : List Slot) → length ss ≤ position_or_len (is_slot_of role) ss → with_bytes role bytes (map slot_held ss) ≡ map slot_held ss
+    go : (ss : List Slot) → length ss ≤ position_or_len (is_slot_at place) ss → with_bytes place bytes (map slot_held ss) ≡ map slot_held ss
     go [] past = refl
-    go (s ∷ rest) past = elim (cases_Bool (is_slot_of role s)) [
+    go (s ∷ rest) past = elim (cases_Bool (is_slot_at place s)) [
       | inl is ↦ absurd (omega (arith, rw is at past))
       | inr other ↦ rw other (ap (λ (rs : List Held). slot_held s ∷ rs) (go rest (omega (arith, rw other at past))))
     ]

@@ -1,16 +1,18 @@
--- The roles whose stores are out.
+-- The stores that are out.
 use Rattle.std.specs.Prelude.{◌≡◌, ℕ, List, [], ◌∷◌, true, if◌then◌else◌}
 use Rattle.std.specs.List.{list_any}
 use Rattle.cx_base.specs.declared.role.RoleId.{RoleId}
 use Rattle.cx_base.specs.Role.{same_role}
+use Rattle.cx_edge.specs.declared.shelf.Shelf.{Shelf}
+use Rattle.cx_edge.specs.Shelf.{same_shelf}
 
-abbrev pub IsOut : RoleId → List RoleId → Type 0
-IsOut role out = list_any (λ (r : RoleId). same_role role r) out ≡ true
+abbrev pub IsOut : Shelf → List Shelf → Type 0
+IsOut place out = list_any (same_shelf place) out ≡ true
 
--- the list without a role's first place in it
-abbrev pub without : RoleId → List RoleId → List RoleId
-without role [] = []
-without role (r ∷ rest) = if same_role role r then rest else r ∷ without role rest
+-- the list without a store's first place in it
+abbrev pub without : Shelf → List Shelf → List Shelf
+without place [] = []
+without place (p ∷ rest) = if same_shelf place p then rest else p ∷ without place rest
 
 -- How often a role was failed at the start: never, or without end where the depot has no store for it.
 abbrev pub first_faults : RoleId → List RoleId → ℕ

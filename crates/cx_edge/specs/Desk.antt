@@ -3,11 +3,12 @@ use Rattle.std.specs.Prelude.{ℕ, ◌+◌, min, max, Bool, if◌then◌else◌,
 use Rattle.cx_base.specs.declared.role.RoleId.{RoleId}
 use Rattle.cx_base.specs.Role.{same_role}
 use Rattle.cx_edge.specs.declared.rows.CountRow.{CountRow}
+use Rattle.cx_edge.specs.declared.shelf.Shelf.{Shelf}
 
--- the count of each role that is known, the roles whose stores are out, and room for how many others
+-- the count of each role that is known, the stores that are out, and room for how many others
 pub record DeskState : Type 0 where
   pub counts : List CountRow
-  pub out : List RoleId
+  pub out : List Shelf
   pub room : ℕ
 
 -- the sum of two counts, or the end of their type

@@ -10,6 +10,7 @@ pub mod MemLink
 pub mod Memory
 pub mod Notes
 pub mod Outside
+pub mod Shelf
 pub mod Sink
 pub mod Slot
 pub mod Source

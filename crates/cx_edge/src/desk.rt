@@ -2,20 +2,21 @@
 
 ghost use Rattle.std.specs.Prelude.{◌≡◌, ◌<◌, ◌++◌, [], ◌∷◌, true, false, map, IfOk};
 ghost use Rattle.std.specs.List.{list_any, position};
-ghost use Rattle.cx_base.specs.Role.{same_role};
 ghost use Rattle.cx_edge.specs.Depot.{without};
 ghost use Rattle.cx_edge.specs.Desk.{of_role, no_faults, counted, plus};
+ghost use Rattle.cx_edge.specs.Shelf.{same_shelf};
 
+use crate::Shelf;
 use crate::rows::CountRow;
 use cx_base::{NoMemory, RoleId};
 use std::alloc::Global;
 use std::marker::Model;
 
-/// Counts faults for each of its roles, and keeps a list of the roles whose stores are out.
+/// Counts faults for each of its roles, and keeps a list of the stores that are out.
 #[derive(Drop)]
 pub(crate) struct Desk {
     counts: Vec<CountRow>,
-    out: Vec<RoleId>,
+    out: Vec<Shelf>,
 }
 
 impl Model for Desk {
@@ -37,16 +38,16 @@ fn row_of(rows: &[CountRow], role: RoleId) -> Option<usize>
     rows.iter().position(|row| role.is(row.role))
 }
 
-fn place_of(roles: &[RoleId], role: RoleId) -> Option<usize>
-    ensures { result ≡ position (same_role role) roles.now }
+fn index_of(places: &[Shelf], place: Shelf) -> Option<usize>
+    ensures { result ≡ position (same_shelf place) places.now }
 {
-    roles.iter().position(|other| role.is(*other))
+    places.iter().position(|other| place.is(*other))
 }
 
-fn is_among(roles: &[RoleId], role: RoleId) -> bool
-    ensures { result ≡ list_any (same_role role) roles.now }
+fn is_among(places: &[Shelf], place: Shelf) -> bool
+    ensures { result ≡ list_any (same_shelf place) places.now }
 {
-    roles.iter().any(|other| role.is(*other))
+    places.iter().any(|other| place.is(*other))
 }
 
 /// Adds to the count of a role, if it has one.
@@ -68,21 +69,21 @@ fn added(row: CountRow, faults: u64) -> CountRow
     }
 }
 
-/// Takes a role out of the list.
-fn remove(roles: &mut Vec<RoleId>, role: RoleId)
-    ensures { roles.new.items ≡ without role roles.old.items }
+/// Takes a place out of the list.
+fn remove(places: &mut Vec<Shelf>, place: Shelf)
+    ensures { places.new.items ≡ without place places.old.items }
 {
-    match place_of(roles, role) {
+    match index_of(places, place) {
         Some(at) => {
-            roles.remove(at);
+            places.remove(at);
         }
         None => {}
     }
 }
 
 impl Desk {
-    /// No store out, and no faults. All memory is taken here.
-    pub(crate) fn new(alloc: Global, roles: &[RoleId]) -> Result<Self, NoMemory>
+    /// No store out, and no faults. All memory is taken here, for so many stores that are out at once.
+    pub(crate) fn new(alloc: Global, roles: &[RoleId], room: usize) -> Result<Self, NoMemory>
         ensures counts { IfOk result (λ desk. desk.counts ≡ map no_faults roles.now) }
         ensures out { IfOk result (λ desk. desk.out ≡ []) }
     {
@@ -95,27 +96,27 @@ impl Desk {
         }
         Ok(Desk {
             counts,
-            out: Vec::with_capacity(alloc, roles.len())?,
+            out: Vec::with_capacity(alloc, room)?,
         })
     }
 
-    /// Whether it is one of the desk's roles, its store isn't out, and there is room to note that it is.
-    pub(crate) fn can_hand_out(&self, role: RoleId) -> bool
+    /// Whether the store is of one of the desk's roles, isn't out, and there is room to note that it is.
+    pub(crate) fn can_hand_out(&self, place: Shelf) -> bool
         ensures room { result ≡ true → 0 < self.now.room }
-        ensures once { result ≡ true → list_any (same_role role) self.now.out ≡ false }
+        ensures once { result ≡ true → list_any (same_shelf place) self.now.out ≡ false }
     {
-        row_of(&self.counts, role).is_some()
-            && !is_among(&self.out, role)
+        row_of(&self.counts, place.role).is_some()
+            && !is_among(&self.out, place)
             && self.out.len() < self.out.capacity()
     }
 
-    /// Notes that the store of the role is out.
-    pub(crate) fn hand_out(&mut self, role: RoleId)
+    /// Notes that the store is out.
+    pub(crate) fn hand_out(&mut self, place: Shelf)
         requires { 0 < self.old.room }
         ensures counts { self.new.counts ≡ self.old.counts }
-        ensures out { self.new.out ≡ self.old.out ++ role ∷ [] }
+        ensures out { self.new.out ≡ self.old.out ++ place ∷ [] }
     {
-        self.out.push_reserved(role);
+        self.out.push_reserved(place);
     }
 
     /// Counts one fault of the role.
@@ -126,12 +127,12 @@ impl Desk {
         count(&mut self.counts, role, 1);
     }
 
-    /// Notes that the store of the role is back, and has failed so often.
-    pub(crate) fn take_back(&mut self, role: RoleId, faults: u64)
-        ensures counts { self.new.counts ≡ counted role faults self.old.counts }
-        ensures out { self.new.out ≡ without role self.old.out }
+    /// Notes that the store is back, and has failed so often.
+    pub(crate) fn take_back(&mut self, place: Shelf, faults: u64)
+        ensures counts { self.new.counts ≡ counted place.role faults self.old.counts }
+        ensures out { self.new.out ≡ without place self.old.out }
     {
-        count(&mut self.counts, role, faults);
-        remove(&mut self.out, role);
+        count(&mut self.counts, place.role, faults);
+        remove(&mut self.out, place);
     }
 }

@@ -3,26 +3,26 @@
 ghost use Rattle.std.specs.Prelude.{◌≡◌, [], true, false, map, IfOk, string_bytes};
 ghost use Rattle.cx_base.specs.declared.role.RoleId.{RoleId};
 ghost use Rattle.cx_edge.specs.Depot.{first_faults};
-ghost use Rattle.cx_edge.specs.FileDepot.{file_name, files_out, files_faults};
+ghost use Rattle.cx_edge.specs.FileDepot.{ending, file_name, files_out, files_faults};
 ghost use Rattle.cx_edge.specs.FileDisk.{faults_of};
 
 use crate::desk::Desk;
-use crate::{Depot, FileDisk};
-use cx_base::{MAX_RECORD_LENGTH, NoMemory, RoleId};
+use crate::{Depot, FileDisk, Shelf};
+use cx_base::{Kind, MAX_RECORD_LENGTH, NoMemory, RoleId};
 use cx_disk::{Disk, Failed};
 use std::alloc::Global;
 use std::fs::File;
 use std::marker::Model;
 use std::rt::Files;
 
-/// A role, and the name of its file.
+/// The place of a store, and the name of its file.
 #[derive(Drop)]
 struct StoreName {
-    role: RoleId,
+    place: Shelf,
     name: String,
 }
 
-/// Keeps each role's store in a file of its own, which is named after the role.
+/// Keeps each store in a file of its own, which is named after its role. A replica has two, each other role one.
 #[derive(Drop)]
 pub struct FileDepot<R> {
     files: R,
@@ -38,25 +38,43 @@ impl<R> Model for FileDepot<R> {
     ghost view = { λ d. record { counts = d.desk.counts; out = d.desk.out } };
 }
 
-/// The name of a role's file, as `compax-acceptor-0.journal`.
-fn file_name(alloc: Global, role: RoleId) -> Result<String, NoMemory>
-    ensures { IfOk result (λ name. string_bytes name ≡ file_name role) }
+/// How the name of a file on this side ends.
+fn ending(side: u8) -> &'static str
+    ensures { result.now ≡ ending side }
 {
-    let kind = role.kind.text();
-    let index = role.index;
-    match format!(in alloc; "compax-{kind}-{index}.journal") {
+    match side {
+        0 => "journal",
+        _ => "other",
+    }
+}
+
+/// The name of a store's file, as `compax-replica-0.journal`, or `compax-replica-0.other` on side 1.
+fn file_name(alloc: Global, place: Shelf) -> Result<String, NoMemory>
+    ensures { IfOk result (λ name. string_bytes name ≡ file_name place) }
+{
+    let kind = place.role.kind.text();
+    let index = place.role.index;
+    let ending = ending(place.side);
+    match format!(in alloc; "compax-{kind}-{index}.{ending}") {
         Ok(name) => Ok(name),
         Err(_) => Err(NoMemory),
     }
 }
 
+fn add_name(alloc: Global, names: &mut Vec<StoreName>, place: Shelf) -> Result<(), NoMemory> {
+    let name = file_name(alloc, place)?;
+    names.push(StoreName { place, name })?;
+    Ok(())
+}
+
+/// The places that these roles have, with the names of their files.
 fn names_of(alloc: Global, roles: &[RoleId]) -> Result<Vec<StoreName>, NoMemory> {
     let mut names = Vec::with_capacity(alloc, roles.len())?;
     for role in roles {
-        names.push(StoreName {
-            role: *role,
-            name: file_name(alloc, *role)?,
-        })?;
+        add_name(alloc, &mut names, Shelf::new(*role, 0))?;
+        if role.kind == Kind::Replica {
+            add_name(alloc, &mut names, Shelf::new(*role, 1))?;
+        }
     }
     Ok(names)
 }
@@ -65,18 +83,31 @@ fn names_of(alloc: Global, roles: &[RoleId]) -> Result<Vec<StoreName>, NoMemory>
 /// longest record, and the next gate.
 const FIRST_RECORD: u64 = 1 + 4 + MAX_RECORD_LENGTH as u64 + 1;
 
-/// Whether the file may be a journal: it is empty, or begins with an open gate, or with a closed one that has one record at most
-/// after it. A torn write of the gate could leave any byte on a disk as it is assumed elsewhere; a file keeps the old byte or the
-/// new one.
-fn could_be_journal(disk: &mut FileDisk) -> bool
+/// Whether a file of this length may be a journal by its first bytes, with 0 for those past its end. It is empty, or begins with
+/// an open gate, or with a closed one that has one record at most after it.
+///
+/// A replica's may also be a list that was put anew, which begins with 4, its generation and a gate. One that was stopped before
+/// its 4 was written begins with 0 in place of it, however long it is, and with 0 also in place of what wasn't written yet.
+///
+/// A torn write could leave any byte on a disk as it is assumed elsewhere; a file keeps the old byte or the new one, so a stop
+/// leaves no other beginning.
+fn could_begin(front: [u8; 3], len: u64, kind: Kind) -> bool {
+    match front {
+        [1, ..] => true,
+        [0, ..] if len <= FIRST_RECORD => true,
+        [4, ..] | [0, 0..=2, 0..=1] => kind == Kind::Replica,
+        _ => false,
+    }
+}
+
+/// Whether the file may be a journal of a role of this kind.
+fn could_be_journal(disk: &mut FileDisk, kind: Kind) -> bool
     ensures { result ≡ true → faults_of disk.new ≡ faults_of disk.old }
 {
-    if disk.len() == 0 {
-        return true;
-    }
-    let mut gate = [0; 1];
-    match disk.read(0, &mut gate) {
-        Ok(()) => gate[0] == 1 || gate[0] == 0 && disk.len() <= FIRST_RECORD,
+    let len = disk.len();
+    let mut front = [0; 3];
+    match disk.read(0, &mut front[..len.min(3) as usize]) {
+        Ok(()) => could_begin(front, len, kind),
         Err(_) => false,
     }
 }
@@ -84,14 +115,14 @@ fn could_be_journal(disk: &mut FileDisk) -> bool
 fn opened<R: Files<File = File>>(
     files: &R,
     names: &[StoreName],
-    role: RoleId,
+    place: Shelf,
 ) -> Result<FileDisk, Failed>
     ensures { IfOk result (λ disk. faults_of disk ≡ 0) }
 {
     for store in names {
-        if role.is(store.role) {
+        if place.is(store.place) {
             let mut disk = FileDisk::open(files, store.name.as_str())?;
-            if !could_be_journal(&mut disk) {
+            if !could_be_journal(&mut disk, place.role.kind) {
                 return Err(Failed);
             }
             return Ok(disk);
@@ -101,8 +132,8 @@ fn opened<R: Files<File = File>>(
 }
 
 impl<R> FileDepot<R> {
-    /// The depot of these roles' files, none of them out. Opening the store of another role fails. All memory is taken here,
-    /// none by a call.
+    /// The depot of these roles' files, none of them out. Opening the store of another role fails, and so does any but the first
+    /// of a role, and the second of a replica. All memory is taken here, none by a call.
     #[tactic(auto, using(crate::proofs::DeskLaws::count_first))]
     pub fn new(alloc: Global, files: R, roles: &[RoleId]) -> Result<Self, NoMemory>
     where
@@ -111,11 +142,9 @@ impl<R> FileDepot<R> {
             → files_faults depot role ≡ first_faults role roles.now) }
         ensures out { IfOk result (λ depot. depot.out ≡ []) }
     {
-        Ok(FileDepot {
-            files,
-            names: names_of(alloc, roles)?,
-            desk: Desk::new(alloc, roles)?,
-        })
+        let names = names_of(alloc, roles)?;
+        let desk = Desk::new(alloc, roles, names.len())?;
+        Ok(FileDepot { files, names, desk })
     }
 }
 
@@ -124,17 +153,18 @@ impl<R: Files<File = File>> Depot for FileDepot<R> {
 
     ghost tells = { λ d. false };
 
-    ghost held = { λ d role. [] };
+    ghost held = { λ d place. [] };
 
     ghost out = { files_out };
 
     ghost faults = { files_faults };
 
     #[tactic(auto, using(crate::proofs::DeskLaws::count_rises, crate::proofs::DeskLaws::count_later, crate::proofs::DeskLaws::count_other))]
-    fn open(&mut self, role: RoleId) -> Result<FileDisk, Failed> {
-        if self.desk.can_hand_out(role) {
-            if let Ok(store) = opened(&self.files, &self.names, role) {
-                self.desk.hand_out(role);
+    fn open(&mut self, role: RoleId, side: u8) -> Result<FileDisk, Failed> {
+        let place = Shelf::new(role, side);
+        if self.desk.can_hand_out(place) {
+            if let Ok(store) = opened(&self.files, &self.names, place) {
+                self.desk.hand_out(place);
                 return Ok(store);
             }
         }
@@ -143,8 +173,8 @@ impl<R: Files<File = File>> Depot for FileDepot<R> {
     }
 
     #[tactic(auto, using(crate::proofs::DeskLaws::count_rises, crate::proofs::DeskLaws::count_later, crate::proofs::DeskLaws::count_other, crate::proofs::DeskLaws::count_none))]
-    fn close(&mut self, role: RoleId, store: FileDisk) {
+    fn close(&mut self, role: RoleId, side: u8, store: FileDisk) {
         let faults = store.faults();
-        self.desk.take_back(role, faults);
+        self.desk.take_back(Shelf::new(role, side), faults);
     }
 }

@@ -1,4 +1,4 @@
-//! A depot in memory: a disk for each role, and a list of the openings that fail.
+//! A depot in memory: its disks, and a list of the openings that fail.
 
 ghost use Rattle.std.specs.Prelude.{◌≡◌, [], true, map, IfOk, IfSome};
 ghost use Rattle.cx_disk.specs.MemDiskViews.{told_by};
@@ -6,12 +6,13 @@ ghost use Rattle.cx_base.specs.declared.role.RoleId.{RoleId};
 ghost use Rattle.cx_edge.specs.Depot.{first_faults};
 ghost use Rattle.cx_edge.specs.Held.{store_of, role_of};
 ghost use Rattle.cx_edge.specs.MemDepot.{depot_held, depot_out, depot_faults};
+ghost use Rattle.cx_edge.specs.Shelf.{shelf};
 
 use crate::desk::Desk;
 use crate::memory::is_failing;
 use crate::slot::Slot;
 use crate::slots::{hand_out, put_back, roles_of, slots_for, store_in};
-use crate::{CountedDisk, Depot};
+use crate::{CountedDisk, Depot, Shelf};
 use cx_base::{NoMemory, RoleId};
 use cx_disk::{Failed, MemDisk};
 use std::alloc::Global;
@@ -39,13 +40,14 @@ impl Model for MemDepot {
 }
 
 impl MemDepot {
-    /// The depot of these stores, one a role, none of them out. Openings are counted from 0, and those with the numbers in
-    /// `failing` fail; so does that of a role without a store, and of a disk that can't be synced or holds more bytes than
-    /// `room`. All memory is taken here, none by a call: so much room is kept for each store beside it, for what it held.
+    /// The depot of these stores, each in a place of its own, none of them out. Openings are counted from 0, and those with
+    /// the numbers in `failing` fail; so does that of a place without a store, and of a disk that can't be synced or holds more
+    /// bytes than `room`. All memory is taken here, none by a call: so much room is kept for each store beside it, for what it
+    /// held.
     #[tactic(auto, using(crate::proofs::DeskLaws::count_first))]
     pub fn new(
         alloc: Global,
-        stores: Vec<(RoleId, MemDisk)>,
+        stores: Vec<(Shelf, MemDisk)>,
         room: usize,
         failing: Vec<u64>,
     ) -> Result<Self, NoMemory>
@@ -55,7 +57,7 @@ impl MemDepot {
         ensures out { IfOk result (λ depot. depot.out ≡ []) }
     {
         let roles = roles_of(alloc, &stores)?;
-        let desk = Desk::new(alloc, &roles)?;
+        let desk = Desk::new(alloc, &roles, stores.len())?;
         Ok(MemDepot {
             slots: slots_for(alloc, stores, room)?,
             desk,
@@ -64,11 +66,11 @@ impl MemDepot {
         })
     }
 
-    /// The store of a role, while it isn't out. It takes no memory.
-    pub fn store(&self, role: RoleId) -> Option<&MemDisk>
-        ensures { IfSome result (λ disk. told_by disk.now ≡ depot_held self.now role) }
+    /// The store on a side of a role, while it isn't out. It takes no memory.
+    pub fn store(&self, role: RoleId, side: u8) -> Option<&MemDisk>
+        ensures { IfSome result (λ disk. told_by disk.now ≡ depot_held self.now (shelf role side)) }
     {
-        store_in(&self.slots, role)
+        store_in(&self.slots, Shelf::new(role, side))
     }
 }
 
@@ -84,12 +86,13 @@ impl Depot for MemDepot {
     ghost faults = { depot_faults };
 
     #[tactic(auto, using(crate::proofs::DeskLaws::count_rises, crate::proofs::DeskLaws::count_later, crate::proofs::DeskLaws::count_other))]
-    fn open(&mut self, role: RoleId) -> Result<CountedDisk<MemDisk>, Failed> {
+    fn open(&mut self, role: RoleId, side: u8) -> Result<CountedDisk<MemDisk>, Failed> {
+        let place = Shelf::new(role, side);
         let call = self.call;
         self.call = call.saturating_add(1);
-        if !is_failing(&self.failing, call) && self.desk.can_hand_out(role) {
-            if let Some(disk) = hand_out(&mut self.slots, role) {
-                self.desk.hand_out(role);
+        if !is_failing(&self.failing, call) && self.desk.can_hand_out(place) {
+            if let Some(disk) = hand_out(&mut self.slots, place) {
+                self.desk.hand_out(place);
                 return Ok(CountedDisk::new(disk));
             }
         }
@@ -98,9 +101,10 @@ impl Depot for MemDepot {
     }
 
     #[tactic(auto, using(crate::proofs::DeskLaws::count_rises, crate::proofs::DeskLaws::count_later, crate::proofs::DeskLaws::count_other, crate::proofs::DeskLaws::count_none))]
-    fn close(&mut self, role: RoleId, store: CountedDisk<MemDisk>) {
+    fn close(&mut self, role: RoleId, side: u8, store: CountedDisk<MemDisk>) {
+        let place = Shelf::new(role, side);
         let (disk, faults) = store.into_parts();
-        put_back(&mut self.slots, role, disk);
-        self.desk.take_back(role, faults);
+        put_back(&mut self.slots, place, disk);
+        self.desk.take_back(place, faults);
     }
 }

@@ -1,11 +1,12 @@
-//! The place of one role's store in memory.
-use cx_base::RoleId;
+//! One store in memory.
+
+use crate::Shelf;
 use cx_disk::MemDisk;
 
-/// A role's store, and while that is out what it held before.
+/// A store in its place, and while it is out what it held before.
 #[derive(Drop)]
 pub(crate) struct Slot {
-    pub(crate) role: RoleId,
+    pub(crate) place: Shelf,
     pub(crate) disk: Option<MemDisk>,
     pub(crate) before: Vec<u8>,
 }

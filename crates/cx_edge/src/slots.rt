@@ -5,17 +5,18 @@ ghost use Rattle.std.specs.List.{position};
 ghost use Rattle.cx_disk.specs.Disk.{Only};
 ghost use Rattle.cx_disk.specs.MemDiskViews.{told_by, left_by};
 ghost use Rattle.cx_edge.specs.Held.{held_by, has_store, with_bytes, store_of, role_of};
-ghost use Rattle.cx_edge.specs.Slot.{slot_held, is_slot_of};
+ghost use Rattle.cx_edge.specs.Slot.{slot_held, is_slot_at};
 
+use crate::Shelf;
 use crate::slot::Slot;
 use cx_base::{NoMemory, RoleId};
 use cx_disk::{Disk, MemDisk};
 use std::alloc::Global;
 
-fn slot_of(slots: &[Slot], role: RoleId) -> Option<usize>
-    ensures { result ≡ position (is_slot_of role) slots.now }
+fn slot_at(slots: &[Slot], place: Shelf) -> Option<usize>
+    ensures { result ≡ position (is_slot_at place) slots.now }
 {
-    slots.iter().position(|slot| role.is(slot.role))
+    slots.iter().position(|slot| place.is(slot.place))
 }
 
 /// Syncs the disk, so that a crash leaves what it holds, and copies that into room that is there.
@@ -51,24 +52,24 @@ fn handed_from(slot: &mut Slot) -> Option<MemDisk>
     }
 }
 
-/// Hands out the store of a role, unless it has none, that is out, can't be synced, or holds more than the room for a copy.
-pub(crate) fn hand_out(slots: &mut Vec<Slot>, role: RoleId) -> Option<MemDisk>
+/// Hands out the store in a place, unless there is none, it is out, can't be synced, or holds more than the room for a copy.
+pub(crate) fn hand_out(slots: &mut Vec<Slot>, place: Shelf) -> Option<MemDisk>
     ensures held { map slot_held slots.new.items ≡ map slot_held slots.old.items }
-    ensures known { IfSome result (λ disk. has_store role (map slot_held slots.old.items) ≡ true) }
-    ensures told { IfSome result (λ disk. told_by disk ≡ held_by (map slot_held slots.old.items) role) }
-    ensures durable { IfSome result (λ disk. Only (held_by (map slot_held slots.old.items) role) (left_by disk)) }
+    ensures known { IfSome result (λ disk. has_store place (map slot_held slots.old.items) ≡ true) }
+    ensures told { IfSome result (λ disk. told_by disk ≡ held_by (map slot_held slots.old.items) place) }
+    ensures durable { IfSome result (λ disk. Only (held_by (map slot_held slots.old.items) place) (left_by disk)) }
 {
-    match slot_of(slots, role) {
+    match slot_at(slots, place) {
         None => None,
         Some(at) => handed_from(&mut slots[at]),
     }
 }
 
-/// Puts a role's store back, if the role has a place for one.
-pub(crate) fn put_back(slots: &mut Vec<Slot>, role: RoleId, disk: MemDisk)
-    ensures { map slot_held slots.new.items ≡ with_bytes role (told_by disk) (map slot_held slots.old.items) }
+/// Puts a store back in its place, if there is one.
+pub(crate) fn put_back(slots: &mut Vec<Slot>, place: Shelf, disk: MemDisk)
+    ensures { map slot_held slots.new.items ≡ with_bytes place (told_by disk) (map slot_held slots.old.items) }
 {
-    match slot_of(slots, role) {
+    match slot_at(slots, place) {
         None => {}
         Some(at) => slots[at].disk = Some(disk),
     }
@@ -84,23 +85,23 @@ fn shown(slot: &Slot) -> Option<&MemDisk>
     }
 }
 
-/// The store of a role, while it isn't out.
-pub(crate) fn store_in(slots: &[Slot], role: RoleId) -> Option<&MemDisk>
-    ensures { IfSome result (λ disk. told_by disk.now ≡ held_by (map slot_held slots.now) role) }
+/// The store in a place, while it isn't out.
+pub(crate) fn store_in(slots: &[Slot], place: Shelf) -> Option<&MemDisk>
+    ensures { IfSome result (λ disk. told_by disk.now ≡ held_by (map slot_held slots.now) place) }
 {
-    match slot_of(slots, role) {
+    match slot_at(slots, place) {
         None => None,
         Some(at) => shown(&slots[at]),
     }
 }
 
-/// The roles of the stores.
-pub(crate) fn roles_of(alloc: Global, stores: &[(RoleId, MemDisk)]) -> Result<Vec<RoleId>, NoMemory>
+/// The roles of the stores, one for each store.
+pub(crate) fn roles_of(alloc: Global, stores: &[(Shelf, MemDisk)]) -> Result<Vec<RoleId>, NoMemory>
     ensures { IfOk result (λ roles. roles.items ≡ map role_of stores.now) }
 {
     let mut roles = Vec::with_capacity(alloc, stores.len())?;
     for store in stores {
-        roles.push(store.0)?;
+        roles.push(store.0.role)?;
     }
     Ok(roles)
 }
@@ -108,15 +109,15 @@ pub(crate) fn roles_of(alloc: Global, stores: &[(RoleId, MemDisk)]) -> Result<Ve
 /// A place for each store, with room for a copy of `room` bytes.
 pub(crate) fn slots_for(
     alloc: Global,
-    stores: Vec<(RoleId, MemDisk)>,
+    stores: Vec<(Shelf, MemDisk)>,
     room: usize,
 ) -> Result<Vec<Slot>, NoMemory>
     ensures { IfOk result (λ slots. map slot_held slots.items ≡ map store_of stores.items) }
 {
     let mut slots = Vec::with_capacity(alloc, stores.len())?;
-    for (role, disk) in stores {
+    for (place, disk) in stores {
         slots.push(Slot {
-            role,
+            place,
             disk: Some(disk),
             before: Vec::with_capacity(alloc, room)?,
         })?;

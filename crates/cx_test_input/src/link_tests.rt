@@ -19,15 +19,15 @@ enum Step {
     Take(TakeEnd, [u8; 2]),
 }
 
-// The first bind, the second send and the second take fail, as those without room do.
+// The first bind, the second send and the first take fail, as those without room do.
 const STEPS: [Step; 11] = [
     Step::Bind(false),
     Step::Bind(true),
     Step::Bind(false),
+    Step::Take(TakeEnd::Failed, [0, 0]),
     Step::Take(TakeEnd::Nothing, [0, 0]),
     Step::Send(&[1, 2, 3], true),
     Step::Send(&[4], false),
-    Step::Take(TakeEnd::Failed, [0, 0]),
     Step::Take(TakeEnd::Got(1), [9, 0]),
     Step::Take(TakeEnd::Got(2), [1, 2]),
     Step::Send(&[5, 6, 7, 8, 9], false),
@@ -42,7 +42,7 @@ fn failing(alloc: Global) -> Result<LinkFailing, Fail> {
     Ok(LinkFailing {
         binds: vec![in alloc; 0]?,
         sends: vec![in alloc; 1]?,
-        takes: vec![in alloc; 1]?,
+        takes: vec![in alloc; 0]?,
     })
 }
 

@@ -3,28 +3,28 @@ use Rattle.std.specs.List.{position}
 use Rattle.cx_disk.specs.Disk.{Only}
 use Rattle.cx_disk.specs.MemDiskViews.{told_by, left_by}
 use Rattle.cx_disk.specs.declared.memory.MemDisk.{MemDisk}
-use Rattle.cx_edge.specs.Slot.{is_slot_of}
+use Rattle.cx_edge.specs.Slot.{is_slot_at}
 use Rattle.cx_edge.proofs.SlotLaws.{slot_same, slot_has, slot_bytes, if_some}
 use Rattle.cx_edge.proofs.slots.hand_out.Goals as goal
 
 pub returns-in-Some-clause-held : goal.returns-in-Some-clause-held
 returns-in-Some-clause-held c =
-    let found = ap (position (is_slot_of c.args.role)) (sym c.deref.ensures.value) ∙ sym c.slot_of.ensures ∙ c.in-Some.is in
-    slot_same c.args.role c.args.slots.now.items c.in-Some.at c.index_mut.result.now found c.index_mut.ensures.value c.handed_from.new.slot c.handed_from.ensures.held
+    let found = ap (position (is_slot_at c.args.place)) (sym c.deref.ensures.value) ∙ sym c.slot_at.ensures ∙ c.in-Some.is in
+    slot_same c.args.place c.args.slots.now.items c.in-Some.at c.index_mut.result.now found c.index_mut.ensures.value c.handed_from.new.slot c.handed_from.ensures.held
 
 pub returns-in-Some-clause-known : goal.returns-in-Some-clause-known
 returns-in-Some-clause-known c =
-    let found = ap (position (is_slot_of c.args.role)) (sym c.deref.ensures.value) ∙ sym c.slot_of.ensures ∙ c.in-Some.is in
-    if_some c.handed_from.result (slot_has c.args.role c.args.slots.now.items c.in-Some.at c.index_mut.result.now found c.index_mut.ensures.value)
+    let found = ap (position (is_slot_at c.args.place)) (sym c.deref.ensures.value) ∙ sym c.slot_at.ensures ∙ c.in-Some.is in
+    if_some c.handed_from.result (slot_has c.args.place c.args.slots.now.items c.in-Some.at c.index_mut.result.now found c.index_mut.ensures.value)
 
 pub returns-in-Some-clause-told : goal.returns-in-Some-clause-told
 returns-in-Some-clause-told c =
-    let found = ap (position (is_slot_of c.args.role)) (sym c.deref.ensures.value) ∙ sym c.slot_of.ensures ∙ c.in-Some.is in
-    let bytes = slot_bytes c.args.role c.args.slots.now.items c.in-Some.at c.index_mut.result.now found c.index_mut.ensures.value in
+    let found = ap (position (is_slot_at c.args.place)) (sym c.deref.ensures.value) ∙ sym c.slot_at.ensures ∙ c.in-Some.is in
+    let bytes = slot_bytes c.args.place c.args.slots.now.items c.in-Some.at c.index_mut.result.now found c.index_mut.ensures.value in
     subst (λ (file : List ℕ). IfSome c.handed_from.result (λ (disk : MemDisk). told_by disk ≡ file)) bytes c.handed_from.ensures.told
 
 pub returns-in-Some-clause-durable : goal.returns-in-Some-clause-durable
 returns-in-Some-clause-durable c =
-    let found = ap (position (is_slot_of c.args.role)) (sym c.deref.ensures.value) ∙ sym c.slot_of.ensures ∙ c.in-Some.is in
-    let bytes = slot_bytes c.args.role c.args.slots.now.items c.in-Some.at c.index_mut.result.now found c.index_mut.ensures.value in
+    let found = ap (position (is_slot_at c.args.place)) (sym c.deref.ensures.value) ∙ sym c.slot_at.ensures ∙ c.in-Some.is in
+    let bytes = slot_bytes c.args.place c.args.slots.now.items c.in-Some.at c.index_mut.result.now found c.index_mut.ensures.value in
     subst (λ (file : List ℕ). IfSome c.handed_from.result (λ (disk : MemDisk). Only file (left_by disk))) bytes c.handed_from.ensures.durable

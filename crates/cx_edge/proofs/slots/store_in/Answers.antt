@@ -7,5 +7,5 @@ use Rattle.cx_edge.proofs.slots.store_in.Goals as goal
 pub returns-in-Some : goal.returns-in-Some
 returns-in-Some c =
     let s = c.index-slots-at.result in
-    let bytes = slot_bytes c.args.role c.args.slots.now c.in-Some.at s (sym c.slot_of.ensures ∙ c.in-Some.is) c.index-slots-at.is in
+    let bytes = slot_bytes c.args.place c.args.slots.now c.in-Some.at s (sym c.slot_at.ensures ∙ c.in-Some.is) c.index-slots-at.is in
     subst (λ (file : List ℕ). IfSome c.shown.result (λ (disk : Bor MemDisk). told_by disk.now ≡ file)) bytes c.shown.ensures
