@@ -9,6 +9,7 @@ pub mod Reading
 pub mod Ready
 pub mod RecordSizes
 pub mod Recoveries
+pub mod Refused
 pub mod Spelled
 pub mod Ahead
 pub mod PutAnew
@@ -26,3 +27,4 @@ pub mod Twos
 pub mod Lengths
 pub mod Told
 pub mod TwinReady
+pub mod Stores

@@ -12,9 +12,9 @@ use Rattle.cx_journal.specs.Blank.{IsLeftOr, IsSame}
 use Rattle.cx_journal.specs.Found.{IsOutside}
 use Rattle.cx_journal.specs.Generation.{IsSound, generation, second_is_live}
 use Rattle.cx_journal.specs.Journal.{frames, gates_from}
-use Rattle.cx_journal.specs.Pair.{front_of}
+use Rattle.cx_journal.specs.Pair.{front_of, IsLive}
 use Rattle.cx_journal.specs.Payload.{payloads, all_kept_by}
-use Rattle.cx_journal.specs.State.{records_or_none}
+use Rattle.cx_journal.specs.State.{records_or_none, IsUnwritten}
 use Rattle.cx_journal.specs.Twin.{TwinState, BothTell, told_by, pair_records, pair_image, image_chosen, IsPairFault, IsFaultOfPair, PairRests, TwoRest, LeavesSame, LeavesTwo, SamePair, IsTwinReady}
 use Rattle.cx_journal.specs.declared.image.Found.{Found}
 use Rattle.cx_journal.specs.declared.opening.Live.{Live}
@@ -165,6 +165,34 @@ module _ {D : Type 0} (seen : D → Option (List ℕ)) (may_leave : D → List �
         let a = told_of (seen old.first) h.0 in
         let b = told_of (seen old.second) h.1 in
         (told old, ready.fit h, same a.0 b.0 c d a.1 b.1 is there None ∙ ready.reads a.0 b.0 a.1 b.1))
+
+  -- a disk that nothing was written to
+  live_still : (old new : D) (file : List ℕ) → IsUnwritten seen may_leave size old new → IsLive seen may_leave old file → IsLive seen may_leave new file
+  live_still old new file same live = (same.same_bytes ∙ live.0, λ c left. live.1 c (same.crash c left))
+
+  two_still : (s : Bool) (gen : Option ℕ) (records : List Record) (first second new_first new_second : D) → IsUnwritten seen may_leave size first new_first → IsUnwritten seen may_leave size second new_second
+      → TwoRest seen may_leave s gen records first second → TwoRest seen may_leave s gen records new_first new_second
+  two_still true gen records first second new_first new_second one other two =
+      record { file = two.file; beside = two.beside; rests = live_still second new_second two.file other two.rests; other = live_still first new_first two.beside one two.other; twin = two.twin; gen_is = two.gen_is }
+  two_still false gen records first second new_first new_second one other two =
+      record { file = two.file; beside = two.beside; rests = live_still first new_first two.file one two.rests; other = live_still second new_second two.beside other two.other; twin = two.twin; gen_is = two.gen_is }
+
+  -- a twin to whose disks nothing was written
+  pub ready_still : (t : TwinState D) (first second : D) → IsTwinReady seen may_leave size t → IsUnwritten seen may_leave size t.first first → IsUnwritten seen may_leave size t.second second
+      → IsTwinReady seen may_leave size (record { first = first; second = second; second_lives = t.second_lives; generation = t.generation; gates = t.gates; gate = t.gate; whole = t.whole; faults = t.faults })
+  ready_still t first second ready one other =
+      let same : told t ≡ told_by seen first second = sym (ap (λ o. pair_records o (seen second)) one.same_bytes ∙ ap (λ o. pair_records (seen t.first) o) other.same_bytes) in
+      let tells : BothTell seen first second → Tells t = λ h. (sym (ap is_some one.same_bytes) ∙ h.0, sym (ap is_some other.same_bytes) ∙ h.1) in
+      record {
+        below = λ whole.
+            subst (λ n. t.gate < (if t.second_lives then n else size first)) (sym other.same_size) (subst (λ n. t.gate < (if t.second_lives then size t.second else n)) (sym one.same_size) (ready.below whole));
+        sound = ready.sound;
+        rests = λ whole h. subst (λ rs. TwoRest seen may_leave t.second_lives t.generation rs first second) same (two_still t.second_lives t.generation (told t) t.first t.second first second one other (ready.rests whole (tells h)));
+        place = λ whole h. ready.place whole (tells h) ∙ ap (λ rs. length (front_of t.generation ++ frames (payloads rs))) same;
+        gates_are = λ whole h. ready.gates_are whole (tells h) ∙ ap (λ rs. gates_from (length (front_of t.generation)) (payloads rs)) same;
+        fit = λ h. subst (λ rs. all_kept_by None rs ≡ true) same (ready.fit (tells h));
+        reads = λ a b is there. ready.reads a b (sym one.same_bytes ∙ is) (sym other.same_bytes ∙ there) ∙ ap Ok same;
+      }
 
   -- two disks that were read
   pub rest_read : (k : Option Kind) (live : Live) (found : Found) (first second : D) → PairRests seen may_leave k live found first second → TwoRest seen may_leave live.second live.generation found.records.items first second

@@ -1,5 +1,6 @@
 pub mod Appends
 pub mod Blank
+pub mod Files
 pub mod Found
 pub mod Generation
 pub mod Image
@@ -7,5 +8,7 @@ pub mod Journal
 pub mod Pair
 pub mod Payload
 pub mod State
+pub mod Store
+pub mod StoreLaw
 pub mod Twin
 pub mod TwinChanges

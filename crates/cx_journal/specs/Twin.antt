@@ -2,10 +2,11 @@
 use Rattle.std.specs.Prelude.{◌≡◌, ◌<◌, ◌≤◌, ◌⊎◌, ℕ, ◌++◌, not, Bool, true, is_some, if◌then◌else◌, List, [], length, Option, Some, None, Result, Ok, Err}
 use Rattle.cx_base.specs.declared.role.Kind.{Kind}
 use Rattle.cx_msg.specs.declared.kept.Record.{Record}
+use Rattle.cx_journal.specs.Blank.{IsSame}
 use Rattle.cx_journal.specs.Generation.{IsSound, generation, second_is_live}
 use Rattle.cx_journal.specs.Image.{Image, image, image_from}
 use Rattle.cx_journal.specs.Journal.{frames, gates_from}
-use Rattle.cx_journal.specs.Pair.{StandsAfter, front_of, live_of, first_file, second_file, IsTwin, IsLive}
+use Rattle.cx_journal.specs.Pair.{StandsAfter, begins_with, front_of, live_of, first_file, second_file, IsTwin, IsLive}
 use Rattle.cx_journal.specs.Payload.{payloads, all_kept_by}
 use Rattle.cx_journal.specs.State.{records_or_none}
 use Rattle.cx_journal.specs.declared.anew.Renewed.{Renewed}
@@ -51,6 +52,15 @@ pub record IsFoundLive (k : Option Kind) (file : List ℕ) (found : Found) : Typ
   pub stands : StandsAfter (front_of (generation file)) (payloads found.records.items) file
   pub gates : found.gates.items ≡ gates_from (length (front_of (generation file))) (payloads found.records.items)
   pub gate : found.gate ≡ length (front_of (generation file) ++ frames (payloads found.records.items))
+
+-- The records of a first disk that is live were read: of its file, or of a closed gate in the place of one without records.
+pub record IsReadFirst {D : Type 0} (seen : D → Option (List ℕ)) (may_leave : D → List ℕ → Type 0) (k : Option Kind) (was : List ℕ) (found : Found) (disk : D) : Type 0 where
+  pub file : List ℕ
+  pub rests : IsLive seen may_leave disk file
+  pub same : IsSame file was
+  pub gen : generation file ≡ generation was
+  pub begins : generation file ≡ None → begins_with file 4 → ⊥
+  pub read : IsFoundLive k file found
 
 -- Two disks, whether the live one is the second, its generation, the places of the gates, that of the closed one, whether no change has failed since
 -- they were read, and how often the twin has failed.

@@ -21,6 +21,7 @@ mod payload;
 mod recovery;
 mod renewing;
 mod split;
+mod store;
 mod twin;
 mod twin_keeping;
 mod two;
@@ -28,4 +29,5 @@ mod whole;
 
 pub use image::Found;
 pub use journal::Journal;
+pub use store::Store;
 pub use twin::Twin;

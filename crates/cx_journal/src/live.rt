@@ -1,17 +1,23 @@
-//! The records of a live disk.
-ghost use Rattle.std.specs.Prelude.{◌≡◌, ◌+◌, ◌<◌, ◌≤◌, ◌^◌, [], ◌∷◌, is_some, true, List, ℕ, Some, Ok, Err, length, IfOk, IfErr};
+//! The records of a live disk. A first one without records and without a generation is cleared before it is written to.
+ghost use Rattle.std.specs.Prelude.{◌≡◌, ◌+◌, ◌<◌, ◌≤◌, ◌^◌, [], ◌∷◌, is_some, true, List, ℕ, Option, Some, Ok, Err, length, IfOk, IfErr};
 ghost use Rattle.cx_base.specs.Faults.{Rises};
+ghost use Rattle.cx_base.specs.declared.role.Kind.{Kind};
 ghost use Rattle.cx_keeper.specs.declared.keeper.OpenFault.TheVariants as fault;
 ghost use Rattle.cx_disk.specs.Disk.{LeavesOnly};
+ghost use Rattle.cx_journal.specs.Blank.{IsBlank, IsSame};
 ghost use Rattle.cx_journal.specs.Found.{IsFaultIn};
 ghost use Rattle.cx_journal.specs.Generation.{generation};
+ghost use Rattle.cx_journal.specs.Image.{Image};
 ghost use Rattle.cx_journal.specs.Pair.{IsLive};
 ghost use Rattle.cx_journal.specs.Payload.{all_kept_by};
-ghost use Rattle.cx_journal.specs.Twin.{IsFoundLive, file_image};
+ghost use Rattle.cx_journal.specs.State.{IsUnwritten};
+ghost use Rattle.cx_journal.specs.Twin.{IsFoundLive, IsReadFirst, file_image};
 
 use crate::Found;
 use crate::image::{first_gate, found_after, found_in};
+use crate::opening::is_blank;
 use crate::recovery::{fill, zeros};
+use crate::renewing::clear;
 use cx_base::Kind;
 use cx_disk::Disk;
 use cx_keeper::OpenFault;
@@ -64,6 +70,7 @@ pub(crate) fn read_live<D: Disk>(
     ensures rests { (file : List ℕ) → IsLive D.seen D.may_leave disk.old file
         → IsLive D.seen D.may_leave disk.new file }
     ensures seen { D.seen disk.new ≡ D.seen disk.old }
+    ensures size { D.size disk.new ≡ D.size disk.old }
     ensures crash { (c : List ℕ) → D.may_leave disk.new c → D.may_leave disk.old c }
     ensures quiet { LeavesOnly D.moment D.left_since disk.old disk.new (D.may_leave disk.old) }
     ensures fit { IfOk result (λ f. all_kept_by kind f.records.items ≡ true) }
@@ -83,4 +90,69 @@ pub(crate) fn read_live<D: Disk>(
         Err(_) => return Err(OpenFault::Failed),
     }
     records_of(alloc, kind, &bytes, is_generational)
+}
+
+/// The records of a disk that has none, which was synced. It is cleared, but only once all memory is there.
+fn read_blank<D: Disk>(alloc: Global, disk: &mut D) -> Result<Found, OpenFault>
+    ensures found { (kind : Option Kind) (file : List ℕ) → IsLive D.seen D.may_leave disk.old file
+        → IsBlank file → IfOk result (λ f. IsReadFirst D.seen D.may_leave kind file f disk.new) }
+    ensures any_moment { (file : List ℕ) → IsLive D.seen D.may_leave disk.old file → IsBlank file
+        → LeavesOnly D.moment D.left_since disk.old disk.new (λ c. IsSame c file) }
+    ensures broken { (image : Image) (bytes : List ℕ) → IfErr result (IsFaultIn image bytes) }
+    ensures unwritten { result ≡ Err fault.NoMemory
+        → IsUnwritten D.seen D.may_leave D.size disk.old disk.new }
+    ensures fit { (kind : Option Kind) → IfOk result (λ f. all_kept_by kind f.records.items ≡ true) }
+    ensures gates { IfOk result (λ f. length f.gates.items ≡ length f.records.items + 1) }
+    ensures gate { IfOk result (λ f. f.gate < D.size disk.new) }
+    ensures tells { is_some (D.seen disk.new) ≡ is_some (D.seen disk.old) }
+    ensures later { D.faults disk.old ≤ D.faults disk.new }
+    ensures still { (result ≡ Err fault.Failed → ⊥) → D.faults disk.new ≡ D.faults disk.old }
+    ensures failed { result ≡ Err fault.Failed → Rises (D.faults disk.old) (D.faults disk.new) }
+{
+    let found = match first_gate(alloc) {
+        Ok(found) => found,
+        Err(_) => return Err(OpenFault::NoMemory),
+    };
+    match clear(disk) {
+        Ok(()) => Ok(found),
+        Err(_) => Err(OpenFault::Failed),
+    }
+}
+
+/// The records of the first disk where it is live, which was synced. One without records and without a generation is cleared.
+/// Out of memory, nothing is written.
+pub(crate) fn read_first<D: Disk>(
+    alloc: Global,
+    kind: Option<Kind>,
+    disk: &mut D,
+    is_generational: bool,
+) -> Result<Found, OpenFault>
+    ensures found { (file : List ℕ) → IsLive D.seen D.may_leave disk.old file
+        → is_generational ≡ is_some (generation file)
+        → IfOk result (λ f. IsReadFirst D.seen D.may_leave kind file f disk.new) }
+    ensures broken { (file : List ℕ) → IsLive D.seen D.may_leave disk.old file
+        → is_generational ≡ is_some (generation file)
+        → IfErr result (IsFaultIn (file_image kind file) file) }
+
+    // A crash in the call leaves the file, or another one without records, where it had none.
+    ensures any_moment { (file : List ℕ) → IsLive D.seen D.may_leave disk.old file
+        → LeavesOnly D.moment D.left_since disk.old disk.new (λ c. IsSame c file) }
+    ensures unwritten { result ≡ Err fault.NoMemory
+        → IsUnwritten D.seen D.may_leave D.size disk.old disk.new }
+    ensures fit { IfOk result (λ f. all_kept_by kind f.records.items ≡ true) }
+    ensures gates { IfOk result (λ f. length f.gates.items ≡ length f.records.items + 1) }
+    ensures gate { IfOk result (λ f. f.gate < D.size disk.new) }
+    ensures tells { is_some (D.seen disk.new) ≡ is_some (D.seen disk.old) }
+    ensures later { D.faults disk.old ≤ D.faults disk.new }
+    ensures still { (result ≡ Err fault.Failed → ⊥) → D.faults disk.new ≡ D.faults disk.old }
+    ensures failed { result ≡ Err fault.Failed → Rises (D.faults disk.old) (D.faults disk.new) }
+{
+    let is_blank = match is_blank(disk) {
+        Ok(is_blank) => is_blank,
+        Err(_) => return Err(OpenFault::Failed),
+    };
+    if is_blank {
+        return read_blank(alloc, disk);
+    }
+    read_live(alloc, kind, disk, is_generational)
 }

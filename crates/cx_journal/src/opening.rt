@@ -1,14 +1,12 @@
-//! How two disks are opened: both are synced before either is read, then the live one is found, and cleared where it has no
-//! records and no generation.
+//! Which of two disks is live: both are synced before either is read.
 ghost use Rattle.std.specs.Prelude.{◌≡◌, ◌+◌, ◌≤◌, [], ◌∷◌, is_some, true, false, List, ℕ, Bool, Option, Some, None, Ok, Err, Result, length, IfOk, OnOk, OnErr, IfErr};
 ghost use Rattle.cx_disk.specs.Disk.{Only, LeavesOnly, HasCause};
 ghost use Rattle.cx_journal.specs.Generation.{IsSound, generation, second_is_live};
 ghost use Rattle.cx_journal.specs.Pair.{IsLive};
-ghost use Rattle.cx_journal.specs.Blank.{IsBlank, IsSame, IsSettled, IsPrepared, IsBadPair, IsLeftOr, LiveIsLong};
+ghost use Rattle.cx_journal.specs.Blank.{IsBlank, IsChosen, IsBadPair};
 ghost use Rattle.cx_journal.specs.TwinChanges.{OneRises};
 ghost use Rattle.cx_journal.specs.declared.opening.PairFault.TheVariants as fault;
 
-use crate::renewing::clear;
 use cx_disk::{Disk, Failed};
 
 /// Which of two disks is live, and its generation, if it has one.
@@ -90,7 +88,7 @@ fn choose(first: Option<u8>, second: Option<u8>) -> Result<bool, u8>
 }
 
 /// Whether a disk has at most two bytes that are no open gate with something after it.
-fn is_blank<D: Disk>(disk: &mut D) -> Result<bool, Failed>
+pub(crate) fn is_blank<D: Disk>(disk: &mut D) -> Result<bool, Failed>
     ensures yes { (file : List ℕ) → D.seen disk.old ≡ Some file → result ≡ Ok true → IsBlank file }
     ensures no { (file : List ℕ) → D.seen disk.old ≡ Some file → result ≡ Ok false → IsBlank file → ⊥ }
     ensures long { result ≡ Ok false → 2 ≤ D.size disk.old }
@@ -112,26 +110,6 @@ fn is_blank<D: Disk>(disk: &mut D) -> Result<bool, Failed>
     Ok(front[0] != 1)
 }
 
-/// Clears a plain live disk that has no records.
-fn settle<D: Disk>(disk: &mut D) -> Result<(), Failed>
-    ensures done { (file : List ℕ) → IsLive D.seen D.may_leave disk.old file
-        → OnOk result (IsSettled D.seen D.may_leave disk.new file) }
-    ensures any_moment { (file : List ℕ) → IsLive D.seen D.may_leave disk.old file
-        → LeavesOnly D.moment D.left_since disk.old disk.new (λ c. IsSame c file) }
-    ensures same { (file now : List ℕ) → IsLive D.seen D.may_leave disk.old file
-        → D.seen disk.new ≡ Some now
-        → IsSame now file }
-    ensures size { OnOk result (1 ≤ D.size disk.new) }
-    ensures tells { is_some (D.seen disk.new) ≡ is_some (D.seen disk.old) }
-    ensures cause { HasCause (D.faults disk.old) (D.faults disk.new) result }
-{
-    if !is_blank(disk)? {
-        return Ok(());
-    }
-    clear(disk)?;
-    Ok(())
-}
-
 /// The generations of both, each synced before either is read.
 fn generations<D: Disk>(first: &mut D, second: &mut D) -> Result<(Option<u8>, Option<u8>), Failed>
     ensures values { (a b : List ℕ) → D.seen first.old ≡ Some a → D.seen second.old ≡ Some b
@@ -144,6 +122,8 @@ fn generations<D: Disk>(first: &mut D, second: &mut D) -> Result<(Option<u8>, Op
     ensures second_seen { D.seen second.new ≡ D.seen second.old }
     ensures first_size { D.size first.new ≡ D.size first.old }
     ensures second_size { D.size second.new ≡ D.size second.old }
+    ensures first_crash { (c : List ℕ) → D.may_leave first.new c → D.may_leave first.old c }
+    ensures second_crash { (c : List ℕ) → D.may_leave second.new c → D.may_leave second.old c }
     ensures long { IfOk result (λ p. (is_some p.0 ≡ true → 3 ≤ D.size first.old) × (is_some p.1 ≡ true
         → 3 ≤ D.size second.old)) }
     ensures first_quiet { LeavesOnly D.moment D.left_since first.old first.new (D.may_leave first.old) }
@@ -162,25 +142,27 @@ fn generations<D: Disk>(first: &mut D, second: &mut D) -> Result<(Option<u8>, Op
     Ok((one, other))
 }
 
-/// Finds the live one of two disks, and clears it where it is plain and has no records.
-pub(crate) fn prepare<D: Disk>(first: &mut D, second: &mut D) -> Result<Live, PairFault>
-    ensures prepared { (a b : List ℕ) → D.seen first.old ≡ Some a → D.seen second.old ≡ Some b
-        → IfOk result (λ l. IsPrepared D.seen D.may_leave a b l first.new second.new) }
+/// Syncs two disks and finds the live one. Nothing is written.
+pub(crate) fn find_live<D: Disk>(first: &mut D, second: &mut D) -> Result<Live, PairFault>
+    ensures chosen { (a b : List ℕ) → D.seen first.old ≡ Some a → D.seen second.old ≡ Some b
+        → IfOk result (IsChosen a b) }
     ensures broken { (a b : List ℕ) → D.seen first.old ≡ Some a → D.seen second.old ≡ Some b
         → IfErr result (IsBadPair a b) }
-
-    // A crash in the call leaves of each disk what it might have left before; of the first one also another file
-    // without records, where it had none.
-    ensures first_moment { (a : List ℕ) → D.seen first.old ≡ Some a
-        → LeavesOnly D.moment D.left_since first.old first.new (IsLeftOr (D.may_leave first.old)) }
-    ensures second_moment { LeavesOnly D.moment D.left_since second.old second.new
-        (D.may_leave second.old) }
-    ensures same { (a now : List ℕ) → D.seen first.old ≡ Some a → D.seen first.new ≡ Some now
-        → IsSame now a }
-    ensures first_tells { is_some (D.seen first.new) ≡ is_some (D.seen first.old) }
+    ensures first_rests { (a : List ℕ) → D.seen first.old ≡ Some a
+        → OnOk result (IsLive D.seen D.may_leave first.new a) }
+    ensures second_rests { (b : List ℕ) → D.seen second.old ≡ Some b
+        → OnOk result (IsLive D.seen D.may_leave second.new b) }
+    ensures first_seen { D.seen first.new ≡ D.seen first.old }
     ensures second_seen { D.seen second.new ≡ D.seen second.old }
+    ensures first_size { D.size first.new ≡ D.size first.old }
+    ensures second_size { D.size second.new ≡ D.size second.old }
+    ensures first_crash { (c : List ℕ) → D.may_leave first.new c → D.may_leave first.old c }
+    ensures second_crash { (c : List ℕ) → D.may_leave second.new c → D.may_leave second.old c }
+    ensures first_quiet { LeavesOnly D.moment D.left_since first.old first.new (D.may_leave first.old) }
+    ensures second_quiet { LeavesOnly D.moment D.left_since second.old second.new
+        (D.may_leave second.old) }
     ensures sound { IfOk result (λ l. IsSound l.generation) }
-    ensures size { IfOk result (λ l. LiveIsLong l.second (D.size first.new) (D.size second.new)) }
+    ensures long { IfOk result (λ l. l.second ≡ true → 1 ≤ D.size second.new) }
     ensures first_later { D.faults first.old ≤ D.faults first.new }
     ensures second_later { D.faults second.old ≤ D.faults second.new }
     ensures still { (result ≡ Err fault.Failed → ⊥)
@@ -202,17 +184,8 @@ pub(crate) fn prepare<D: Disk>(first: &mut D, second: &mut D) -> Result<Live, Pa
             generation: other,
         });
     }
-    match one {
-        Some(generation) => Ok(Live {
-            second: false,
-            generation: Some(generation),
-        }),
-        None => match settle(first) {
-            Ok(()) => Ok(Live {
-                second: false,
-                generation: None,
-            }),
-            Err(_) => Err(PairFault::Failed),
-        },
-    }
+    Ok(Live {
+        second: false,
+        generation: one,
+    })
 }

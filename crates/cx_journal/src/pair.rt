@@ -4,21 +4,25 @@ ghost use Rattle.cx_keeper.specs.declared.keeper.OpenFault.TheVariants as fault;
 ghost use Rattle.cx_disk.specs.Disk.{LeavesOnly};
 ghost use Rattle.cx_msg.specs.declared.kept.Record.{Record};
 ghost use Rattle.cx_journal.specs.Blank.{IsLeftOr, IsSame};
+ghost use Rattle.cx_journal.specs.Files.{TwoFiles, front_in};
 ghost use Rattle.cx_journal.specs.Found.{IsOutside};
 ghost use Rattle.cx_journal.specs.Generation.{IsSound, generation, second_is_live};
+ghost use Rattle.cx_journal.specs.Pair.{front_of};
 ghost use Rattle.cx_journal.specs.Payload.{all_kept_by};
+ghost use Rattle.cx_journal.specs.State.{IsUnwritten};
 ghost use Rattle.cx_journal.specs.Twin.{BothTell, told_by, PairRests, IsFaultOfPair, HasImage, LeavesSame, SamePair, pair_image};
 ghost use Rattle.cx_journal.specs.TwinChanges.{OneRises};
 
 use crate::Found;
-use crate::live::read_live;
-use crate::opening::{Live, PairFault, prepare};
+use crate::live::{read_first, read_live};
+use crate::opening::{Live, PairFault, find_live};
 use cx_base::Kind;
 use cx_disk::Disk;
 use cx_keeper::OpenFault;
 use std::alloc::Global;
 
-/// Syncs both disks, finds the live one and reads its records, for a role of the kind or of any kind.
+/// Syncs both disks, finds the live one and reads its records, for a role of the kind or of any kind. A first one that is live and has
+/// no records and no generation is cleared.
 pub(crate) fn read_pair<D: Disk>(
     alloc: Global,
     kind: Option<Kind>,
@@ -32,6 +36,10 @@ pub(crate) fn read_pair<D: Disk>(
     ensures broken { (a b : List ℕ) → D.seen first.old ≡ Some a → D.seen second.old ≡ Some b
         → IfErr result (IsFaultOfPair kind a b) }
 
+    // The records begin where the two files say.
+    ensures front { (a b : List ℕ) → D.seen first.old ≡ Some a → D.seen second.old ≡ Some b
+        → IfOk result (λ p. front_of p.0.generation ≡ front_in (TwoFiles a b)) }
+
     // A crash in the call leaves of each disk what it might have left before; of the first one also another file
     // without records, where it had none.
     ensures first_moment { (a : List ℕ) → D.seen first.old ≡ Some a
@@ -40,6 +48,12 @@ pub(crate) fn read_pair<D: Disk>(
         (D.may_leave second.old) }
     ensures same { (a now : List ℕ) → D.seen first.old ≡ Some a → D.seen first.new ≡ Some now
         → IsSame now a }
+
+    // Out of memory, nothing was written.
+    ensures first_unwritten { result ≡ Err fault.NoMemory
+        → IsUnwritten D.seen D.may_leave D.size first.old first.new }
+    ensures second_unwritten { result ≡ Err fault.NoMemory
+        → IsUnwritten D.seen D.may_leave D.size second.old second.new }
     ensures fit { IfOk result (λ p. all_kept_by kind p.1.records.items ≡ true) }
     ensures sound { IfOk result (λ p. IsSound p.0.generation) }
     ensures gates { IfOk result (λ p. length p.1.gates.items ≡ length p.1.records.items + 1) }
@@ -54,7 +68,7 @@ pub(crate) fn read_pair<D: Disk>(
     ensures failed { result ≡ Err fault.Failed
         → OneRises D.faults first.old second.old first.new second.new }
 {
-    let live = match prepare(first, second) {
+    let live = match find_live(first, second) {
         Ok(live) => live,
         Err(PairFault::Failed) => return Err(OpenFault::Failed),
         Err(PairFault::Bad(byte)) => {
@@ -71,7 +85,7 @@ pub(crate) fn read_pair<D: Disk>(
             Err(fault) => Err(fault),
         };
     }
-    match read_live(alloc, kind, first, is_generational) {
+    match read_first(alloc, kind, first, is_generational) {
         Ok(found) => Ok((live, found)),
         Err(fault) => Err(fault),
     }
@@ -91,6 +105,10 @@ pub(crate) fn read_both<D: Disk>(
     ensures broken { (a b : List ℕ) → D.seen first.old ≡ Some a → D.seen second.old ≡ Some b
         → IfErr result (IsFaultOfPair kind a b) }
 
+    // The records begin where the two files say.
+    ensures front { (a b : List ℕ) → D.seen first.old ≡ Some a → D.seen second.old ≡ Some b
+        → IfOk result (λ p. front_of p.0.generation ≡ front_in (TwoFiles a b)) }
+
     // Where the two have records, these are read, and there is no break.
     ensures list { (records : List Record) → BothTell D.seen first.old second.old
         → HasImage D.seen kind first.old second.old records
@@ -106,6 +124,12 @@ pub(crate) fn read_both<D: Disk>(
     // A crash in the call leaves what one before it might have left, or two files with the same records or break.
     ensures any_moment { BothTell D.seen first.old second.old
         → LeavesSame D.may_leave D.moment D.left_since first.old second.old first.new second.new }
+
+    // Out of memory, nothing was written.
+    ensures first_unwritten { result ≡ Err fault.NoMemory
+        → IsUnwritten D.seen D.may_leave D.size first.old first.new }
+    ensures second_unwritten { result ≡ Err fault.NoMemory
+        → IsUnwritten D.seen D.may_leave D.size second.old second.new }
     ensures fit { IfOk result (λ p. all_kept_by kind p.1.records.items ≡ true) }
     ensures sound { IfOk result (λ p. IsSound p.0.generation) }
     ensures gates { IfOk result (λ p. length p.1.gates.items ≡ length p.1.records.items + 1) }

@@ -5,10 +5,12 @@ ghost use Rattle.cx_keeper.specs.Keeper.{all_fit};
 ghost use Rattle.cx_keeper.specs.declared.keeper.OpenFault.TheVariants as fault;
 ghost use Rattle.cx_msg.specs.Records.{fits};
 ghost use Rattle.cx_journal.specs.Appends.{count_append, count_open};
+ghost use Rattle.cx_journal.specs.Files.{TwoFiles, front_in};
 ghost use Rattle.cx_journal.specs.Found.{IsOutside};
 ghost use Rattle.cx_journal.specs.Journal.{frames};
 ghost use Rattle.cx_journal.specs.Pair.{front_of};
 ghost use Rattle.cx_journal.specs.Payload.{all_kept_by, payloads};
+ghost use Rattle.cx_journal.specs.State.{IsUnwritten};
 ghost use Rattle.cx_journal.specs.Twin.{BothTell, told_by, pair_image, IsFaultOfPair, SamePair, LeavesSame, LeavesTwo, IsPairImageOf};
 ghost use Rattle.cx_journal.specs.TwinChanges.{OneRises};
 
@@ -91,6 +93,10 @@ impl<D: Disk> Twin<D> {
         ensures broken { (a b : List ℕ) → D.seen first ≡ Some a → D.seen second ≡ Some b
             → IfErr result (λ e. IsFaultOfPair (Some kind.Replica) a b e.0) }
 
+        // The records begin where the two files say.
+        ensures front { (a b : List ℕ) → D.seen first ≡ Some a → D.seen second ≡ Some b
+            → IfOk result (λ p. front_of p.0.generation ≡ front_in (TwoFiles a b)) }
+
         // Every crash from then on leaves the records.
         ensures lasts { BothTell D.seen first second → IfOk result
             (λ p. (a b : List ℕ) → D.may_leave p.0.first a → D.may_leave p.0.second b
@@ -126,6 +132,12 @@ impl<D: Disk> Twin<D> {
             (λ e. (e.0 ≡ fault.Failed → ⊥)
             → (D.faults e.1 ≡ D.faults first) × (D.faults e.2 ≡ D.faults second)) }
         ensures failed { IfErr result (λ e. e.0 ≡ fault.Failed → OneRises D.faults first second e.1 e.2) }
+
+        // Out of memory, nothing was written.
+        ensures first_unwritten { IfErr result
+            (λ e. e.0 ≡ fault.NoMemory → IsUnwritten D.seen D.may_leave D.size first e.1) }
+        ensures second_unwritten { IfErr result
+            (λ e. e.0 ≡ fault.NoMemory → IsUnwritten D.seen D.may_leave D.size second e.2) }
     {
         let mut first = first;
         let mut second = second;
@@ -269,8 +281,9 @@ impl<D: Disk> Twin<D> {
         }
     }
 
-    /// Reads the records again. After a fault they have to be read again before a change. `Failed` comes exactly where the count
-    /// of a disk rose, and `NotJournal` never where the bytes of both are known.
+    /// Reads the records again. Out of memory, the twin stays as it was, and nothing is written; after another fault they have to
+    /// be read again before a change. `Failed` comes exactly where the count of a disk rose, and `NotJournal` never where the
+    /// bytes of both are known.
     pub fn recover_records(&mut self) -> Result<Vec<Record>, OpenFault>
         ensures list { BothTell D.seen self.old.first self.old.second
             → IfOk result (λ records. records.items ≡ told_by D.seen self.old.first self.old.second) }
@@ -296,6 +309,12 @@ impl<D: Disk> Twin<D> {
             → OneRises D.faults self.old.first self.old.second self.new.first self.new.second }
         ensures counted { MatchResult result (λ _. self.new.faults ≡ self.old.faults)
             (λ e. self.new.faults ≡ count_open e self.old.faults) }
+        ensures no_memory { IsErrOf result OpenFault.NoMemory
+            → self.new ≡ record self.old { first = self.new.first; second = self.new.second } }
+        ensures first_unwritten { IsErrOf result OpenFault.NoMemory
+            → IsUnwritten D.seen D.may_leave D.size self.old.first self.new.first }
+        ensures second_unwritten { IsErrOf result OpenFault.NoMemory
+            → IsUnwritten D.seen D.may_leave D.size self.old.second self.new.second }
     {
         match read_both(self.alloc, None, &mut self.first, &mut self.second) {
             Ok((live, found)) => {
@@ -306,10 +325,7 @@ impl<D: Disk> Twin<D> {
                 self.whole = true;
                 Ok(found.records)
             }
-            Err(OpenFault::NoMemory) => {
-                self.whole = false;
-                Err(OpenFault::NoMemory)
-            }
+            Err(OpenFault::NoMemory) => Err(OpenFault::NoMemory),
             Err(OpenFault::Failed) => {
                 self.whole = false;
                 self.faults.add();

@@ -15,7 +15,7 @@ struct Case {
     bytes: &'static [u8],
 }
 
-const CASES: [Case; 4] = [
+const CASES: [Case; 5] = [
     Case {
         fails: &[],
         stop: None,
@@ -44,11 +44,23 @@ const CASES: [Case; 4] = [
         ],
         bytes: &[1, 2, 3],
     },
+    Case {
+        fails: &[],
+        stop: None,
+        calls: &[
+            (0, &[], true),
+            (0, &[], true),
+            (0, &[], true),
+            (0, &[], true),
+            (0, &[], false),
+        ],
+        bytes: &[7, 8],
+    },
 ];
 
 const ROOM: Room = Room {
     bytes: 4,
-    calls: 3,
+    calls: 4,
     written: 4,
 };
 
@@ -89,19 +101,24 @@ fn calls_fail_where_it_is_said(rt: HostRuntime) -> Result<(), Fail> {
     Ok(())
 }
 
-// One write, synced, and another one that isn't.
-const WRITES: [Call; 3] = [(0, &[1], true), (0, &[], true), (1, &[2, 3], true)];
+// One write, synced, another one that isn't, and a third that fails.
+const WRITES: [Call; 4] = [
+    (0, &[1], true),
+    (0, &[], true),
+    (1, &[2, 3], true),
+    (2, &[4, 5], false),
+];
 
 const IMAGES: [(Unsynced, &[u8]); 3] = [
     (Unsynced::Kept, &[1, 2, 3]),
     (Unsynced::Lost, &[1, 8]),
-    (Unsynced::Filled, &[1, 255, 255]),
+    (Unsynced::Filled, &[1, 255, 255, 255]),
 ];
 
 #[test]
 fn a_crash_keeps_loses_or_fills(rt: HostRuntime) -> Result<(), Fail> {
     let alloc = rt.alloc();
-    let mut disk = disk(alloc, &[7, 8], ROOM, &[], None)?;
+    let mut disk = disk(alloc, &[7, 8], ROOM, &[3], None)?;
     assert!(rt; answers(&mut disk, &WRITES));
     for (unsynced, bytes) in IMAGES {
         assert_eq!(rt; disk.crash_image(alloc, unsynced)?.as_slice(), bytes);

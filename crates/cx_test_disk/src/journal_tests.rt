@@ -58,6 +58,8 @@ fn a_failed_append_is_lost_or_kept(rt: HostRuntime) -> Result<(), Fail> {
         );
         assert_eq!(rt; after_appends(alloc, &[call], None)?, (true, true, failed));
     }
+    // The four calls are all that an append makes.
+    assert_eq!(rt; after_appends(alloc, &[], Some(6))?, (false, false, 1));
     Ok(())
 }
 

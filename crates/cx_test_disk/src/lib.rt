@@ -7,6 +7,8 @@
 #[cfg(test)]
 mod disk_tests;
 #[cfg(test)]
+mod file_tests;
+#[cfg(test)]
 mod journal_tests;
 #[cfg(test)]
 mod keeper_tests;

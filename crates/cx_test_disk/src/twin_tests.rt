@@ -1,4 +1,4 @@
-//! Twins over disks that stop, and what each crash of both leaves.
+//! Twins over disks of which one fails or stops: what is read again, and what each crash of both leaves.
 
 ghost use Rattle.std.specs.Prelude.{IfOk, IsTrue};
 ghost use Rattle.cx_msg.specs.Records.{fits};
@@ -13,53 +13,47 @@ use std::test::Fail;
 
 const ROOM: Room = Room {
     bytes: 64,
-    calls: 48,
+    calls: 64,
     written: 256,
 };
 
 // A list is told by how many values each of its records has.
 type Counts = &'static [u8];
 
-// An append of one record or a renewal with others, and the list after it.
-struct Change {
-    is_renewal: bool,
-    counts: Counts,
-    after: Counts,
+// An append of one record, or a renewal with others.
+enum Change {
+    Append(u8),
+    Renewal(Counts),
 }
 
-const CHANGES: [Change; 5] = [
-    Change {
-        is_renewal: false,
-        counts: &[2],
-        after: &[1, 2],
-    },
-    Change {
-        is_renewal: true,
-        counts: &[3],
-        after: &[3],
-    },
-    Change {
-        is_renewal: false,
-        counts: &[1],
-        after: &[3, 1],
-    },
-    Change {
-        is_renewal: true,
-        counts: &[2, 1],
-        after: &[2, 1],
-    },
-    Change {
-        is_renewal: false,
-        counts: &[3],
-        after: &[2, 1, 3],
-    },
+const CHANGES: [Change; 9] = [
+    Change::Append(2),
+    Change::Append(1),
+    Change::Renewal(&[3]),
+    Change::Append(1),
+    Change::Append(2),
+    Change::Renewal(&[2, 1]),
+    Change::Append(3),
+    Change::Append(1),
+    Change::Renewal(&[1]),
 ];
 
 // A journal with a record of one value, as one that was kept on one disk.
 const OLD: [u8; 9] = [1, 0, 0, 0, 3, 7, 1, 0, 0];
 
+// What the first disk begins with, the second one being empty, and the list.
+const STARTS: [(&[u8], Counts); 2] = [(&[], &[]), (&OLD, &[1])];
+
 // How many calls a disk has at most in the opening and in all changes.
-const CALLS: u64 = 24;
+const CALLS: u64 = 30;
+
+// The call of one of two disks that fails, or from which on each fails.
+#[derive(Clone, Copy)]
+struct Fault {
+    is_second: bool,
+    stops: bool,
+    call: u64,
+}
 
 // A record of so many values that do nothing.
 fn log_of(alloc: Global, count: u8) -> Result<Record, Fail>
@@ -103,30 +97,44 @@ fn renews(alloc: Global, twin: &mut Twin<MemDisk>, counts: &[u8]) -> Result<bool
             twin.renew(&[log_of(alloc, *one)?, log_of(alloc, *other)?])
                 .is_ok(),
         ),
-        _ => Ok(twin.renew(&[]).is_ok()),
+        _ => Err("a renewal of one record or two".into()),
     }
 }
 
 fn changes(alloc: Global, twin: &mut Twin<MemDisk>, change: &Change) -> Result<bool, Fail> {
-    if change.is_renewal {
-        return renews(alloc, twin, change.counts);
+    match change {
+        Change::Append(count) => appends(alloc, twin, *count),
+        Change::Renewal(counts) => renews(alloc, twin, counts),
     }
-    match change.counts {
-        [count] => appends(alloc, twin, *count),
-        _ => Ok(false),
+}
+
+fn list_after(alloc: Global, list: &[u8], change: &Change) -> Result<Vec<u8>, Fail> {
+    match change {
+        Change::Append(count) => {
+            let mut after = list.to_vec(alloc)?;
+            after.push(*count)?;
+            Ok(after)
+        }
+        Change::Renewal(counts) => Ok(counts.to_vec(alloc)?),
     }
 }
 
 // The list before the first change that fails, and the one after it.
-fn lists(alloc: Global, twin: &mut Twin<MemDisk>) -> Result<(Counts, Counts), Fail> {
-    let mut before: Counts = &[1];
+fn lists(
+    alloc: Global,
+    twin: &mut Twin<MemDisk>,
+    start: &[u8],
+) -> Result<(Vec<u8>, Vec<u8>), Fail> {
+    let mut before = start.to_vec(alloc)?;
     for change in &CHANGES {
+        let after = list_after(alloc, &before, change)?;
         if !changes(alloc, twin, change)? {
-            return Ok((before, change.after));
+            return Ok((before, after));
         }
-        before = change.after;
+        before = after;
     }
-    Ok((before, before))
+    let after = before.to_vec(alloc)?;
+    Ok((before, after))
 }
 
 // The list of two disks with these bytes.
@@ -162,26 +170,88 @@ fn leaves(
     Ok(true)
 }
 
-// Whether a run over disks that stop after so many calls leaves the list before the change in flight, or the one after it.
-fn survives(alloc: Global, first: Option<u64>, second: Option<u64>) -> Result<bool, Fail> {
-    let first = disk(alloc, &OLD, ROOM, &[], first)?;
-    let second = disk(alloc, &[], ROOM, &[], second)?;
-    match Twin::open(alloc, first, second) {
-        Ok((mut twin, _records)) => {
-            let (before, after) = lists(alloc, &mut twin)?;
-            let (first, second) = twin.into_disks();
-            leaves(alloc, &first, &second, before, after)
-        }
-        Err((_fault, first, second)) => leaves(alloc, &first, &second, &[1], &[1]),
+// The list that is read again, at the second time where the first one comes upon the call that fails.
+fn recovered(alloc: Global, twin: &mut Twin<MemDisk>) -> Result<Vec<u8>, Fail> {
+    if let Ok(records) = twin.recover() {
+        return counts_of(alloc, &records);
+    }
+    match twin.recover() {
+        Ok(records) => counts_of(alloc, &records),
+        Err(_) => Err("not read again".into()),
     }
 }
 
-#[test]
-fn a_stop_of_one_of_two_disks_leaves_a_list(rt: HostRuntime) -> Result<(), Fail> {
-    let alloc = rt.alloc();
+// Whether one of two lists is read again, and each crash of both disks leaves that one from then on.
+fn recovers(alloc: Global, twin: Twin<MemDisk>, before: &[u8], after: &[u8]) -> Result<bool, Fail> {
+    let mut twin = twin;
+    let list = recovered(alloc, &mut twin)?;
+    if list.as_slice() != before && list.as_slice() != after {
+        return Ok(false);
+    }
+    let (first, second) = twin.into_disks();
+    leaves(alloc, &first, &second, &list, &list)
+}
+
+fn faulty(alloc: Global, bytes: &[u8], fault: Fault) -> Result<MemDisk, Fail> {
+    if fault.stops {
+        return disk(alloc, bytes, ROOM, &[], Some(fault.call));
+    }
+    disk(alloc, bytes, ROOM, &[fault.call], None)
+}
+
+fn disks(alloc: Global, bytes: &[u8], fault: Fault) -> Result<(MemDisk, MemDisk), Fail> {
+    if fault.is_second {
+        return Ok((
+            disk(alloc, bytes, ROOM, &[], None)?,
+            faulty(alloc, &[], fault)?,
+        ));
+    }
+    Ok((
+        faulty(alloc, bytes, fault)?,
+        disk(alloc, &[], ROOM, &[], None)?,
+    ))
+}
+
+// Whether a run with a fault leaves the list before the change in flight, or the one after it: in each crash of both disks where one
+// of them stops, and where they are read again after a call that failed.
+fn survives(alloc: Global, bytes: &[u8], start: &[u8], fault: Fault) -> Result<bool, Fail> {
+    let (first, second) = disks(alloc, bytes, fault)?;
+    match Twin::open(alloc, first, second) {
+        Ok((mut twin, _records)) => {
+            let (before, after) = lists(alloc, &mut twin, start)?;
+            if !fault.stops {
+                return recovers(alloc, twin, &before, &after);
+            }
+            let (first, second) = twin.into_disks();
+            leaves(alloc, &first, &second, &before, &after)
+        }
+        Err((_fault, first, second)) => leaves(alloc, &first, &second, start, start),
+    }
+}
+
+// Of each call of each of two disks, that it fails and that the disk stops there.
+fn survives_all(alloc: Global, bytes: &[u8], start: &[u8]) -> Result<bool, Fail> {
     for call in 0..CALLS {
-        assert!(rt; survives(alloc, Some(call), None)?);
-        assert!(rt; survives(alloc, None, Some(call))?);
+        for is_second in [false, true] {
+            for stops in [false, true] {
+                let fault = Fault {
+                    is_second,
+                    stops,
+                    call,
+                };
+                if !survives(alloc, bytes, start, fault)? {
+                    return Ok(false);
+                }
+            }
+        }
+    }
+    Ok(true)
+}
+
+#[test]
+fn a_fault_of_one_of_two_disks_leaves_a_list(rt: HostRuntime) -> Result<(), Fail> {
+    for (bytes, start) in STARTS {
+        assert!(rt; survives_all(rt.alloc(), bytes, start)?);
     }
     Ok(())
 }

@@ -1,6 +1,6 @@
-use Rattle.std.proofs.Common.{refl}
+use Rattle.std.proofs.Common.{rules, refl}
 use Rattle.std.specs.Prelude.{None}
-use Rattle.cx_journal.proofs.TwinReady.{read_ready, unread_so}
+use Rattle.cx_journal.proofs.TwinReady.{read_ready, ready_still, unread_so}
 use Rattle.cx_journal.proofs.twin.Twin.recover_records.Goals as goal
 
 pub invariant_of-self : goal.invariant_of-self
@@ -9,7 +9,9 @@ invariant_of-self g c =
     c.read_both.ensures.first_tells c.read_both.ensures.second_tells c.in-Ok.ensures.rests _ c.in-Ok.ensures.gate c.in-Ok.ensures.sound c.in-Ok.ensures.fit
 
 pub invariant_of-self-in-Err-NoMemory : goal.invariant_of-self-in-Err-NoMemory
-invariant_of-self-in-Err-NoMemory g c = unread_so g.D.Disk.seen g.D.Disk.may_leave g.D.Disk.size _ _ c.self.invariant c.read_both.ensures.first_tells c.read_both.ensures.second_tells c.read_both.ensures.same refl c.self.invariant.sound
+invariant_of-self-in-Err-NoMemory g c =
+    ready_still g.D.Disk.seen g.D.Disk.may_leave g.D.Disk.size _ c.read_both.new.first c.read_both.new.second c.self.invariant
+    (c.read_both.ensures.first_unwritten (search rules)) (c.read_both.ensures.second_unwritten (search rules))
 
 pub invariant_of-self-in-Err-Failed : goal.invariant_of-self-in-Err-Failed
 invariant_of-self-in-Err-Failed g c = unread_so g.D.Disk.seen g.D.Disk.may_leave g.D.Disk.size _ _ c.self.invariant c.read_both.ensures.first_tells c.read_both.ensures.second_tells c.read_both.ensures.same refl c.self.invariant.sound
