@@ -1,9 +1,9 @@
 -- An acceptor stays sound.
 use Rattle.cx_role.proofs.Common.{◌≡◌, ◌≤◌, ◌<◌, ℕ, ◌+◌, ◌^◌, ◌&&◌, Bool, true, not, nat_le, nat_lt, max, List, [], ◌∷◌}
-use Rattle.cx_role.proofs.Common.{refl, arith, and_from, and_parts, nat_tests, Cluster, Value, Acceptor, RoleId, Round}
-use Rattle.cx_role.proofs.Common.{role, is_before, no_round, Record, Vote, in_window, names_round, names_value, by_test}
+use Rattle.cx_role.proofs.Common.{refl, arith, and_parts, nat_tests, Cluster, Value, Acceptor, RoleId, Round}
+use Rattle.cx_role.proofs.Common.{role, is_before, no_round, Record, Vote, in_window, names_round, names_value}
 use Rattle.cx_role.proofs.Common.kept
-use Rattle.cx_role.proofs.Ranges.{real_or_none}
+use Rattle.cx_role.proofs.Ranges.{max_fits, real_or_none}
 use Rattle.cx_wire.specs.Format.{u16, u32, u64}
 use Rattle.cx_field.specs.Fields.{mark, round, round0, slot, value}
 use Rattle.cx_field.specs.Ranges.{slots_rise, vote_in_range}
@@ -13,10 +13,6 @@ use Rattle.cx_model.specs.Acceptor.{AcceptorDurable, acceptor_after, acceptor_fi
 use Rattle.cx_acceptor.specs.Sound.{IsSound}
 use Rattle.cx_acceptor.proofs.VoteLaws.{all_in, all_with, rising_with}
 
-max_fits : (a b : ℕ) → mark.fits a ≡ true → mark.fits b ≡ true → mark.fits (max a b) ≡ true
-unfolding mark u64
-max_fits a b f g = grind (arith, nat_tests)
-
 next_fits : (s : ℕ) → slot.fits s ≡ true → mark.fits (s + 1) ≡ true
 unfolding slot mark u64
 next_fits s h = grind (arith, nat_tests)
@@ -24,19 +20,10 @@ next_fits s h = grind (arith, nat_tests)
 window_of_both : (a b s : ℕ) → nat_le a s ≡ true → in_window b s ≡ true → in_window (max a b) s ≡ true
 window_of_both a b s from inside = grind (arith, nat_tests)
 
-later_window : (a b c : Bool) (cw low s : ℕ) → cw ≤ low → (a && (b && in_window cw s && c)) ≡ true
-    → nat_le low s ≡ true → (a && (b && in_window low s && c)) ≡ true
-later_window a b c cw low s below inside from = grind (arith, nat_tests)
-
 -- the votes from a later watermark on are in its window
 from_kept : (cw low : ℕ) (vs : List Vote) → cw ≤ low → all_in cw vs ≡ true → all_in low (votes_from low vs) ≡ true
 from_kept cw low [] below all = refl
-from_kept cw low (v ∷ vs) below all =
-    let a = and_parts (vote_in_range cw v) (all_in cw vs) all in
-    let rest = from_kept cw low vs below a.1 in
-    let inside = later_window (round.fits v.round) (slot.fits v.slot) (value.fits v.value) cw low v.slot below a.0 in
-    by_test (λ (vs : List Vote). all_in low vs ≡ true) (nat_le low v.slot) _ _
-    (λ from. and_from _ _ (inside from) rest) (λ _. rest)
+from_kept cw low (v ∷ vs) below all = grind (arith, nat_tests, from_kept cw low vs)
 
 from_rising : (low : ℕ) (vs : List Vote) → slots_rise vs ≡ true → slots_rise (votes_from low vs) ≡ true
 from_rising low vs h =
@@ -84,16 +71,13 @@ module _ (me : RoleId) (d : AcceptorDurable) (sound : IsSound me d) (i : Round) 
         rising = from_rising low d.votes sound.rising;
       }
 
-four_parts : (a b c d : Bool) → (a && (b && (c && d))) ≡ true → (a ≡ true) × (b ≡ true) × (c ≡ true) × (d ≡ true)
-four_parts a b c d h = grind (arith, nat_tests)
-
 fourth_and_fifth : (a b c d e f : Bool) → (a && b && c && d && e && f) ≡ true → (d ≡ true) × (e ≡ true)
 fourth_and_fifth a b c d e f h = grind (arith, nat_tests)
 
 pub vote_parts : (i : Round) (s cw : ℕ) (v : Value) → fits (kept.Vote i s cw v) ≡ true
     → (round.fits i ≡ true) × (slot.fits s ≡ true) × (mark.fits cw ≡ true) × (value.fits v ≡ true)
 unfolding kept_record
-vote_parts i s cw v fit = four_parts (round.fits i) (slot.fits s) (mark.fits cw) (value.fits v) fit
+vote_parts i s cw v fit = grind (arith, nat_tests)
 
 -- a record that fits leaves a sound acceptor sound
 pub after_sound : (c : Cluster) (me : RoleId) (d : AcceptorDurable) (r : Record) → IsSound me d → fits r ≡ true

@@ -1,8 +1,7 @@
 //! The row of a promise.
 
 ghost use Rattle.std.specs.Prelude.{◌≡◌, ◌∷◌};
-ghost use Rattle.cx_role.specs.Prelude.{[], true, IfOk, IsTrue, Kind, role, is_before, replied, IsReply};
-ghost use Rattle.cx_role.specs.Prelude.{IsStep};
+ghost use Rattle.cx_role.specs.Prelude.{[], true, IfOk, IsTrue, Kind, role, is_before, replied, IsReply, IsStep};
 ghost use Rattle.cx_model.specs.Acceptor.{acceptor_rules, nack_to, phase1a_row};
 ghost use Rattle.cx_field.specs.Fields as field;
 
@@ -59,7 +58,6 @@ impl Acceptor {
         Ok(Why::Nack)
     }
 
-    // The votes as they are reported.
     fn told_votes(&self) -> Result<Votes, NoMemory>
         ensures votes { IfOk result (λ votes. votes ≡ self.now.durable.votes) }
         ensures fit { IfOk result (λ votes. IsTrue ((field.votes self.now.durable.cw).fits votes)) }

@@ -16,7 +16,6 @@ use cx_role::{names_round, names_value};
 use std::alloc::Global;
 
 impl Acceptor {
-    /// An acceptor that has no records. It takes no memory.
     pub(crate) fn new(alloc: Global, cluster: &Cluster, me: RoleId) -> Self
         requires { me.kind ≡ Kind.Acceptor }
         ensures { result ≡ opened acceptor_rules cluster.now me [] }
@@ -33,7 +32,7 @@ impl Acceptor {
         }
     }
 
-    /// Whether it could have appended this record. It takes no memory.
+    /// Whether it could have appended this record.
     pub(crate) fn fits(&self, what: &Record) -> bool
         ensures { result ≡ acceptor_fits self.now.cluster self.now.me self.now.durable what.now }
     {
@@ -102,7 +101,7 @@ impl Acceptor {
         }
     }
 
-    /// Remembers that a leader of this round informed how many slots enough replicas hold. It takes no memory.
+    /// Remembers that a leader of this round informed how many slots enough replicas hold.
     pub(crate) fn raise(&mut self, round: Round, mark: u64)
         requires round { IsTrue (field.round.fits round) }
         requires mark { IsTrue (field.mark.fits mark) }

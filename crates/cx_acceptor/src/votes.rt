@@ -7,14 +7,14 @@ ghost use Rattle.cx_model.specs.Acceptor.{is_of, vote_at, votes_from, with_vote}
 use cx_base::{Round, WINDOW};
 use cx_field::Vote;
 
-/// Whether a slot lies in the window that begins at a watermark. It takes no memory.
+/// Whether a slot lies in the window that begins at a watermark.
 pub fn is_in_window(cw: u64, slot: u64) -> bool
     ensures { result ≡ in_window cw slot }
 {
     cw <= slot && slot - cw < WINDOW
 }
 
-/// Whether the vote at a slot, if there is one, is of this round. It takes no memory.
+/// Whether the vote at a slot, if there is one, is of this round.
 pub fn has_vote(votes: &[Vote], slot: u64, round: Round) -> bool
     ensures { result ≡ is_of round (vote_at slot votes.now) }
 {
@@ -26,7 +26,7 @@ pub fn has_vote(votes: &[Vote], slot: u64, round: Round) -> bool
     false
 }
 
-/// Forgets the votes below a slot. It takes no memory.
+/// Forgets the votes below a slot.
 pub fn keep_from(votes: &mut Vec<Vote>, low: u64)
     ensures items { votes.new.items ≡ votes_from low votes.old.items }
     ensures fewer { vec_len votes.new ≤ vec_len votes.old }

@@ -38,7 +38,6 @@ impl Model for Batcher {
 }
 
 impl Batcher {
-    // A batcher to which nothing was sent. It takes no memory.
     fn new(alloc: Global, cluster: &Cluster, me: RoleId) -> Self
         requires { me.kind ≡ kind.Batcher }
         ensures { result ≡ opened batcher_rules cluster.now me [] }

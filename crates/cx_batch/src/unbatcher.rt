@@ -124,7 +124,6 @@ fn answer_all(me: RoleId, answers: &[Answered], out: &mut Outbox)
     }
 }
 
-// A client's answer.
 #[tactic(auto, unfolding(cx_field::specs::Fields::answered))]
 fn answer_to(me: RoleId, answer: &Answered) -> Datagram
     requires kind { me.kind ≡ kind.Unbatcher }

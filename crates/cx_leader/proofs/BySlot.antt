@@ -1,8 +1,7 @@
 -- Values at rising slots, found by their slots.
-use Rattle.cx_role.proofs.Common.{◌≡◌, ◌≤◌, ◌<◌, ◌+◌, ◌-◌, ◌==◌, ℕ, zero, suc, Bool, true, false, max, nat_le, map}
-use Rattle.cx_role.proofs.Common.{filter, List, [], ◌∷◌, ◌++◌, drop, Some, All, refl, ap, arith, ◌∙◌, subst, inl, inr}
-use Rattle.cx_role.proofs.Common.{append_assoc, cases_Bool, nat_tests, All-head, All-tail, filter-append, Placed}
-use Rattle.cx_role.proofs.Common.{numbers}
+use Rattle.cx_role.proofs.Common.{◌≡◌, ◌≤◌, ◌<◌, ◌+◌, ◌-◌, ℕ, zero, suc, Bool, max, nat_le, map, filter, List}
+use Rattle.cx_role.proofs.Common.{[], ◌∷◌, ◌++◌, drop, Some, All, refl, ap, arith, ◌∙◌, inl, inr, append_assoc}
+use Rattle.cx_role.proofs.Common.{cases_Bool, nat_tests, All-head, All-tail, filter-append, Placed, numbers}
 use Rattle.std.proofs.lemmas.List.{append-nil, map-append}
 use Rattle.cx_ring.specs.Ring.{value_at, with_value, values_from}
 use Rattle.cx_leader.specs.Proposing.{only}
@@ -19,18 +18,11 @@ pub put_next : (a n : ℕ) (ps : List Placed) (one : Placed) → AreAt a n ps �
     → with_value slot_of one ps ≡ ps ++ one ∷ []
 put_next a n [] one h at = refl
 put_next a zero (p ∷ ps) one h at = cc
-put_next a (suc n) (p ∷ ps) one h at =
-    let first : p.slot ≡ a = cc in
-    let rest : AreAt (a + 1) n ps = cc in
-    let other : (p.slot == one.slot) ≡ false = grind (arith, nat_tests) in
-    rw other (ap (λ xs. p ∷ xs) (put_next (a + 1) n ps one rest (omega arith)))
+put_next a (suc n) (p ∷ ps) one h at = grind (arith, nat_tests, put_next (a + 1) n ps one)
 
 numbers_push : (first n : ℕ) → numbers first n ++ (first + n) ∷ [] ≡ numbers first (n + 1)
-numbers_push first zero = let e : first + 0 ≡ first = omega arith in rw e refl
-numbers_push first (suc n) =
-    let e : first + suc n ≡ first + 1 + n = omega arith in
-    let k : suc n + 1 ≡ suc (n + 1) = omega arith in
-    rw (e, k) (ap (λ xs. first ∷ xs) (numbers_push (first + 1) n))
+numbers_push first zero = grind arith
+numbers_push first (suc n) = grind (arith, numbers_push (first + 1) n)
 
 pub slots_next : (a n : ℕ) (ps : List Placed) (one : Placed) → AreAt a n ps → one.slot ≡ a + n
     → AreAt a (n + 1) (ps ++ one ∷ [])
@@ -66,56 +58,29 @@ slots_from k a (suc n) (p ∷ ps) h =
 pub found_is : (P : Placed → Type 0) (k : ℕ) (ps : List Placed) (x : Placed) → All P ps → value_at slot_of k ps ≡ Some x
     → P x
 found_is P k [] x all h = cc
-found_is P k (p ∷ ps) x all h =
-    elim (cases_Bool (p.slot == k)) as (λ _. P x) [
-      | inl e ↦ let found : Some p ≡ Some x = rw e at h in let is : p ≡ x = cc in subst P is (All-head P p ps all)
-      | inr e ↦ found_is P k ps x (All-tail P p ps all) (rw e at h)
-    ]
+found_is P k (p ∷ ps) x all h = grind (arith, nat_tests, All-head P p ps all, found_is P k ps x (All-tail P p ps all))
 
 -- which has one of the slots
 pub found_at : (a n k : ℕ) (ps : List Placed) (x : Placed) → AreAt a n ps → value_at slot_of k ps ≡ Some x
     → (a ≤ x.slot) × (x.slot < a + n)
 found_at a n k [] x h found = cc
 found_at a zero k (p ∷ ps) x h found = cc
-found_at a (suc n) k (p ∷ ps) x h found =
-    let first : p.slot ≡ a = cc in
-    elim (cases_Bool (p.slot == k)) as (λ _. (a ≤ x.slot) × (x.slot < a + suc n)) [
-      | inl e ↦
-          let here : Some p ≡ Some x = rw e at found in
-          let is : x.slot ≡ a = cc in
-          (omega arith, omega arith)
-      | inr e ↦
-          let rest : AreAt (a + 1) n ps = cc in
-          let later = found_at (a + 1) n k ps x rest (rw e at found) in
-          (omega (arith, later.0), omega (arith, later.1))
-    ]
+found_at a (suc n) k (p ∷ ps) x h found = grind (arith, nat_tests, found_at (a + 1) n k ps x)
 
 -- of the values that are left, the first is that of the first slot
 next_at : (a n i : ℕ) (ps : List Placed) → AreAt a n ps → i < n
     → drop i ps ≡ only (value_at slot_of (a + i) ps) ++ drop (i + 1) ps
 next_at a zero i ps h lt = absurd (omega arith)
 next_at a (suc n) i [] h lt = cc
-next_at a (suc n) zero (p ∷ ps) h lt =
-    let first : p.slot ≡ a = cc in
-    let here : (p.slot == a + 0) ≡ true = grind (arith, nat_tests) in
-    rw here refl
-next_at a (suc n) (suc i) (p ∷ ps) h lt =
-    let first : p.slot ≡ a = cc in
-    let other : (p.slot == a + suc i) ≡ false = grind (arith, nat_tests) in
-    let rest : AreAt (a + 1) n ps = cc in
-    let same : a + suc i ≡ a + 1 + i = omega arith in
-    let more : suc i + 1 ≡ suc (i + 1) = omega arith in
-    let later : value_at slot_of (a + suc i) (p ∷ ps) ≡ value_at slot_of (a + 1 + i) ps =
-    rw other (ap (λ k. value_at slot_of k ps) same) in
-    rw (later, more) (next_at (a + 1) n i ps rest (omega arith))
+next_at a (suc n) zero (p ∷ ps) h lt = grind (arith, nat_tests)
+next_at a (suc n) (suc i) (p ∷ ps) h lt = grind (arith, nat_tests, next_at (a + 1) n i ps)
 
 none_left : (a n i : ℕ) (ps : List Placed) → AreAt a n ps → n ≤ i → drop i ps ≡ []
 none_left a n zero [] h le = refl
 none_left a n (suc i) [] h le = refl
 none_left a zero i (p ∷ ps) h le = cc
 none_left a (suc n) zero (p ∷ ps) h le = absurd (omega arith)
-none_left a (suc n) (suc i) (p ∷ ps) h le =
-    let rest : AreAt (a + 1) n ps = cc in none_left (a + 1) n i ps rest (omega arith)
+none_left a (suc n) (suc i) (p ∷ ps) h le = grind (arith, none_left (a + 1) n i ps)
 
 -- Sending the values that pass a test, slot by slot: what was sent, and what is to be sent of those that are left,
 -- is all;

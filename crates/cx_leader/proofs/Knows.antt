@@ -1,6 +1,6 @@
 -- Slots in a ring and in the list of those that were noted.
 use Rattle.cx_role.proofs.Common.{◌≡◌, ◌==◌, ℕ, ◌&&◌, ◌||◌, nat_le, is_some, filter, List, [], ◌∷◌, ◌++◌, refl, ap}
-use Rattle.cx_role.proofs.Common.{arith, sym, ◌∙◌, inl, inr, cases_Bool, eqb-true, nat_tests, list_any-append, is_in}
+use Rattle.cx_role.proofs.Common.{arith, sym, ◌∙◌, Bor, Option, Some, None, option_copied, inl, inr, cases_Bool, eqb-true, nat_tests, list_any-append, is_in}
 use Rattle.std.proofs.lemmas.Map.Views.{any-filter_same}
 use Rattle.cx_base.proofs.Used.{or_false}
 use Rattle.cx_ring.specs.Ring.{value_at, with_value, values_from}
@@ -39,5 +39,11 @@ is_found s (x ∷ xs) =
     ]
 
 -- a slot that is held is in the list
+pub copied : (o : Option (Bor ℕ)) → is_some o ≡ is_some (option_copied o)
+copied None = refl
+copied (Some x) = refl
+
 pub found_in : (s : ℕ) (held list : List ℕ) → AreSame held list → is_some (value_at itself s held) ≡ is_in s list
 found_in s held list are = is_found s held ∙ are.same s
+
+pub ruleset found = (copied, found_in)

@@ -1,10 +1,10 @@
 -- What matchmakers reported, one answer after the other.
-use Rattle.cx_role.proofs.Common.{◌≡◌, ◌≤◌, ℕ, Bool, true, false, ◌&&◌, if◌then◌else◌, nat_lt, nat_le, filter, List, []}
-use Rattle.cx_role.proofs.Common.{◌∷◌, ◌++◌, All, refl, list_all, ap, append_assoc, arith, sym, ◌∙◌, and_parts}
-use Rattle.cx_role.proofs.Common.{and_from, lt-ltb, ltb-true, list_all-append, filter-append, All-filter, All-head}
+use Rattle.cx_role.proofs.Common.{◌≡◌, ◌≤◌, ℕ, Bool, true, ◌&&◌, nat_lt, nat_le, filter, List, [], nat_tests}
+use Rattle.cx_role.proofs.Common.{◌∷◌, ◌++◌, All, refl, list_all, ap, append_assoc, arith, ◌∙◌}
+use Rattle.cx_role.proofs.Common.{and_from, list_all-append, filter-append, All-filter, All-head}
 use Rattle.cx_role.proofs.Common.{All-tail, Cluster, Round, Entry, MatchAnswer, entries_told, live_entries, names_entry}
-use Rattle.cx_role.proofs.Common.{names_round, names_grid}
 use Rattle.std.proofs.lemmas.List.{append-nil}
+use Rattle.std.proofs.lemmas.Grind.{common_steps}
 use Rattle.cx_model.specs.Leader.{reaching, greatest_of, held_by}
 use Rattle.cx_model.specs.Matchmaker.{entries_from}
 use Rattle.cx_phase1.specs.Counting.{are_ids}
@@ -13,12 +13,14 @@ use Rattle.cx_leader.specs.State.{is_named}
 entries_told-push : (told : List MatchAnswer) (a : MatchAnswer)
     → entries_told (told ++ a ∷ []) ≡ entries_told told ++ a.entries
 entries_told-push [] a = append-nil a.entries
-entries_told-push (b ∷ told) a = ap (λ es. b.entries ++ es) (entries_told-push told a) ∙ sym (append_assoc b.entries (entries_told told) a.entries)
+entries_told-push (b ∷ told) a = grind (arith, entries_told-push told a, append_assoc)
 
 -- the entries from a round on, with those of one more answer
 pub entries_from-push : (w : Round) (told : List MatchAnswer) (a : MatchAnswer)
     → entries_from w (entries_told (told ++ a ∷ [])) ≡ entries_from w (entries_told told) ++ entries_from w a.entries
 entries_from-push w told a = ap (entries_from w) (entries_told-push told a) ∙ filter-append _ (entries_told told) a.entries
+
+pub ruleset more_told = (common_steps, append-nil, entries_from-push)
 
 greatest_high : (ns : List ℕ) (k : ℕ) → All (λ n. n ≤ k) ns → greatest_of ns ≤ k
 greatest_high [] k all = omega arith
@@ -34,10 +36,7 @@ held_high count k held all = greatest_high (filter (λ n. nat_le count (reaching
 
 named_below : (n k : ℕ) (ids : List ℕ) → n ≤ k → list_all (λ id. nat_lt id n) ids ≡ true → list_all (λ id. nat_lt id k) ids ≡ true
 named_below n k [] le h = refl
-named_below n k (id ∷ ids) le h =
-    let p = and_parts (nat_lt id n) (list_all (λ x. nat_lt x n) ids) h in
-    let here : nat_lt id k ≡ true = lt-ltb id k (omega (arith, ltb-true id n p.0)) in
-    and_from (nat_lt id k) (list_all (λ x. nat_lt x k) ids) here (named_below n k ids le p.1)
+named_below n k (id ∷ ids) le h = grind (arith, nat_tests, named_below n k ids)
 
 module _ (c : Cluster) where
   abbrev are_named : List Entry → Bool
@@ -48,24 +47,12 @@ module _ (c : Cluster) where
 
   entries_named : (told : List MatchAnswer) → all_named told ≡ true → are_named (entries_told told) ≡ true
   entries_named [] h = refl
-  entries_named (a ∷ told) h =
-      let p = and_parts (is_named c a) (all_named told) h in
-      list_all-append (λ (e : Entry). names_entry c e) a.entries (entries_told told)
-      ∙ and_from (is_named c a) (are_named (entries_told told)) p.0 (entries_named told p.1)
-
-  filter_ids_by : (b : Bool) (e : Entry) (es : List Entry) → names_entry c e ≡ true → are_ids es ≡ true
-      → are_ids (if b then e ∷ es else es) ≡ true
-  filter_ids_by true e es named rest =
-      let p = and_parts (names_round c e.round) (names_grid c e.grid) named in
-      let here = named_below c.acceptors 64 e.grid.members c.acceptors_fit p.1 in
-      and_from (list_all (λ id. nat_lt id 64) e.grid.members) (are_ids es) here rest
-  filter_ids_by false e es named rest = rest
+  entries_named (a ∷ told) h = grind (arith, nat_tests, common_steps, entries_named told)
 
   filter_ids : (p : Entry → Bool) (es : List Entry) → are_named es ≡ true → are_ids (filter p es) ≡ true
   filter_ids p [] h = refl
   filter_ids p (e ∷ es) h =
-      let q = and_parts (names_entry c e) (are_named es) h in
-      filter_ids_by (p e) e (filter p es) q.0 (filter_ids p es q.1)
+      grind (arith, nat_tests, filter_ids p es, named_below c.acceptors 64 e.grid.members, c.acceptors_fit)
 
   -- the members of the live grids are ids
   pub live_ids : (told : List MatchAnswer) → all_named told ≡ true → are_ids (live_entries told) ≡ true

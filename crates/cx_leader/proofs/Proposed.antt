@@ -47,6 +47,8 @@ pub put_last : (w : Window) (ps : List Placed) (v : Value) → IsProposing w.cw 
     → with_value slot_of (record { slot = w.next; value = v }) ps ≡ ps ++ record { slot = w.next; value = v } ∷ []
 put_last w ps v is = put_next w.cw (w.next - w.cw) ps _ is.slots (omega (arith, is.window.low))
 
+pub ruleset adding = (some_free, slot_free, proposed_next, put_last)
+
 -- a value that is found has a slot at which the leader may propose
 pub found_slot : (cw next k : ℕ) (ps : List Placed) (x : Placed) → IsProposing cw next ps
     → value_at slot_of k ps ≡ Some x → IsSlot cw x.slot

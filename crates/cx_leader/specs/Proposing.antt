@@ -1,8 +1,7 @@
 -- What a leader proposed, as contracts see it.
 use Rattle.std.specs.Prelude.{◌≡◌, ◌≤◌, ◌<◌, ◌+◌, ◌-◌, ◌^◌, ◌∷◌, ◌++◌}
-use Rattle.cx_role.specs.Prelude.{ℕ, Bool, true, false, nat_le, max, map, filter, List}
-use Rattle.cx_role.specs.Prelude.{[], All, Option, None, Some, IsTrue, Placed, Value, Cluster, Leader}
-use Rattle.cx_role.specs.Prelude.{numbers, role, Plan, Entry, Letter}
+use Rattle.cx_role.specs.Prelude.{ℕ, Bool, true, false, nat_le, max, map, filter, List, [], All, Option, None, Some}
+use Rattle.cx_role.specs.Prelude.{IsTrue, Placed, Value, Cluster, Leader, numbers, role, Plan, Entry, Letter}
 use Rattle.cx_model.specs.Leader.{are_known, propose_to}
 use Rattle.cx_model.specs.Plan.{placed_from}
 use Rattle.cx_field.specs.Fields as field

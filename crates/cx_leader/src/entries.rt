@@ -10,14 +10,12 @@ use cx_field::Entry;
 use cx_model::MatchAnswer;
 use std::alloc::Global;
 
-/// The later one of two rounds.
 pub fn later(a: Round, b: Round) -> Round
     ensures { result ≡ later_round a b }
 {
     if a.is_before(&b) { b } else { a }
 }
 
-/// Whether an answer of this matchmaker was counted.
 pub fn is_counted(told: &[MatchAnswer], matchmaker: u16) -> bool
     ensures { result ≡ is_counted matchmaker told.now }
 {
@@ -53,6 +51,7 @@ fn add_live(live: &mut Vec<Entry>, entries: &[Entry], watermark: Round) -> Resul
 }
 
 /// The entries of these answers and one more that are not retired.
+#[tactic(auto, using(crate::proofs::MatchLaws::more_told))]
 pub fn live_entries(
     alloc: Global,
     told: &[MatchAnswer],

@@ -1,8 +1,7 @@
 //! The slots of a window that are known to be chosen.
 
 ghost use Rattle.std.specs.Prelude.{◌≡◌, ◌≤◌, ◌<◌, ◌+◌, ◌^◌, ◌++◌, ◌∷◌};
-ghost use Rattle.cx_role.specs.Prelude.{[], filter, nat_le, OnOk, OnErr, list_all};
-ghost use Rattle.cx_role.specs.Prelude.{is_in, numbers};
+ghost use Rattle.cx_role.specs.Prelude.{[], filter, nat_le, OnOk, OnErr, list_all, is_in, numbers};
 ghost use Rattle.cx_leader.specs.Knowing.{Knowing, noted, known_from};
 
 use cx_base::NoMemory;
@@ -59,7 +58,7 @@ impl<'a> Tells<(u64, &'a Told<u64>), u64> for Raised {
 }
 
 impl Known {
-    /// None, of the window that begins at a slot. It takes no memory.
+    /// None, of the window that begins at a slot.
     pub fn new(alloc: Global, first: u64) -> Self
         requires { first ≤ 2 ^ 40 }
         ensures { result ≡ record { first = first; list = [] } }
@@ -84,8 +83,7 @@ impl Known {
         Ok(())
     }
 
-    /// Lets the window begin at a slot, or leaves a later beginning; the slots below it are forgotten. It takes no
-    /// memory.
+    /// Lets the window begin at a slot, or leaves a later beginning; the slots below it are forgotten.
     #[tactic(auto, using(crate::proofs::Knows::same_from))]
     pub fn raise(&mut self, first: u64)
         requires { first ≤ 2 ^ 40 }
@@ -96,7 +94,6 @@ impl Known {
         self.noted = Told::of::<(u64, &Told<u64>), Raised>(&(first, &self.noted));
     }
 
-    /// Forgets all. It takes no memory.
     pub fn clear(&mut self)
         ensures { self.new ≡ record self.old { list = [] } }
     {
@@ -104,15 +101,14 @@ impl Known {
         self.noted = Told::of::<(), Nothing>(&());
     }
 
-    /// Whether a slot is known to be chosen. It takes no memory.
-    #[tactic(auto, using(crate::proofs::Knows::found_in))]
+    #[tactic(auto, using(crate::proofs::Knows::found))]
     pub fn contains(&self, slot: u64) -> bool
         ensures { result ≡ is_in slot self.now.list }
     {
         self.slots.get(slot).is_some()
     }
 
-    /// Whether each of `count` slots from the first on is known to be chosen. It takes no memory.
+    /// Whether each of `count` slots from the first on is known to be chosen.
     #[tactic(auto, using(cx_grid::proofs::Crossing::numbers_more))]
     pub fn contains_all(&self, first: u64, count: u64) -> bool
         requires { first + count < 2 ^ 64 }

@@ -52,7 +52,7 @@ impl Model for Leader {
 }
 
 impl Leader {
-    /// Whether it has no round to begin or to go on with: it was opened, or gave up its round. It takes no memory.
+    /// Whether it has no round to begin or to go on with: it was opened, or gave up its round.
     pub fn idle(&self) -> bool
         ensures { result ≡ is_idle self.now.volatile.mode }
     {

@@ -2,8 +2,7 @@
 //! gives each batch a slot, and notes which slots are chosen (VLDB 2021).
 
 ghost use Rattle.std.specs.Prelude.{◌≡◌, ◌++◌};
-ghost use Rattle.cx_role.specs.Prelude.{[], Some, map, IsTrue, OnOk, OnErr, Kind as KindOf, below, role};
-ghost use Rattle.cx_role.specs.Prelude.{IsReply};
+ghost use Rattle.cx_role.specs.Prelude.{[], Some, map, IsTrue, OnOk, OnErr, Kind as KindOf, below, role, IsReply};
 ghost use Rattle.cx_field.specs.Fields as field;
 ghost use Rattle.cx_model.specs.Leader.{leads_to, lead_with, batch_row, chosen_in_row, leader_rules};
 ghost use Rattle.cx_phase1.specs.Planned.{IsPlan};

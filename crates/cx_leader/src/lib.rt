@@ -1,8 +1,6 @@
 //! The leader: it begins and retires rounds (JSys 2021), and gives each batch a slot (VLDB 2021).
 //!
-//! The world and the node drive it through the trait `Role`. Its theorem is `Role`'s contract at
-//! `leader_rules`: each step is the model's row, over any keeper, and `open` names exactly the first
-//! record that isn't its own.
+//! Its theorem is the contract of `Role` at `leader_rules`.
 #![tactic(auto)]
 
 mod entries;

@@ -13,7 +13,7 @@ use cx_msg::Record;
 use cx_role::WakeFault;
 use std::alloc::Global;
 
-/// No replica reported anything.
+#[tactic(auto, using(cx_role::proofs::Sends::sends))]
 pub fn none_held(alloc: Global, replicas: u16) -> Result<Vec<u64>, NoMemory>
     ensures { IfOk result (λ held. held.items ≡ map (λ r. 0) (below replicas)) }
 {

@@ -15,7 +15,6 @@ use cx_phase1::Told;
 use cx_role::Outbox;
 
 impl Leader {
-    // Whether it asks acceptors to promise this round.
     fn asks(&self, round: Round) -> bool
         ensures { result ≡ (is_promising self.now.volatile.mode && is_own self.now.durable round) }
     {

@@ -77,7 +77,7 @@ fn placed(alloc: Global, first: u64, values: &[Value]) -> Result<Ring<Placed, By
 }
 
 impl Proposals {
-    /// Nothing proposed from the first slot on. It takes no memory.
+    /// Nothing proposed from the first slot on.
     pub fn new(alloc: Global) -> Self
         ensures { result ≡ nothing_from 0 }
     {
@@ -89,7 +89,6 @@ impl Proposals {
         }
     }
 
-    /// What a plan proposes.
     pub fn planned(alloc: Global, plan: &Plan) -> Result<Self, NoMemory>
         requires { IsPlan plan.now }
         ensures { IfOk result (λ proposals. proposals ≡ planned plan.now) }
@@ -102,7 +101,7 @@ impl Proposals {
         })
     }
 
-    /// Forgets all that was proposed from the watermark on. It takes no memory.
+    /// Forgets all that was proposed from the watermark on.
     pub fn clear(&mut self)
         ensures { self.new ≡ nothing_from self.old.cw }
     {
@@ -113,8 +112,7 @@ impl Proposals {
         self.chosen.clear();
     }
 
-    /// Lets the next round begin with all that was proposed, where nothing is known to be chosen yet. It takes no
-    /// memory.
+    /// Lets the next round begin with all that was proposed, where nothing is known to be chosen yet.
     pub fn lead_on(&mut self)
         ensures { self.new ≡ led_on self.old }
     {
@@ -123,6 +121,7 @@ impl Proposals {
     }
 
     /// Gives a value the next slot, or answers None where no slot is free.
+    #[tactic(auto, using(crate::proofs::Proposed::adding))]
     pub fn add(&mut self, alloc: Global, value: &Value) -> Result<Option<u64>, NoMemory>
         requires { IsTrue (field.value.fits value.now) }
         ensures ok { IfOk result (λ slot. Adds value.now self.old slot self.new) }
@@ -151,7 +150,7 @@ impl Proposals {
     }
 
     /// Raises the chosen watermark, a number of slots of at most 2^40, or leaves a greater one: the slots below it are
-    /// forgotten, and none of them is free. It takes no memory.
+    /// forgotten, and none of them is free.
     pub fn raise(&mut self, cw: u64)
         requires { cw ≤ 2 ^ 40 }
         ensures { self.new ≡ raised cw self.old }
@@ -163,6 +162,7 @@ impl Proposals {
     }
 
     // Proposes the value of a slot, if it has one, unless the slot is known to be chosen.
+    #[tactic(auto, using(crate::proofs::Proposed::found_slot))]
     fn propose(
         &self,
         known: &Known,
@@ -262,14 +262,12 @@ impl Proposals {
         self.slots.cw()
     }
 
-    /// The next free slot.
     pub fn next(&self) -> u64
         ensures { result ≡ self.now.next }
     {
         self.slots.next()
     }
 
-    /// Whether a slot is known to be chosen.
     pub fn is_chosen(&self, slot: u64) -> bool
         ensures { result ≡ is_in slot self.now.chosen }
     {

@@ -15,7 +15,6 @@ use cx_model::{Mode, Stage};
 use cx_role::Outbox;
 
 impl Leader {
-    // Whether this is the round that it leads.
     fn leads(&self, round: Round) -> bool
         ensures { result ≡ (is_leading self.now.volatile.mode && is_own self.now.durable round) }
     {

@@ -1,8 +1,7 @@
 //! Which rounds follow one another, and the orders to begin one.
 
 ghost use Rattle.std.specs.Prelude.{◌≡◌, ◌==◌, ◌&&◌, ◌+◌};
-ghost use Rattle.cx_role.specs.Prelude.{[], true, Some, IsTrue, same_round, names_round};
-ghost use Rattle.cx_role.specs.Prelude.{names_grid, IsStep, MayKeep};
+ghost use Rattle.cx_role.specs.Prelude.{[], true, Some, IsTrue, same_round, names_round, names_grid, IsStep, MayKeep};
 ghost use Rattle.cx_model.specs.Leader.{round_of, follows, begin_in, lead_row, change_row, leader_rules};
 ghost use Rattle.cx_field.specs.Fields as field;
 
@@ -16,7 +15,6 @@ use cx_model::Mode;
 use cx_msg::Record;
 use cx_role::{Outbox, StepFault, keep, names_grid, names_round};
 
-/// Whether two rounds are the same.
 pub fn is_same(a: Round, b: Round) -> bool
     ensures { result ≡ same_round a b }
 {

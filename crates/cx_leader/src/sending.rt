@@ -1,8 +1,8 @@
 //! What a leader sends to several roles, by rising index. Room in the outbox was taken beforehand.
+#![tactic(auto, using(cx_role::proofs::Sends::sends))]
 
 ghost use Rattle.std.specs.Prelude.{◌≡◌, ◌≤◌, ◌+◌, ◌++◌, ◌*◌, ◌^◌};
-ghost use Rattle.cx_role.specs.Prelude.{map, IsTrue, Kind as KindOf, below, role};
-ghost use Rattle.cx_role.specs.Prelude.{members_of, members_in};
+ghost use Rattle.cx_role.specs.Prelude.{map, IsTrue, Kind as KindOf, below, role, members_of, members_in};
 ghost use Rattle.cx_field.specs.Fields as field;
 ghost use Rattle.cx_model.specs.Leader.{match_a_to, phase1a_to, leads_to, propose_to, inform_to, garbage_a_to};
 ghost use Rattle.cx_leader.specs.Proposing.{IsSlot};
@@ -14,7 +14,6 @@ use cx_msg::{Datagram, garbage_a, inform, leads, match_a, phase1a, propose};
 use cx_phase1::Phase1;
 use cx_role::Outbox;
 
-/// How many matchmakers a cluster has.
 pub fn matchmakers(cluster: &Cluster) -> u16
     ensures { result ≡ 2 * cluster.now.f + 1 }
 {
@@ -64,7 +63,7 @@ pub fn ask_acceptors(
 }
 
 /// Informs the members of the leader's grid that enough replicas hold `mark` slots.
-#[tactic(auto, unfolding(cx_field::specs::Fields::mark, cx_wire::specs::Format::u64))]
+#[tactic(auto, using(cx_role::proofs::Sends::sends), unfolding(cx_field::specs::Fields::mark, cx_wire::specs::Format::u64))]
 pub fn inform_members(leader: u16, own: &Entry, mark: u64, cluster: &Cluster, out: &mut Outbox)
     requires spare { cluster.now.acceptors ≤ out.old.spare }
     requires round { IsTrue (field.round.fits own.now.round) }

@@ -16,7 +16,6 @@ use cx_model::Stage;
 use cx_role::Outbox;
 
 impl Leader {
-    /// It asks the matchmakers again.
     pub(crate) fn match_again(&self, own: &Entry, out: &mut Outbox) -> Result<Why, NoMemory>
         requires round { IsTrue (field.round.fits own.now.round) }
         requires empty { out.old.list ≡ [] }

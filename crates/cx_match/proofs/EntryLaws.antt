@@ -1,8 +1,8 @@
 -- Entries in rising order.
-use Rattle.cx_role.proofs.Common.{◌≡◌, ◌≤◌, ◌<◌, suc, ◌+◌, ◌-◌, not, Bool, true, false, filter, List, [], ◌∷◌, length}
-use Rattle.cx_role.proofs.Common.{refl, list_all, list_any, arith, and_parts, nat_tests, Round, Shape, is_before}
+use Rattle.cx_role.proofs.Common.{◌≡◌, ◌≤◌, ◌<◌, ◌+◌, not, Bool, true, false, filter, List, [], ◌∷◌, length}
+use Rattle.cx_role.proofs.Common.{refl, list_all, list_any, arith, nat_tests, Round, Shape, is_before}
 use Rattle.cx_role.proofs.Common.{same_round, Entry, entries_filter, by_test}
-use Rattle.cx_field.specs.Fields.{grid, round, entries}
+use Rattle.cx_field.specs.Fields.{round, entries}
 use Rattle.cx_field.specs.Ranges.{entry_in_range}
 use Rattle.cx_field.proofs.ListLaws.{entries_apart, entries_cons}
 use Rattle.cx_model.specs.Matchmaker.{entry, entries_from, has_round, greatest, with_own}
@@ -52,12 +52,8 @@ from_fewer w i (e ∷ es) before has =
 
 greatest_of : (es : List Entry) → 0 < length es → list_all (λ (e : Entry). entry_in_range e) es ≡ true → round.fits (greatest es) ≡ true
 greatest_of [] some all = absurd (omega arith)
-greatest_of (e ∷ []) some all =
-    let own = and_parts (entry_in_range e) true all in (and_parts (round.fits e.round) (grid.fits e.grid) own.0).0
-greatest_of (e ∷ (f ∷ fs)) some all =
-    let place : length (e ∷ (f ∷ fs)) - 1 ≡ suc (length (f ∷ fs) - 1) = omega arith in
-    let parts = and_parts (entry_in_range e) (list_all (λ (w : Entry). entry_in_range w) (f ∷ fs)) all in
-    rw place (greatest_of (f ∷ fs) (omega arith) parts.1)
+greatest_of (e ∷ []) some all = grind (arith, nat_tests)
+greatest_of (e ∷ (f ∷ fs)) some all = grind (arith, nat_tests, greatest_of (f ∷ fs))
 
 -- the greatest round of some entries is a round
 pub greatest_fits : (es : List Entry) → 0 < length es → entries.fits es ≡ true → round.fits (greatest es) ≡ true

@@ -1,8 +1,7 @@
 //! The entries of a matchmaker: rounds with their grids, in rising order.
 
 ghost use Rattle.std.specs.Prelude.{◌≡◌, ◌<◌, ◌≤◌};
-ghost use Rattle.cx_role.specs.Prelude.{vec_len, vec_capacity, IfOk, IsTrue, list_all, list_any};
-ghost use Rattle.cx_role.specs.Prelude.{is_before, Entry};
+ghost use Rattle.cx_role.specs.Prelude.{vec_len, vec_capacity, IfOk, IsTrue, list_all, list_any, is_before, Entry};
 ghost use Rattle.cx_model.specs.Matchmaker.{entries_before, entries_from, greatest, has_round, with_own};
 ghost use Rattle.cx_field.specs.Fields as field;
 
@@ -10,28 +9,25 @@ use cx_base::{Few, Grid, NoMemory, Round, copy_all};
 use cx_field::{Entries, Entry};
 use std::alloc::Global;
 
-/// Whether some entry is of a later round. It takes no memory.
 pub fn has_later(entries: &[Entry], round: Round) -> bool
     ensures { result ≡ list_any (λ (e : Entry). is_before round e.round) entries.now }
 {
     entries.iter().any(|entry| round.is_before(&entry.round))
 }
 
-/// Whether all entries are of earlier rounds. It takes no memory.
 pub fn are_before(entries: &[Entry], round: Round) -> bool
     ensures { result ≡ list_all (λ (e : Entry). is_before e.round round) entries.now }
 {
     entries.iter().all(|entry| entry.round.is_before(&round))
 }
 
-/// Whether some entry is of this round. It takes no memory.
 pub fn has_entry(entries: &[Entry], round: Round) -> bool
     ensures { result ≡ has_round round entries.now }
 {
     entries.iter().any(|entry| entry.round == round)
 }
 
-/// The round of the last entry, or none. It takes no memory.
+/// The round of the last entry, or none.
 pub fn last_round(entries: &[Entry]) -> Round
     ensures { result ≡ greatest entries.now }
 {

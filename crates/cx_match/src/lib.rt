@@ -1,8 +1,6 @@
 //! The matchmaker: it records which grid each round uses, and reports it to later rounds (JSys 2021).
 //!
-//! The world and the node drive it through the trait `Role`. Its theorem is `Role`'s contract at
-//! `matchmaker_rules`: each step is the model's row, over any keeper, and `open` names exactly the
-//! first record that isn't its own.
+//! Its theorem is the contract of `Role` at `matchmaker_rules`.
 #![tactic(auto)]
 
 mod entries;

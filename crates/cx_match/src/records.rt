@@ -14,7 +14,6 @@ use cx_role::{names_grid, names_round};
 use std::alloc::Global;
 
 impl Matchmaker {
-    /// A matchmaker that has no records. It takes no memory.
     pub(crate) fn new(alloc: Global, cluster: &Cluster, me: RoleId) -> Self
         requires { me.kind ≡ Kind.Matchmaker }
         ensures { result ≡ opened matchmaker_rules cluster.now me [] }
@@ -29,7 +28,7 @@ impl Matchmaker {
         }
     }
 
-    /// Whether it could have appended this record. It takes no memory.
+    /// Whether it could have appended this record.
     pub(crate) fn fits(&self, what: &Record) -> bool
         ensures { result ≡ matchmaker_fits self.now.cluster self.now.me self.now.durable what.now }
     {

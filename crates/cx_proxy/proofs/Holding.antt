@@ -1,6 +1,6 @@
 -- What a proxy leader holds, step by step.
-use Rattle.cx_role.proofs.Common.{◌≡◌, ℕ, ◌+◌, ◌<◌, ◌≤◌, ◌^◌, ◌==◌, Bool, true, max, List, [], ◌∷◌, All, Some, inl, inr}
-use Rattle.cx_role.proofs.Common.{refl, sym, subst, arith, nat_le, nat_lt, and_parts, cases_Bool, nat_tests, All-filter}
+use Rattle.cx_role.proofs.Common.{◌≡◌, ℕ, ◌+◌, ◌<◌, ◌≤◌, ◌^◌, Bool, true, max, List, [], ◌∷◌, All, Some}
+use Rattle.cx_role.proofs.Common.{refl, sym, subst, arith, nat_le, nat_lt, and_parts, nat_tests, All-filter}
 use Rattle.cx_role.proofs.Common.{All-head, All-tail, RoleId, in_window, Pending}
 use Rattle.std.proofs.lemmas.List.Elements.{filter_passes}
 use Rattle.cx_field.specs.Fields.{mark}
@@ -19,14 +19,7 @@ mark_limit n h = grind (arith, nat_tests)
 found : (P : Pending → Type 0) (s : ℕ) (ps : List Pending) (p : Pending) → All P ps → pending_at s ps ≡ Some p
     → (p.slot ≡ s) × P p
 found P s [] p all h = cc
-found P s (q ∷ ps) p all h = elim (cases_Bool (q.slot == s)) as (λ _. (p.slot ≡ s) × P p) [
-  | inl e ↦
-      let at : pending_at s (q ∷ ps) ≡ Some q = rw e refl in
-      let same : q ≡ p = cc in
-      let lies : q.slot ≡ s = grind (arith, nat_tests) in
-      subst (λ (x : Pending). (x.slot ≡ s) × P x) same (lies, All-head P q ps all)
-  | inr e ↦ found P s ps p (All-tail P q ps all) (rw e at h)
-]
+found P s (q ∷ ps) p all h = grind (arith, nat_tests, All-head P q ps all, found P s ps p (All-tail P q ps all))
 
 pub found_slot : (s : ℕ) (ps : List Pending) (p : Pending) → pending_at s ps ≡ Some p → p.slot ≡ s
 found_slot s ps p h = (found (λ _. Unit {0}) s ps p (λ k d l. tt) h).0

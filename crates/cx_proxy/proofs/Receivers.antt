@@ -1,9 +1,12 @@
 -- How many receive a value.
-use Rattle.cx_role.proofs.Common.{◌≡◌, ℕ, zero, suc, ◌+◌, ◌-◌, ◌<◌, ◌≤◌, Bool, true, false, ◌==◌, ◌||◌, List, [], ◌∷◌}
+use Rattle.cx_role.proofs.Common.{◌≡◌, ℕ, zero, suc, ◌+◌, ◌-◌, ◌<◌, ◌≤◌, Bool, true, ◌==◌, ◌||◌, List, [], ◌∷◌}
 use Rattle.cx_role.proofs.Common.{◌++◌, filter, map, length, refl, ap, append_assoc, length-append, arith, nat_tests}
-use Rattle.cx_role.proofs.Common.{is_in, numbers, below}
+use Rattle.cx_role.proofs.Common.{is_in, numbers, below, Cluster, RoleId, Pending, Letter}
 use Rattle.std.proofs.lemmas.List.{length-map}
+use Rattle.std.proofs.lemmas.Grind.{length_at_push}
 use Rattle.cx_grid.proofs.Crossing.{numbers_more}
+use Rattle.cx_model.specs.Proxy.{again_at, again_for, pending_at}
+use Rattle.cx_role.proofs.Sends.{sent, passed, failed}
 
 -- one of two tests passes at most as often as both
 either_passes : (p q : ℕ → Bool) (xs : List ℕ)
@@ -34,31 +37,14 @@ members_most (m ∷ ms) first count =
     let both = either_passes (λ x. m == x) (λ x. is_in x ms) (numbers first count) in
     omega (arith, both, one_passes m first count, members_most ms first count)
 
--- what is sent for the number i is behind what was sent for those before it
-module _ {A : Type 0} (i n : ℕ) (l : i < n) (before after all : List A) where
-  -- in a list of what is sent for each number
-  pub one_seen : (g : ℕ → List A) (each : List ℕ → List A) → ((s : ℕ) (ss : List ℕ) → each (s ∷ ss) ≡ g s ++ each ss)
-      → after ≡ before ++ g i → before ++ each (numbers i (n - i)) ≡ all
-      → after ++ each (numbers (i + 1) (n - (i + 1))) ≡ all
-  one_seen g each step more h =
-      let next = rw (numbers_more i n l, step i (numbers (i + 1) (n - (i + 1)))) at h in
-      rw (more, append_assoc) next
+-- what is sent again at the numbers from i on, once it was sent at i
+pub again_on : (c : Cluster) (me : RoleId) (ps : List Pending) (sent : List Letter) (i n : ℕ) → i < n
+    → (sent ++ again_for c me (pending_at i ps)) ++ again_at c me ps (numbers (i + 1) (n - (i + 1)))
+    ≡ sent ++ again_at c me ps (numbers i (n - i))
+again_on c me ps sent i n l = rw (append_assoc, numbers_more i n l) refl
 
-  -- to one that passes the test
-  pub one_asked : (f : ℕ → A) (p : ℕ → Bool) → p i ≡ true → after ≡ before ++ f i ∷ []
-      → before ++ map f (filter p (numbers i (n - i))) ≡ all
-      → after ++ map f (filter p (numbers (i + 1) (n - (i + 1)))) ≡ all
-  one_asked f p passes more h =
-      let next = rw (numbers_more i n l, passes) at h in
-      rw (more, append_assoc) next
-
-  -- nothing to one that doesn't
-  pub one_left : (f : ℕ → A) (p : ℕ → Bool) → p i ≡ false → after ≡ before
-      → before ++ map f (filter p (numbers i (n - i))) ≡ all
-      → after ++ map f (filter p (numbers (i + 1) (n - (i + 1)))) ≡ all
-  one_left f p fails same h =
-      let next = rw (numbers_more i n l, fails) at h in
-      rw same next
+-- sending, with its count
+pub ruleset counted = (sent, passed, failed, length_at_push)
 
 -- at most 16 members are asked in all
 module _ {A : Type 0} (f : ℕ → A) (ms : List ℕ) (n : ℕ) (before old : List A) (most : length ms ≤ 16) where

@@ -1,6 +1,6 @@
 -- The model's words on pending values are the ring's.
-use Rattle.cx_role.proofs.Common.{◌≡◌, ℕ, ◌==◌, true, false, if◌then◌else◌, List, [], ◌∷◌, Option, Some, refl, ap}
-use Rattle.cx_role.proofs.Common.{arith, nat_tests, Pending, by_test}
+use Rattle.cx_role.proofs.Common.{◌≡◌, ℕ, ◌==◌, if◌then◌else◌, List, [], ◌∷◌, Option, Some, refl, ap}
+use Rattle.cx_role.proofs.Common.{arith, nat_tests, Pending}
 use Rattle.cx_model.specs.Proxy.{pending_at, with_pending}
 use Rattle.cx_proxy.specs.Slots.{slot_of}
 use Rattle.cx_ring.specs.Ring.{value_at, with_value}
@@ -19,14 +19,5 @@ with_pending_value one (p ∷ ps) =
 -- a value that is put into the place of one of its slot is put into the place of the one before that
 pub put_again : (one two : Pending) (ps : List Pending) → two.slot ≡ one.slot
     → with_pending two (with_pending one ps) ≡ with_pending two ps
-put_again one two [] e = let same : (one.slot == two.slot) ≡ true = grind (arith, nat_tests) in rw same refl
-put_again one two (p ∷ ps) e =
-    let again : List Pending → Type 0 = λ qs. with_pending two qs ≡ with_pending two (p ∷ ps) in
-    by_test again (p.slot == one.slot) _ _
-    (λ h.
-    let first : (one.slot == two.slot) ≡ true = grind (arith, nat_tests) in
-    let same : (p.slot == two.slot) ≡ true = grind (arith, nat_tests) in
-    rw (first, same) refl)
-    (λ h.
-    let other : (p.slot == two.slot) ≡ false = rw e h in
-    rw other (ap (λ (l : List Pending). p ∷ l) (put_again one two ps e)))
+put_again one two [] e = grind (arith, nat_tests)
+put_again one two (p ∷ ps) e = grind (arith, nat_tests, put_again one two ps e)

@@ -1,7 +1,6 @@
 //! Proxy leaders: they ask a column of acceptors for votes, and announce what is chosen (VLDB 2021).
 //!
-//! The world and the node drive them through the trait `Role`. Its theorem is `Role`'s contract at
-//! `proxy_rules`: each step is the model's row, over any keeper, and a proxy leader keeps no record.
+//! Their theorem is the contract of `Role` at `proxy_rules`; they keep no record.
 #![tactic(auto)]
 
 mod pendings;

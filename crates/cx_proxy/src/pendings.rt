@@ -25,7 +25,7 @@ impl Slotted<Pending> for BySlot {
 /// The pending values, from the known watermark on.
 pub type Pendings = Ring<Pending, BySlot>;
 
-/// The value that is pending at a slot. It takes no memory.
+/// The value that is pending at a slot.
 #[tactic(auto, using(crate::proofs::Same::pending_at_value))]
 pub fn find(pendings: &Pendings, slot: u64) -> Option<&Pending>
     ensures { option_copied result ≡ pending_at slot pendings.now.items }
@@ -33,7 +33,7 @@ pub fn find(pendings: &Pendings, slot: u64) -> Option<&Pending>
     pendings.get(slot)
 }
 
-/// Puts a value into the place of the earlier one of its slot, which it answers, or at the end. It takes no memory.
+/// Puts a value into the place of the earlier one of its slot, which it answers, or at the end.
 #[tactic(auto, using(crate::proofs::Same::pending_at_value, crate::proofs::Same::with_pending_value))]
 pub fn put(pendings: &mut Pendings, one: Pending) -> Option<Pending>
     requires room { pendings.old.room ≡ true }
@@ -45,7 +45,7 @@ pub fn put(pendings: &mut Pendings, one: Pending) -> Option<Pending>
     pendings.put(one)
 }
 
-/// Notes who voted for the value that is pending at a slot, and whether all is done. It takes no memory.
+/// Notes who voted for the value that is pending at a slot, and whether all is done.
 #[tactic(auto, using(crate::proofs::Holding::found_slot))]
 pub fn note(pendings: &mut Pendings, slot: u64, marks: Marks, done: bool)
     requires room { pendings.old.room ≡ true }
@@ -67,7 +67,7 @@ pub fn note(pendings: &mut Pendings, slot: u64, marks: Marks, done: bool)
     }
 }
 
-/// Why a value is not asked for, where it is not. It takes no memory.
+/// Why a value is not asked for, where it is not.
 pub fn declined(pendings: &Pendings, one: &Pending) -> Option<Why>
     ensures { result ≡ declined pendings.now one.now }
 {
@@ -84,7 +84,7 @@ pub fn declined(pendings: &Pendings, one: &Pending) -> Option<Why>
     }
 }
 
-/// Why a vote for a pending value does not count, where it does not. It takes no memory.
+/// Why a vote for a pending value does not count, where it does not.
 pub fn uncounted(pending: &Pending, acceptor: u16, round: Round) -> Option<Why>
     ensures { result ≡ uncounted acceptor round pending.now }
 {

@@ -42,7 +42,6 @@ impl Model for Proxy {
 }
 
 impl Proxy {
-    // A proxy leader to which nothing was sent. It takes no memory.
     fn new(alloc: Global, cluster: &Cluster, me: RoleId) -> Self
         requires { me.kind ≡ kind.Proxy }
         ensures { result ≡ opened proxy_rules cluster.now me [] }

@@ -1,8 +1,7 @@
 //! What a proxy leader sends for a pending value: a value goes to several receivers, each of which gets its own copy.
 
 ghost use Rattle.std.specs.Prelude.{◌≡◌, ◌<◌, ◌≤◌, ◌+◌, ◌*◌, ◌%◌, ◌++◌, ◌∷◌};
-ghost use Rattle.cx_role.specs.Prelude.{[], length, map, OnErr, OnOk, All};
-ghost use Rattle.cx_role.specs.Prelude.{numbers, Pending};
+ghost use Rattle.cx_role.specs.Prelude.{[], length, map, OnErr, OnOk, All, numbers, Pending};
 ghost use Rattle.cx_role.specs.Prelude.kind;
 ghost use Rattle.cx_model.specs.Proxy.{phase2a_to, column_for, members_for, announcement};
 ghost use Rattle.cx_model.specs.Proxy.{again_for, again_at, pending_at};
@@ -16,6 +15,7 @@ use cx_role::Outbox;
 use std::alloc::Global;
 
 /// Asks the acceptors of the slot's column for votes.
+#[tactic(auto, using(crate::proofs::Receivers::counted))]
 pub fn ask_column(
     alloc: Global,
     cluster: &Cluster,
@@ -38,6 +38,7 @@ pub fn ask_column(
 }
 
 /// Asks all members of the grid, at most 16.
+#[tactic(auto, using(cx_role::proofs::Sends::sends))]
 pub fn ask_members(
     alloc: Global,
     cluster: &Cluster,
@@ -63,6 +64,7 @@ pub fn ask_members(
 }
 
 /// Tells every replica the value, and the leader of its round that it is chosen: at most 9 datagrams.
+#[tactic(auto, using(crate::proofs::Receivers::counted))]
 pub fn announce(
     alloc: Global,
     cluster: &Cluster,
@@ -87,6 +89,7 @@ pub fn announce(
 }
 
 /// Asks or announces again for each value that is pending at `count` slots from the ring's first on.
+#[tactic(auto, using(crate::proofs::Receivers::again_on))]
 pub fn again_all(
     alloc: Global,
     cluster: &Cluster,

@@ -1,7 +1,7 @@
 -- Which acceptors were counted, and the rows that they make.
 use Rattle.cx_role.proofs.Common.{◌≡◌, ℕ, ◌==◌, Bool, ◌&&◌, ◌||◌, false, List, [], ◌∷◌, ◌++◌, refl, ap, sym, ◌∙◌, arith}
-use Rattle.cx_role.proofs.Common.{nat_lt, list_all, list_any, list_any-append, eqb-true, nat_tests, is_in, below, Entry}
-use Rattle.cx_role.proofs.Common.{Acked, rows_whole, by_test}
+use Rattle.cx_role.proofs.Common.{nat_lt, list_all, list_any, list_any-append, nat_tests, is_in, below, Entry}
+use Rattle.cx_role.proofs.Common.{Acked, rows_whole}
 use Rattle.cx_grid.specs.Quorum.{row_of, with_mark}
 use Rattle.cx_model.specs.Reader.{acked_by, has_acked}
 
@@ -12,20 +12,10 @@ rows_alike es xs ys same =
     λ j. list_all (λ (e : Entry). nat_lt 0 e.grid.cols
     && list_any (λ a. list_all (λ id. same id j) (row_of e.grid a)) (below e.grid.rows)) es
 
-twice : (b c : Bool) → (b || c) ≡ (b || (b || c))
-twice b c = grind (arith, nat_tests)
-
-swap : (a b c : Bool) → (b || (a || c)) ≡ (a || (b || c))
-swap a b c = grind (arith, nat_tests)
-
 -- a set with one more number has it, and those that it had
 in_with_mark : (id n : ℕ) (ms : List ℕ) → is_in id (with_mark n ms) ≡ ((n == id) || is_in id ms)
 in_with_mark id n [] = refl
-in_with_mark id n (m ∷ ms) =
-    let Has = λ (more : List ℕ). is_in id more ≡ ((n == id) || ((m == id) || is_in id ms)) in
-    by_test Has (n == m) _ _ (λ same. rw (eqb-true n m same) (twice (m == id) (is_in id ms))) (λ other.
-    by_test Has (nat_lt n m) _ _ (λ less. refl) (λ more.
-    rw (in_with_mark id n ms) (swap (n == id) (m == id) (is_in id ms))))
+in_with_mark id n (m ∷ ms) = grind (arith, nat_tests, in_with_mark id n ms)
 
 -- one more is counted
 pub acked_more : (ms : List ℕ) (acks : List Acked) (a : Acked) → ((id : ℕ) → is_in id ms ≡ has_acked id acks) → (id : ℕ)

@@ -1,10 +1,9 @@
 -- A reader keeps no record, whatever an acceptor answers.
-use Rattle.cx_role.proofs.Common.{◌≡◌, ℕ, ◌&&◌, not, ◌++◌, ◌∷◌, [], Option, None, Some, refl, sym, subst, Cluster}
-use Rattle.cx_role.proofs.Common.{RoleId, Round, same_role, same_round, Token, Letter, Take, Record, greatest_watermark}
-use Rattle.cx_role.proofs.Common.{live_entries, is_member_of, rows_whole, names, Outcome, either_way, IsFit, Running}
+use Rattle.cx_role.proofs.Common.{◌≡◌, ℕ, ◌&&◌, Option, None, Some, refl, sym, subst, arith, Cluster, RoleId, Round}
+use Rattle.cx_role.proofs.Common.{same_role, Token, Letter, Take, Record, names, Outcome, either_way, IsFit, Running}
 use Rattle.cx_role.proofs.Common.{outcome_of, MayKeep}
 use Rattle.cx_role.proofs.Common.msg
-use Rattle.cx_model.specs.Reader.{Reading, ReaderVolatile, acked_by, has_acked, is_matched, pre_read_ack_row, reader_rules, reading_of}
+use Rattle.cx_model.specs.Reader.{Reading, ReaderVolatile, pre_read_ack_row, reader_rules, reading_of}
 
 abbrev KeepsNothing : Outcome ReaderVolatile → Type 0
 KeepsNothing row = row.kept ≡ None
@@ -12,12 +11,7 @@ KeepsNothing row = row.kept ≡ None
 row_keeps_nothing : (c : Cluster) (me : RoleId) (v : ReaderVolatile) (from : RoleId) (w : Round) (n : ℕ)
     (r : Option Reading) → KeepsNothing (pre_read_ack_row c me v from w n r)
 row_keeps_nothing c me v from w n None = refl
-row_keeps_nothing c me v from w n (Some r) =
-    let acks = r.acks ++ record { acceptor = from.index; mark = n } ∷ [] in
-    either_way KeepsNothing (not (is_matched c r && is_member_of (live_entries r.told) from.index)) _ _ refl
-    (either_way KeepsNothing (not (same_round w (greatest_watermark r.told))) _ _ refl
-    (either_way KeepsNothing (has_acked from.index r.acks) _ _ refl
-    (either_way KeepsNothing (rows_whole (live_entries r.told) (acked_by acks)) _ _ refl refl)))
+row_keeps_nothing c me v from w n (Some r) = grind arith
 
 -- what an acceptor answers to a read leaves no record to be kept
 pub pre_read_fits : (s : Running (Unit {0}) ReaderVolatile) (l : Letter) (t : Token) (w : Round) (n : ℕ)

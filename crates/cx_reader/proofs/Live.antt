@@ -1,22 +1,18 @@
 -- What is so of the live entries, answer by answer.
-use Rattle.cx_role.proofs.Common.{◌≡◌, ℕ, Bool, true, ◌&&◌, ◌||◌, List, [], ◌∷◌, filter, refl, list_any, ap, ◌∙◌, sym}
+use Rattle.cx_role.proofs.Common.{◌≡◌, ℕ, Bool, true, ◌&&◌, ◌||◌, List, [], ◌∷◌, filter, refl, list_any, ap, ◌∙◌, sym, arith}
 use Rattle.cx_role.proofs.Common.{list_any-append, Round, is_in, Entry, MatchAnswer, entries_told, is_member_of}
-use Rattle.cx_role.proofs.Common.{by_test}
+use Rattle.cx_role.proofs.Common.{nat_tests}
 use Rattle.cx_model.specs.Matchmaker.{entries_from}
 use Rattle.cx_reader.specs.Live.{is_live, some_live, some_live_with}
 
 any-filter : {A : Type 0} (p q : A → Bool) (xs : List A) → list_any p (filter q xs) ≡ list_any (λ x. q x && p x) xs
 any-filter p q [] = refl
-any-filter p q (x ∷ xs) =
-    by_test (λ ys. list_any p ys ≡ ((q x && p x) || list_any (λ y. q y && p y) xs)) (q x) _ _
-    (λ yes. rw (yes, any-filter p q xs) refl) (λ no. rw (no, any-filter p q xs) refl)
+any-filter p q (x ∷ xs) = grind (arith, nat_tests, any-filter p q xs)
 
 -- some value is left by a test where one passes it
 some-filter : {A : Type 0} (q : A → Bool) (xs : List A) → list_any (λ x. true) (filter q xs) ≡ list_any q xs
 some-filter q [] = refl
-some-filter q (x ∷ xs) =
-    by_test (λ ys. list_any (λ x. true) ys ≡ (q x || list_any q xs)) (q x) _ _
-    (λ yes. rw yes refl) (λ no. rw (no, some-filter q xs) refl)
+some-filter q (x ∷ xs) = grind (arith, nat_tests, some-filter q xs)
 
 -- answer by answer, or over all that was reported
 any_told : (p : Entry → Bool) (told : List MatchAnswer)

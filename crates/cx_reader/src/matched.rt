@@ -18,7 +18,6 @@ fn later(a: Round, b: Round) -> Round
     if a.is_before(&b) { b } else { a }
 }
 
-/// The greatest watermark that was reported. It takes no memory.
 pub fn greatest_watermark(told: &[MatchAnswer]) -> Round
     ensures { result ≡ greatest_watermark told.now }
 {
@@ -28,7 +27,6 @@ pub fn greatest_watermark(told: &[MatchAnswer]) -> Round
     }
 }
 
-/// Whether an answer of this matchmaker was counted. It takes no memory.
 pub fn is_counted(told: &[MatchAnswer], matchmaker: u16) -> bool
     ensures { result ≡ is_counted matchmaker told.now }
 {
@@ -54,7 +52,7 @@ fn some_live_told(told: &[MatchAnswer], watermark: Round) -> bool
         .any(|answer| some_live(answer.entries.as_slice(), watermark))
 }
 
-/// Whether an entry that was reported is not retired. It takes no memory.
+/// Whether an entry that was reported is not retired.
 pub fn has_live(told: &[MatchAnswer]) -> bool
     ensures { result ≡ list_any (λ (e : EntryOf). true) (live_entries told.now) }
 {
@@ -73,7 +71,7 @@ fn live_with_told(told: &[MatchAnswer], watermark: Round, acceptor: u16) -> bool
     told.iter().any(|answer| some_live_with(answer.entries.as_slice(), watermark, acceptor))
 }
 
-/// Whether an acceptor is a member of a grid that was reported and is not retired. It takes no memory.
+/// Whether an acceptor is a member of a grid that was reported and is not retired.
 pub fn is_live_member(told: &[MatchAnswer], acceptor: u16) -> bool
     ensures { result ≡ is_member_of (live_entries told.now) acceptor }
 {
@@ -102,7 +100,7 @@ fn live_whole_told(told: &[MatchAnswer], watermark: Round, marks: &Marks) -> boo
     true
 }
 
-/// Whether each grid that was reported and is not retired has a row that is marked from end to end. It takes no memory.
+/// Whether each grid that was reported and is not retired has a row that is marked from end to end.
 pub fn rows_whole(told: &[MatchAnswer], marks: &Marks) -> bool
     ensures { result ≡ rows_whole (live_entries told.now) marks.now }
 {

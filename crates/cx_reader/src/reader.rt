@@ -43,7 +43,6 @@ impl Model for Reader {
     } };
 }
 
-// A client's read of this number.
 #[tactic(auto, unfolding(cx_field::specs::Fields::token, cx_wire::specs::Format::u16))]
 fn token(client: u16, seq: u64) -> Token
     requires { IsTrue (field.seq.fits seq) }
@@ -54,7 +53,6 @@ fn token(client: u16, seq: u64) -> Token
 }
 
 impl Reader {
-    // A reader to which nothing was sent. It takes no memory.
     fn new(alloc: Global, cluster: &Cluster, index: u16) -> Self
         ensures { result ≡ opened reader_rules cluster.now (role kind.Reader index) [] }
     {

@@ -48,7 +48,7 @@ impl Model for Reading {
 }
 
 impl Reading {
-    /// A read that no answer was counted for. It takes no memory.
+    /// A read that no answer was counted for.
     pub fn new(alloc: Global, token: Token, replica: u16, key: Key) -> Self
         requires { IsTrue (field.token.fits token) }
         ensures { result ≡ reading token replica key }
@@ -78,35 +78,31 @@ impl Reading {
         self.told.len() > usize::from(cluster.f)
     }
 
-    /// Whether this matchmaker was counted.
     pub fn has_told(&self, matchmaker: u16) -> bool
         ensures { result ≡ is_counted matchmaker self.now.told }
     {
         matched::is_counted(&self.told, matchmaker)
     }
 
-    /// Whether this acceptor was counted.
     pub fn has_acked(&self, acceptor: u16) -> bool
         ensures { result ≡ has_acked acceptor self.now.acks }
     {
         self.counted.contains(acceptor)
     }
 
-    /// Whether a grid is live.
     pub fn has_live(&self) -> bool
         ensures { result ≡ list_any (λ (e : Entry). true) (live_entries self.now.told) }
     {
         matched::has_live(&self.told)
     }
 
-    /// Whether an acceptor is a member of a live grid.
     pub fn is_live_member(&self, acceptor: u16) -> bool
         ensures { result ≡ is_member_of (live_entries self.now.told) acceptor }
     {
         matched::is_live_member(&self.told, acceptor)
     }
 
-    /// The greatest watermark that was reported.
+    #[tactic(auto, using(crate::proofs::Ranges::watermark_fits))]
     pub fn watermark(&self) -> Round
         ensures watermark { result ≡ greatest_watermark self.now.told }
         ensures fits { IsTrue (field.round0.fits result) }
@@ -115,6 +111,7 @@ impl Reading {
     }
 
     /// The greatest number of slots that an acceptor reported.
+    #[tactic(auto, using(crate::proofs::Ranges::mark_fits))]
     pub fn mark(&self) -> u64
         ensures mark { result ≡ greatest_mark self.now.acks }
         ensures fits { IsTrue (field.mark.fits result) }
@@ -151,7 +148,7 @@ impl Reading {
         Ok(more)
     }
 
-    /// The question for its key, for its replica that holds `mark` slots. It takes no memory.
+    /// The question for its key, for its replica that holds `mark` slots.
     pub fn read(&self, reader: u16, mark: u64) -> Datagram
         requires { IsTrue (field.mark.fits mark) }
         ensures { result ≡ read_to (role KindOf.Reader reader) self.now mark }
@@ -160,6 +157,7 @@ impl Reading {
     }
 
     /// Asks the members of live grids how far they voted, by rising index. Room was taken beforehand.
+    #[tactic(auto, using(cx_role::proofs::Sends::sends))]
     pub fn ask_members(&self, reader: u16, cluster: &Cluster, out: &mut Outbox)
         requires { cluster.now.acceptors ≤ out.old.spare }
         ensures { out.new.list ≡ out.old.list ++ map (pre_read_to (role KindOf.Reader reader) self.now)
@@ -197,7 +195,6 @@ fn greatest_mark(acks: &[Acked]) -> u64
     }
 }
 
-// The same answers again.
 fn copied(alloc: Global, told: &[MatchAnswer]) -> Result<Vec<MatchAnswer>, NoMemory>
     ensures { IfOk result (λ copied. copied.items ≡ told.now) }
 {

@@ -47,7 +47,6 @@ impl Model for Reads {
 }
 
 impl Reads {
-    /// No read. It takes no memory.
     pub fn new(alloc: Global) -> Self
         ensures { result ≡ [] }
     {
@@ -56,14 +55,12 @@ impl Reads {
         }
     }
 
-    /// How many they are.
     pub fn len(&self) -> usize
         ensures { result ≡ length self.now }
     {
         self.map.len()
     }
 
-    /// The read of a token. It takes no memory.
     pub fn get(&self, token: Token) -> Option<&Reading>
         ensures { option_copied result ≡ reading_of token self.now }
     {
@@ -79,7 +76,7 @@ impl Reads {
         Ok(())
     }
 
-    /// Drops the read of a token, if there is one. It takes no memory.
+    /// Drops the read of a token, if there is one.
     pub fn remove(&mut self, token: Token)
         ensures { self.new ≡ without_reading token self.old }
     {

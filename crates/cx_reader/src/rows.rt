@@ -2,8 +2,7 @@
 //! everything as it was.
 
 ghost use Rattle.std.specs.Prelude.{◌≡◌, ◌≤◌, ◌<◌, ◌+◌, ◌*◌, ◌++◌};
-ghost use Rattle.cx_role.specs.Prelude.{[], map, IsTrue, below, role, Kind as KindOf};
-ghost use Rattle.cx_role.specs.Prelude.{live_entries, IsReply};
+ghost use Rattle.cx_role.specs.Prelude.{[], map, IsTrue, below, role, Kind as KindOf, live_entries, IsReply};
 ghost use Rattle.cx_model.specs.Reader.{match_ack_counted, match_ack_row, match_read_to, pre_read_ack_row};
 ghost use Rattle.cx_model.specs.Reader.{pre_read_counted, read_matched, read_req_row, reader_rules, reading_of};
 ghost use Rattle.cx_model.specs.Reader.{send_read};
@@ -24,6 +23,7 @@ fn matchmakers(cluster: &Cluster) -> u16
 }
 
 // Asks `count` matchmakers for their entries. Room was taken beforehand.
+#[tactic(auto, using(cx_role::proofs::Sends::sends))]
 fn ask_matchmakers(reader: u16, token: Token, count: u16, out: &mut Outbox)
     requires spare { count ≤ out.old.spare }
     requires token { IsTrue (field.token.fits token) }

@@ -1,9 +1,9 @@
--- The ranges of rounds.
-use Rattle.std.proofs.Common.{◌≡◌, true, arith}
+-- The ranges of rounds and of numbers of slots.
+use Rattle.std.proofs.Common.{◌≡◌, ℕ, true, max, arith}
 use Rattle.std.proofs.lemmas.Bool.Decides.{nat_tests}
 use Rattle.cx_base.specs.declared.round.Round.{Round}
 use Rattle.cx_base.specs.Round.{is_before}
-use Rattle.cx_field.specs.Fields.{round, round0}
+use Rattle.cx_field.specs.Fields.{mark, round, round0}
 
 pub real_or_none : (i : Round) → round.fits i ≡ true → round0.fits i ≡ true
 unfolding round round0
@@ -14,3 +14,7 @@ pub real_above : (i w : Round) → round.fits i ≡ true → round0.fits w ≡ t
     → round.fits w ≡ true
 unfolding round round0
 real_above i w real fit before = grind (arith, nat_tests)
+
+pub max_fits : (a b : ℕ) → mark.fits a ≡ true → mark.fits b ≡ true → mark.fits (max a b) ≡ true
+unfolding mark
+max_fits a b f g = grind (arith, nat_tests)

@@ -1,5 +1,5 @@
 -- The law of a snap: a role forgets values, and its list is put anew.
-use Rattle.std.specs.Prelude.{◌≡◌, ◌⊎◌, ℕ, Bool, true, false, List, [], Option, None, Some, Result, Ok, Err, IfOk, IsErrOf}
+use Rattle.std.specs.Prelude.{◌≡◌, ◌⊎◌, ℕ, Bool, false, List, [], Option, None, Some, Result, Ok, Err, IfOk, IsErrOf}
 use Rattle.cx_base.specs.declared.why.Why.{Why}
 use Rattle.cx_base.specs.declared.why.Why.TheVariants as why
 use Rattle.cx_keeper.specs.declared.keeper.KeepFault.{KeepFault}

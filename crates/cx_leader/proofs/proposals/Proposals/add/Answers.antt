@@ -1,6 +1,6 @@
-use Rattle.cx_role.proofs.Common.{IsTrue, refl}
+use Rattle.cx_role.proofs.Common.{IsTrue}
 use Rattle.cx_field.specs.Fields as field
-use Rattle.cx_leader.proofs.Proposed.{some_free, slot_free, proposed_next, put_last}
+use Rattle.cx_leader.proofs.Proposed.{some_free, proposed_next, put_last}
 use Rattle.cx_leader.proofs.proposals.Proposals.add.Goals as goal
 
 pub invariant_of-self-2 : goal.invariant_of-self-2
@@ -15,11 +15,3 @@ invariant_of-self-2 c =
       first = c.self.invariant.first;
       known_first = c.self.invariant.known_first;
     })
-
-pub returns-clause-ok : goal.returns-clause-ok
-returns-clause-ok c =
-    let w = c.self.inside.slots in
-    let free = some_free w c.in-Some.slot c.in-Some.ensures.slot in
-    let last = put_last w c.self.inside.list.items c.in_ok-value.value c.self.invariant.proposing in
-    rw (← c.self.view_is, c.put.ensures.items, c.in_ok-make_room.ensures.ok, c.next_slot.ensures.rest, free.0, free.1, last, c.in_ok-value.ensures)
-    (refl, refl, slot_free w c.self.invariant.proposing.window free.0, refl)

@@ -1,4 +1,4 @@
-use Rattle.cx_role.proofs.Common.{◌<◌, length, arith, rules, done}
+use Rattle.cx_role.proofs.Common.{length, arith, rules, done}
 use Rattle.cx_match.proofs.EntryLaws.{all_before, greatest_fits, some_later}
 use Rattle.cx_match.proofs.SoundLaws.{has_space, match_fits, sound_match}
 use Rattle.cx_role.proofs.Ranges.{real_above}
@@ -15,8 +15,7 @@ match_nack-requires-then-has_later-clause-other g c =
 
 pub match_nack-requires-then-len-ge-ROUNDS-clause-other : goal.match_nack-requires-then-len-ge-ROUNDS-clause-other
 match_nack-requires-then-len-ge-ROUNDS-clause-other g c =
-    let some : 0 < length c.self.inside.entries.items = omega arith in
-    rw (c.last_round-last-then-len-ge-ROUNDS.ensures, c.deref-then-len-ge-ROUNDS.ensures.value) (greatest_fits c.self.inside.entries.items some c.self.invariant.entries)
+    rw (c.last_round-last-then-len-ge-ROUNDS.ensures, c.deref-then-len-ge-ROUNDS.ensures.value) (greatest_fits c.self.inside.entries.items (omega arith) c.self.invariant.entries)
 
 pub keep-requires : goal.keep-requires
 keep-requires g c = match_fits c.args.round c.args.grid c.requires.round c.requires.grid
@@ -25,8 +24,7 @@ pub invariant_of-self-2 : goal.invariant_of-self-2
 invariant_of-self-2 g c =
     let last = rw (c.has_later.ensures, c.deref.ensures.value) at c.if-has_later.false in
     let new = rw (c.has_entry.ensures, c.deref-2.ensures.value) at c.if-has_entry.false in
-    let space : length c.self.inside.entries.items < 16 = omega arith in
-    let sound = sound_match c.self.inside.me _ c.args.round c.args.grid c.self.invariant c.requires.round c.requires.grid (all_before c.args.round c.self.inside.entries.items last new) space in
+    let sound = sound_match c.self.inside.me _ c.args.round c.args.grid c.self.invariant c.requires.round c.requires.grid (all_before c.args.round c.self.inside.entries.items last new) (omega arith) in
     rw (c.push_reserved.ensures.items, c.reserve.ensures.items) sound
 
 pub returns : goal.returns
@@ -34,8 +32,7 @@ returns g c =
     let high = rw c.is_before.ensures at c.if-is_before.false in
     let last = rw (c.has_later.ensures, c.deref.ensures.value) at c.if-has_later.false in
     let new = rw (c.has_entry.ensures, c.deref-2.ensures.value) at c.if-has_entry.false in
-    let few : length c.self.inside.entries.items < 16 = omega arith in
-    let space = has_space (length c.self.inside.entries.items) few in
+    let space = has_space (length c.self.inside.entries.items) (omega arith) in
     rw (← c.self.view_is, high, last, new, space) (done (record { why = search rules; kept = search rules; state = search rules; sends = search rules }) (search rules))
 
 pub returns-in_err-keep : goal.returns-in_err-keep
@@ -43,8 +40,7 @@ returns-in_err-keep g c =
     let high = rw c.is_before.ensures at c.if-is_before.false in
     let last = rw (c.has_later.ensures, c.deref.ensures.value) at c.if-has_later.false in
     let new = rw (c.has_entry.ensures, c.deref-2.ensures.value) at c.if-has_entry.false in
-    let few : length c.self.inside.entries.items < 16 = omega arith in
-    let space = has_space (length c.self.inside.entries.items) few in
+    let space = has_space (length c.self.inside.entries.items) (omega arith) in
     let p = err_from_is_err_and c.from_residual-in_err-keep.result c.from_residual-in_err-keep.ensures.1 in
     rw (← c.self.view_is, high, last, new, space) (record {
       ok = search rules;
