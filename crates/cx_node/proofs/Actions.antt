@@ -6,7 +6,7 @@ use Rattle.std.proofs.lemmas.Grind.{flat_map-append}
 use Rattle.cx_base.specs.Faults.{Rises}
 use Rattle.cx_base.specs.declared.cluster.Cluster.{Cluster}
 use Rattle.cx_edge.specs.Link.{LinkHistory, with_taken}
-use Rattle.cx_role.specs.Role.{Appending}
+use Rattle.cx_node.specs.Changing.{Changing}
 use Rattle.cx_node.specs.declared.guest.Guest.{Guest}
 use Rattle.cx_node.specs.declared.node.Stop.{Stop}
 use Rattle.cx_node.specs.declared.node.Stop.TheVariants.{LinkFault, NoMemory, WriteFault}
@@ -60,7 +60,7 @@ taken_then ts us xs ys p q = (
       ∙ ap₂ (λ k l. k ++ l) p.1 q.1,
 )
 
-module _ {K : Type 0} (gives : Appending K) (c : Cluster) where
+module _ {K : Type 0} (gives : Changing K) (c : Cluster) where
   then_more : (ts us : Takes) (m : Moved (List Hosted)) (f : List Hosted → Moved (List Hosted)) (r : Done)
       (a b d : Scene K)
       → Acts gives c ts m (Ok tt) a b → Acts gives c us (f m.next) r b d → Acts gives c (ts ++ us) (then_do m f) r a d

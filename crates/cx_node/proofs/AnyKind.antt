@@ -1,13 +1,18 @@
--- The image of a store for a role of a kind is its image for any kind.
+-- What a store has for a role of a kind, it has for any kind.
 use Rattle.std.proofs.Common.{◌≡◌, ℕ, zero, suc, ◌+◌, ◌==◌, ◌||◌, nat_lt, Bool, true, false, List, [], ◌∷◌, length}
-use Rattle.std.proofs.Common.{take, drop, None, Some, Result, Ok, Err, refl, sym, ap, ◌∙◌, inl, inr, if◌then◌else◌}
+use Rattle.std.proofs.Common.{take, drop, Option, None, Some, Result, Ok, Err, refl, sym, ap, ◌∙◌, inl, inr}
+use Rattle.std.proofs.Common.{if◌then◌else◌}
 use Rattle.std.specs.Prelude.{slice_index}
 use Rattle.std.proofs.lemmas.Bool.{cases_Bool}
 use Rattle.cx_base.specs.declared.role.Kind.{Kind}
 use Rattle.cx_msg.specs.declared.kept.Record.{Record}
 use Rattle.cx_journal.specs.Payload.{may_keep, part_break, payload_read}
 use Rattle.cx_journal.specs.Image.{Image, image, image_at, framed, sized, with_first, with_record}
-use Rattle.cx_journal.specs.State.{records_or_none, told_records}
+use Rattle.cx_journal.specs.State.{records_or_none}
+use Rattle.cx_journal.specs.Files.{Files, OneFile, TwoFiles, files_image, files_records}
+use Rattle.cx_journal.specs.Generation.{generation, second_is_live}
+use Rattle.cx_journal.specs.Pair.{live_of}
+use Rattle.cx_journal.specs.Twin.{image_chosen, image_in}
 use Rattle.cx_journal.proofs.Payloads.{read_so, refused}
 
 -- what the first has as its records, the second has too
@@ -68,10 +73,26 @@ image_at_also k (suc n) at (gate ∷ rest) rs e =
     (framed_also k (at + 1) rest (image_at (Some k) n) (image_at None n) (λ a b. image_at_also k n a b))
     (λ rs e. e) rs e
 
--- what is read of a role's store is what it holds
-pub told_any : (k : Kind) (file : List ℕ) (rs : List Record) → image (Some k) file ≡ Ok rs
-    → told_records (Some file) ≡ rs
-told_any k file rs read =
-    ap records_or_none (if_also (nat_lt 1 (length file)) (image_at (Some k) (length file) 0 file)
+image_also : (k : Kind) (file : List ℕ) → IsAlso (image (Some k) file) (image None file)
+image_also k file =
+    if_also (nat_lt 1 (length file)) (image_at (Some k) (length file) 0 file)
     (image_at None (length file) 0 file) (Ok []) (Ok [])
-    (image_at_also k (length file) 0 file) (λ rs e. e) rs read)
+    (image_at_also k (length file) 0 file) (λ rs e. e)
+
+in_also : (k : Kind) (g : Option ℕ) (file : List ℕ) → IsAlso (image_in (Some k) g file) (image_in None g file)
+in_also k None file rs e = image_also k file rs e
+in_also k (Some g) file rs e = image_at_also k (length file) 2 (drop 2 file) rs e
+
+chosen_also : (k : Kind) (a b : List ℕ) (choice : Result Bool ℕ)
+    → IsAlso (image_chosen (Some k) a b choice) (image_chosen None a b choice)
+chosen_also k a b (Err byte) rs e = e
+chosen_also k a b (Ok second) rs e = in_also k (generation (live_of second a b)) (live_of second a b) rs e
+
+files_also : (k : Kind) (files : Files) → IsAlso (files_image (Some k) files) (files_image None files)
+files_also k (OneFile file) rs e = image_also k file rs e
+files_also k (TwoFiles a b) rs e = chosen_also k a b (second_is_live (generation a) (generation b)) rs e
+
+-- what is read of a role's store is what it holds
+pub told_any : (k : Kind) (files : Files) (rs : List Record) → files_image (Some k) files ≡ Ok rs
+    → files_records (Some files) ≡ rs
+told_any k files rs read = ap records_or_none (files_also k files rs read)

@@ -10,40 +10,40 @@ use Rattle.cx_base.specs.declared.role.RoleId.{RoleId}
 use Rattle.cx_edge.specs.Link.{LinkHistory, with_taken}
 use Rattle.cx_model.specs.Names.{names_role}
 use Rattle.cx_msg.specs.Letter.{Letter}
-use Rattle.cx_msg.specs.declared.input.KeptRecord.{KeptRecord}
 use Rattle.cx_node.specs.Action.{Action, Bound, Took, bound_by, bound_in, kept_in, printed_in, sent_by, sent_in}
 use Rattle.cx_node.specs.Action.{step_actions, taken_by, taken_in, with_actions}
+use Rattle.cx_node.specs.Changing.{StoreChange}
 use Rattle.cx_node.specs.Doing.{Asks, Linked}
 use Rattle.cx_node.specs.Hosting.{with_binds}
 use Rattle.cx_node.specs.Ports.{bind_of, sending_of, sendings}
 
 -- ---- what is among the actions of a step, and among binds
 
-pub step_bound : (ks : List KeptRecord) (ls : List Letter) (bs : List ℕ) → bound_in (step_actions ks ls bs) ≡ []
+pub step_bound : (ks : List StoreChange) (ls : List Letter) (bs : List ℕ) → bound_in (step_actions ks ls bs) ≡ []
 step_bound [] [] [] = refl
 step_bound [] [] (b ∷ bs) = step_bound [] [] bs
 step_bound [] (l ∷ ls) bs = step_bound [] ls bs
 step_bound (k ∷ ks) ls bs = step_bound ks ls bs
 
-pub step_taken : (ks : List KeptRecord) (ls : List Letter) (bs : List ℕ) → taken_in (step_actions ks ls bs) ≡ []
+pub step_taken : (ks : List StoreChange) (ls : List Letter) (bs : List ℕ) → taken_in (step_actions ks ls bs) ≡ []
 step_taken [] [] [] = refl
 step_taken [] [] (b ∷ bs) = step_taken [] [] bs
 step_taken [] (l ∷ ls) bs = step_taken [] ls bs
 step_taken (k ∷ ks) ls bs = step_taken ks ls bs
 
-pub step_kept : (ks : List KeptRecord) (ls : List Letter) (bs : List ℕ) → kept_in (step_actions ks ls bs) ≡ ks
+pub step_kept : (ks : List StoreChange) (ls : List Letter) (bs : List ℕ) → kept_in (step_actions ks ls bs) ≡ ks
 step_kept [] [] [] = refl
 step_kept [] [] (b ∷ bs) = step_kept [] [] bs
 step_kept [] (l ∷ ls) bs = step_kept [] ls bs
 step_kept (k ∷ ks) ls bs = ap (λ l. k ∷ l) (step_kept ks ls bs)
 
-step_sent : (ks : List KeptRecord) (ls : List Letter) (bs : List ℕ) → sent_in (step_actions ks ls bs) ≡ ls
+step_sent : (ks : List StoreChange) (ls : List Letter) (bs : List ℕ) → sent_in (step_actions ks ls bs) ≡ ls
 step_sent [] [] [] = refl
 step_sent [] [] (b ∷ bs) = step_sent [] [] bs
 step_sent [] (l ∷ ls) bs = ap (λ ds. l ∷ ds) (step_sent [] ls bs)
 step_sent (k ∷ ks) ls bs = step_sent ks ls bs
 
-pub step_printed : (ks : List KeptRecord) (ls : List Letter) (bs : List ℕ) → printed_in (step_actions ks ls bs) ≡ bs
+pub step_printed : (ks : List StoreChange) (ls : List Letter) (bs : List ℕ) → printed_in (step_actions ks ls bs) ≡ bs
 step_printed [] [] [] = refl
 step_printed [] [] (b ∷ bs) = ap (λ l. b ∷ l) (step_printed [] [] bs)
 step_printed [] (l ∷ ls) bs = step_printed [] ls bs
@@ -122,7 +122,7 @@ module _ (c : Cluster) where
   linked_took what (Some h) = λ after e. (h, refl, sym (same_Some (with_taken what h) after e) ∙ took_more what h)
 
   -- what a step sends
-  pub linked_step : (ks : List KeptRecord) (ls : List Letter) (bs : List ℕ) (a b : Option LinkHistory) → Asks c ls a b
+  pub linked_step : (ks : List StoreChange) (ls : List Letter) (bs : List ℕ) (a b : Option LinkHistory) → Asks c ls a b
       → Linked c (step_actions ks ls bs) a b
   linked_step ks ls bs a b asks = λ after e.
       let one = asks after e in

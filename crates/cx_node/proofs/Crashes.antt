@@ -1,5 +1,5 @@
--- What a cut event keeps, and the journal of its run.
-use Rattle.std.proofs.Common.{◌≡◌, ◌∙◌, ℕ, Bool, true, List, [], ◌∷◌, ◌++◌, Option, None, Some}
+-- What a cut event keeps, and the store of its run.
+use Rattle.std.proofs.Common.{◌≡◌, ◌∙◌, ℕ, Bool, true, false, List, [], ◌∷◌, ◌++◌, Option, None, Some, Result, is_some}
 use Rattle.std.proofs.Common.{ap, sym, refl, subst, inl, inr, append-nil}
 use Rattle.std.specs.Prelude.{◌-◌, drop, length, map, slice_get}
 use Rattle.std.specs.List.{list_all}
@@ -26,7 +26,7 @@ use Rattle.cx_model.specs.Proxy.{proxy_rules}
 use Rattle.cx_model.specs.Reader.{reader_rules}
 use Rattle.cx_model.specs.Replica.{ReplicaDurable, held, notes_of, pieces, replica_renewed, replica_rules}
 use Rattle.cx_model.specs.Rules.{Rules, folded}
-use Rattle.cx_model.specs.Turn.{turn, turn_with}
+use Rattle.cx_model.specs.Turn.{snap_turn, turn, turn_with}
 use Rattle.cx_model.specs.Unbatcher.{unbatcher_rules}
 use Rattle.cx_model.specs.World.{World, Roles, act_of, change, come, durable_part, kept_by, list_after, list_from, run}
 use Rattle.cx_model.specs.World.{step, turn_at, turn_found}
@@ -36,7 +36,8 @@ use Rattle.cx_inv_run.proofs.KindLaws.{kinds_are_so}
 use Rattle.cx_inv_run.proofs.Members.{Member-second}
 use Rattle.cx_inv_run.proofs.Steps.{run_append}
 use Rattle.cx_msg.specs.Letter.{Letter}
-use Rattle.cx_msg.specs.declared.input.Act.TheVariants.{Give}
+use Rattle.cx_msg.specs.declared.input.Act.{Act}
+use Rattle.cx_msg.specs.declared.input.Act.TheVariants.{Give, Snap}
 use Rattle.cx_msg.specs.declared.input.Input.{Input}
 use Rattle.cx_msg.specs.declared.input.Input.TheVariants as input
 use Rattle.cx_msg.specs.declared.input.KeptRecord.{KeptRecord}
@@ -46,101 +47,141 @@ use Rattle.cx_msg.specs.declared.kept.Record.{Record}
 use Rattle.cx_msg.specs.declared.kept.Record.TheVariants as kept_record
 use Rattle.cx_msg.specs.Records.{fits, record_shape}
 use Rattle.cx_journal.specs.Payload.{all_kept_by, is_kept_by, may_keep}
-use Rattle.cx_journal.specs.State.{IsImageOf}
+use Rattle.cx_disk.specs.declared.disk.Disk.{Ghosts as DiskGhosts}
+use Rattle.cx_journal.specs.Files.{Files, IsStored, files_records, one_told}
+use Rattle.cx_journal.specs.Store.{IsStoreChange, store_told}
+use Rattle.cx_journal.specs.StoreLaw.{both_records, one_records, one_tells}
+use Rattle.cx_journal.specs.declared.store.Store.{Store}
+use Rattle.cx_journal.specs.declared.store.Store.TheVariants.{One, Two}
+use Rattle.cx_journal.proofs.Stores.{two_tell}
+use Rattle.cx_keeper.specs.Keeper.{Append, Change, Renewal, list_after as change_after}
+use Rattle.cx_keeper.specs.declared.keeper.KeepFault.{KeepFault}
 use Rattle.cx_journal.proofs.Gates.{all_kept-push}
 use Rattle.cx_journal.proofs.Payloads.{both_so}
 use Rattle.cx_promises.proofs.Lawful.{lawful}
-use Rattle.cx_node.specs.Stops.{IsOfRun, MayAppend, with_cut}
+use Rattle.cx_node.specs.Stops.{IsOfRun, MayChange, change_for, with_cut}
+use Rattle.cx_node.specs.Stores.{has_second, is_two}
 
--- cut events keep nothing, or the record
-pub record CutKeeps (me : RoleId) (r : Record) (torn kept : List KeptRecord) : Type 0 where
+-- cut events keep nothing, or the change
+pub record CutKeeps (me : RoleId) (what : Written) (torn kept : List KeptRecord) : Type 0 where
   pub lost : torn ≡ []
-  pub kept_too : kept ≡ kept_by me (Some (written.Record r))
+  pub kept_too : kept ≡ kept_by me (Some what)
 
 -- what a row keeps, as a change
 abbrev kept_as : RoleId → Option Record → List KeptRecord
 kept_as to o = kept_by to (option_map written.Record o)
 
-cut_row : {V : Type 0} (to me : RoleId) (r : Record) (k : Option Record) (o : Outcome V) → o.kept ≡ k
-    → kept_by to ((turn_with Whole k o).kept) ≡ kept_by me (Some (written.Record r))
-    → CutKeeps me r (kept_by to ((turn_with Torn k o).kept)) (kept_by to ((turn_with Kept k o).kept))
-cut_row to me r None o is h =
-    let nothing : [] ≡ kept_by me (Some (written.Record r)) = sym (ap (kept_as to) is) ∙ h in
+cut_row : {V : Type 0} (to me : RoleId) (what : Written) (k : Option Record) (o : Outcome V) → o.kept ≡ k
+    → kept_by to ((turn_with Whole k o).kept) ≡ kept_by me (Some what)
+    → CutKeeps me what (kept_by to ((turn_with Torn k o).kept)) (kept_by to ((turn_with Kept k o).kept))
+cut_row to me what None o is h =
+    let nothing : [] ≡ kept_by me (Some what) = sym (ap (kept_as to) is) ∙ h in
     cc
-cut_row to me r (Some own) o is h = record { lost = refl; kept_too = sym (ap (kept_as to) is) ∙ h }
+cut_row to me what (Some own) o is h = record { lost = refl; kept_too = sym (ap (kept_as to) is) ∙ h }
 
-cut_turn : {D V : Type 0} (rules : Rules D V) (c : Cluster) (to me : RoleId) (r : Record) (d : D) (i : Input)
-    (running : Option V)
-    → kept_by to ((turn rules c to d (Give i Whole) running).kept) ≡ kept_by me (Some (written.Record r))
-    → CutKeeps me r (kept_by to ((turn rules c to d (Give i Torn) running).kept))
-    (kept_by to ((turn rules c to d (Give i Kept) running).kept))
-cut_turn rules c to me r d i None h = cc
-cut_turn rules c to me r d i (Some v) h = cut_row to me r ((rules.row c to d v i).kept) (rules.row c to d v i) refl h
+-- what an act leaves that is cut, where the whole one changes the store so
+abbrev Cuts : {D V : Type 0} → Rules D V → Cluster → RoleId → RoleId → Written → D → (Cut → Act) → Type 0
+Cuts {D} {V} rules c to me what d act =
+    (running : Option V) → kept_by to ((turn rules c to d (act Whole) running).kept) ≡ kept_by me (Some what)
+    → CutKeeps me what (kept_by to ((turn rules c to d (act Torn) running).kept))
+    (kept_by to ((turn rules c to d (act Kept) running).kept))
 
-cut_found : {D V : Type 0} (rules : Rules D V) (c : Cluster) (to me : RoleId) (r : Record) (kept : List KeptRecord)
-    (i : Input) (roles : List (Option V)) (o : Option (Option V))
-    → (turn_found rules c to kept (Give i Whole) roles o).kept ≡ kept_by me (Some (written.Record r))
-    → CutKeeps me r ((turn_found rules c to kept (Give i Torn) roles o).kept)
-    ((turn_found rules c to kept (Give i Kept) roles o).kept)
-cut_found rules c to me r kept i roles None h = cc
-cut_found rules c to me r kept i roles (Some running) h =
-    cut_turn rules c to me r (durable_part rules to kept) i running h
+cut_given : {D V : Type 0} (rules : Rules D V) (c : Cluster) (to me : RoleId) (what : Written) (d : D) (i : Input)
+    → Cuts rules c to me what d (Give i)
+cut_given rules c to me what d i None h = cc
+cut_given rules c to me what d i (Some v) h =
+    cut_row to me what ((rules.row c to d v i).kept) (rules.row c to d v i) refl h
 
-cut_at : {D V : Type 0} (rules : Rules D V) (c : Cluster) (to me : RoleId) (r : Record) (kept : List KeptRecord)
+cut_snapped : {D V : Type 0} (rules : Rules D V) (c : Cluster) (to me : RoleId) (what : Written) (d : D)
+    → Cuts rules c to me what d Snap
+cut_snapped {D} {V} rules c to me what d None h = cc
+cut_snapped {D} {V} rules c to me what d (Some v) h = go (rules.snap c to d v) h
+  where
+    go : (o : Option ℕ) → kept_by to ((snap_turn Whole v o).kept) ≡ kept_by me (Some what)
+        → CutKeeps me what (kept_by to ((snap_turn Torn v o).kept)) (kept_by to ((snap_turn Kept v o).kept))
+    go None h = cc
+    go (Some first) h = record { lost = refl; kept_too = h }
+
+cut_found : {D V : Type 0} (rules : Rules D V) (c : Cluster) (to me : RoleId) (what : Written)
+    (kept : List KeptRecord) (act : Cut → Act) → Cuts rules c to me what (durable_part rules to kept) act
+    → (roles : List (Option V)) (o : Option (Option V))
+    → (turn_found rules c to kept (act Whole) roles o).kept ≡ kept_by me (Some what)
+    → CutKeeps me what ((turn_found rules c to kept (act Torn) roles o).kept)
+    ((turn_found rules c to kept (act Kept) roles o).kept)
+cut_found rules c to me what kept act cuts roles None h = cc
+cut_found rules c to me what kept act cuts roles (Some running) h = cuts running h
+
+cut_at : {D V : Type 0} (rules : Rules D V) (c : Cluster) (to me : RoleId) (what : Written) (kept : List KeptRecord)
     (i : Input) (roles : List (Option V))
-    → (turn_at rules c to kept (Give i Whole) roles).kept ≡ kept_by me (Some (written.Record r))
-    → CutKeeps me r ((turn_at rules c to kept (Give i Torn) roles).kept)
+    → (turn_at rules c to kept (Give i Whole) roles).kept ≡ kept_by me (Some what)
+    → CutKeeps me what ((turn_at rules c to kept (Give i Torn) roles).kept)
     ((turn_at rules c to kept (Give i Kept) roles).kept)
-cut_at rules c to me r kept i roles h = cut_found rules c to me r kept i roles (slice_get roles to.index) h
+cut_at rules c to me what kept i roles h =
+    cut_found rules c to me what kept (Give i) (cut_given rules c to me what (durable_part rules to kept) i) roles
+    (slice_get roles to.index) h
 
-cut_act : (c : Cluster) (roles : Roles) (kept : List KeptRecord) (i : Input) (to me : RoleId) (r : Record) (k : Kind)
-    → (act_of c roles kept (Give i Whole) to k).kept ≡ kept_by me (Some (written.Record r))
-    → CutKeeps me r ((act_of c roles kept (Give i Torn) to k).kept) ((act_of c roles kept (Give i Kept) to k).kept)
-cut_act c roles kept i to me r kind.Client h = cc
-cut_act c roles kept i to me r kind.Batcher h = cut_at batcher_rules c to me r kept i roles.batchers h
-cut_act c roles kept i to me r kind.Leader h = cut_at leader_rules c to me r kept i roles.leaders h
-cut_act c roles kept i to me r kind.Proxy h = cut_at proxy_rules c to me r kept i roles.proxies h
-cut_act c roles kept i to me r kind.Acceptor h = cut_at acceptor_rules c to me r kept i roles.acceptors h
-cut_act c roles kept i to me r kind.Matchmaker h = cut_at matchmaker_rules c to me r kept i roles.matchmakers h
-cut_act c roles kept i to me r kind.Replica h = cut_at replica_rules c to me r kept i roles.replicas h
-cut_act c roles kept i to me r kind.Unbatcher h = cut_at unbatcher_rules c to me r kept i roles.unbatchers h
-cut_act c roles kept i to me r kind.Reader h = cut_at reader_rules c to me r kept i roles.readers h
+cut_act : (c : Cluster) (roles : Roles) (kept : List KeptRecord) (i : Input) (to me : RoleId) (what : Written)
+    (k : Kind) → (act_of c roles kept (Give i Whole) to k).kept ≡ kept_by me (Some what)
+    → CutKeeps me what ((act_of c roles kept (Give i Torn) to k).kept) ((act_of c roles kept (Give i Kept) to k).kept)
+cut_act c roles kept i to me what kind.Client h = cc
+cut_act c roles kept i to me what kind.Batcher h = cut_at batcher_rules c to me what kept i roles.batchers h
+cut_act c roles kept i to me what kind.Leader h = cut_at leader_rules c to me what kept i roles.leaders h
+cut_act c roles kept i to me what kind.Proxy h = cut_at proxy_rules c to me what kept i roles.proxies h
+cut_act c roles kept i to me what kind.Acceptor h = cut_at acceptor_rules c to me what kept i roles.acceptors h
+cut_act c roles kept i to me what kind.Matchmaker h = cut_at matchmaker_rules c to me what kept i roles.matchmakers h
+cut_act c roles kept i to me what kind.Replica h = cut_at replica_rules c to me what kept i roles.replicas h
+cut_act c roles kept i to me what kind.Unbatcher h = cut_at unbatcher_rules c to me what kept i roles.unbatchers h
+cut_act c roles kept i to me what kind.Reader h = cut_at reader_rules c to me what kept i roles.readers h
 
-cut_come : (w : World) (me : RoleId) (r : Record) (o : Option Letter) → (come w Whole o).kept ≡ kept_by me (Some (written.Record r))
-    → CutKeeps me r ((come w Torn o).kept) ((come w Kept o).kept)
-cut_come w me r None h = cc
-cut_come w me r (Some d) h = cut_act w.cluster w.roles w.kept (input.Take d) d.to me r d.to.kind h
+cut_come : (w : World) (me : RoleId) (what : Written) (o : Option Letter)
+    → (come w Whole o).kept ≡ kept_by me (Some what)
+    → CutKeeps me what ((come w Torn o).kept) ((come w Kept o).kept)
+cut_come w me what None h = cc
+cut_come w me what (Some d) h = cut_act w.cluster w.roles w.kept (input.Take d) d.to me what d.to.kind h
 
-pub cut_change : (w : World) (e : Event) (me : RoleId) (r : Record) → MayAppend e
-    → (change w (with_cut Whole e)).kept ≡ kept_by me (Some (written.Record r))
-    → CutKeeps me r ((change w (with_cut Torn e)).kept) ((change w (with_cut Kept e)).kept)
-cut_change w (event.Deliver n cut) me r may h = cut_come w me r (slice_get w.sent n) h
-cut_change w (event.Order l order cut) me r may h =
-    cut_act w.cluster w.roles w.kept (input.Order order) (role kind.Leader l) me r kind.Leader h
-cut_change w (event.Snap p cut) me r may h = absurd may
-cut_change w (event.Write command batcher) me r may h = absurd may
-cut_change w (event.Read client seq floor reader replica key) me r may h = absurd may
-cut_change w (event.Tick who) me r may h = absurd may
-cut_change w (event.Crash who) me r may h = absurd may
-cut_change w (event.Restart who) me r may h = absurd may
+pub cut_change : (w : World) (e : Event) (me : RoleId) (what : Written) → MayChange e
+    → (change w (with_cut Whole e)).kept ≡ kept_by me (Some what)
+    → CutKeeps me what ((change w (with_cut Torn e)).kept) ((change w (with_cut Kept e)).kept)
+cut_change w (event.Deliver n cut) me what may h = cut_come w me what (slice_get w.sent n) h
+cut_change w (event.Order l order cut) me what may h =
+    cut_act w.cluster w.roles w.kept (input.Order order) (role kind.Leader l) me what kind.Leader h
+cut_change w (event.Snap p cut) me what may h =
+    let to = role kind.Replica p in
+    cut_found replica_rules w.cluster to me what w.kept Snap
+    (cut_snapped replica_rules w.cluster to me what (durable_part replica_rules to w.kept)) w.roles.replicas
+    (slice_get w.roles.replicas p) h
+cut_change w (event.Write command batcher) me what may h = absurd may
+cut_change w (event.Read client seq floor reader replica key) me what may h = absurd may
+cut_change w (event.Tick who) me what may h = absurd may
+cut_change w (event.Crash who) me what may h = absurd may
+cut_change w (event.Restart who) me what may h = absurd may
 
--- the list in a role's store, after a record of its own
+-- the list in a role's store, after a change of its own
 
 client_keeps : {A : Type 0} (r : Record) → IsKeeper kind.Client r → A
 client_keeps (kept_record.Promise i) k = cc
 client_keeps other k = cc
 
-stored_next : (me : RoleId) (r : Record) (ks : List KeptRecord) (k : Kind) → IsKeeper k r
+stored_record : (me : RoleId) (r : Record) (ks : List KeptRecord) (k : Kind) → IsKeeper k r
     → stored_as me (ks ++ kept_by me (Some (written.Record r))) k ≡ stored_as me ks k ++ r ∷ []
-stored_next me r ks kind.Client is = client_keeps r is
-stored_next me r ks kind.Batcher is = list_own batcher_rules me ks (Some (written.Record r))
-stored_next me r ks kind.Leader is = list_own leader_rules me ks (Some (written.Record r))
-stored_next me r ks kind.Proxy is = list_own proxy_rules me ks (Some (written.Record r))
-stored_next me r ks kind.Acceptor is = list_own acceptor_rules me ks (Some (written.Record r))
-stored_next me r ks kind.Matchmaker is = list_own matchmaker_rules me ks (Some (written.Record r))
-stored_next me r ks kind.Replica is = list_own replica_rules me ks (Some (written.Record r))
-stored_next me r ks kind.Unbatcher is = list_own unbatcher_rules me ks (Some (written.Record r))
-stored_next me r ks kind.Reader is = list_own reader_rules me ks (Some (written.Record r))
+stored_record me r ks kind.Client is = client_keeps r is
+stored_record me r ks kind.Batcher is = list_own batcher_rules me ks (Some (written.Record r))
+stored_record me r ks kind.Leader is = list_own leader_rules me ks (Some (written.Record r))
+stored_record me r ks kind.Proxy is = list_own proxy_rules me ks (Some (written.Record r))
+stored_record me r ks kind.Acceptor is = list_own acceptor_rules me ks (Some (written.Record r))
+stored_record me r ks kind.Matchmaker is = list_own matchmaker_rules me ks (Some (written.Record r))
+stored_record me r ks kind.Replica is = list_own replica_rules me ks (Some (written.Record r))
+stored_record me r ks kind.Unbatcher is = list_own unbatcher_rules me ks (Some (written.Record r))
+stored_record me r ks kind.Reader is = list_own reader_rules me ks (Some (written.Record r))
+
+stored_next : (me : RoleId) (what : Written) (ks : List KeptRecord) (k : Kind) → IsWriter k what
+    → stored_as me (ks ++ kept_by me (Some what)) k
+    ≡ change_after (stored_as me ks k) (change_for (stored_as me ks k) what)
+stored_next me (written.Record r) ks k is = stored_record me r ks k is
+stored_next me (written.Snap first) ks k is =
+    subst (λ (own : Kind). stored_as me (ks ++ kept_by me (Some (written.Snap first))) own
+    ≡ change_after (stored_as me ks own) (change_for (stored_as me ks own) (written.Snap first))) (sym is)
+    (list_own replica_rules me ks (Some (written.Snap first)))
 
 kept_next : (c : Cluster) (es : List Event) (e : Event) → (run c (es ++ e ∷ [])).kept ≡ (run c es).kept
     ++ (change (run c es) e).kept
@@ -226,11 +267,11 @@ own_kept k (r ∷ rs) tagged fit =
     let one = both_so (fits r) true parts.0 in
     rw (one.0, tags.0, own_kept k rs tags.1 parts.1) refl
 
--- the bytes have the list of a run after which the event changed it so
-of_run : (c : Cluster) (es : List Event) (e : Event) (cut : Cut) (me : RoleId) (bytes : List ℕ) (records : List Record)
+-- the files have the list of a run after which the event changed it so
+of_run : (c : Cluster) (es : List Event) (e : Event) (cut : Cut) (me : RoleId) (files : Files) (records : List Record)
     → stored_as me ((run c es).kept ++ (change (run c es) (with_cut cut e)).kept) me.kind ≡ records
-    → all_kept_by None records ≡ true → IsImageOf records bytes → IsOfRun c es e cut me bytes
-of_run c es e cut me bytes records is fit image =
+    → all_kept_by None records ≡ true → IsStored records files → IsOfRun c es e cut me files
+of_run c es e cut me files records is fit stored =
     let all = es ++ with_cut cut e ∷ [] in
     let here : stored_as me ((run c all).kept) me.kind ≡ records =
     ap (λ (ks : List KeptRecord). stored_as me ks me.kind) (kept_next c es (with_cut cut e)) ∙ is in
@@ -238,49 +279,77 @@ of_run c es e cut me bytes records is fit image =
     (stored_tagged me (run c all).kept (kinds_are_so.keepers c all) me.kind)
     (subst (λ (rs : List Record). all_kept_by None rs ≡ true) (sym here) fit) in
     record {
-      journal = subst (λ (rs : List Record). IsImageOf rs bytes) (sym here) image
-          (Some me.kind) own;
+      stored = subst (λ (rs : List Record). IsStored rs files) (sym here) stored (Some me.kind) own;
       lawful = lawful c all;
     }
 
-pub lost_of_run : (c : Cluster) (es : List Event) (e : Event) (me : RoleId) (r : Record) (bytes : List ℕ) → MayAppend e
-    → (change (run c es) (with_cut Whole e)).kept ≡ kept_by me (Some (written.Record r))
-    → all_kept_by None (stored_as me (run c es).kept me.kind) ≡ true
-    → IsImageOf (stored_as me (run c es).kept me.kind) bytes → IsOfRun c es e Torn me bytes
-lost_of_run c es e me r bytes may next fit image =
-    let keeps = cut_change (run c es) e me r may next in
-    of_run c es e Torn me bytes _ (ap (λ (ks : List KeptRecord). stored_as me ((run c es).kept ++ ks) me.kind) keeps.lost
-    ∙ ap (λ (ks : List KeptRecord). stored_as me ks me.kind) (append-nil (run c es).kept)) fit image
+module _ (c : Cluster) (es : List Event) (e : Event) (me : RoleId) (what : Written) (files : Files)
+    (next : (change (run c es) (with_cut Whole e)).kept ≡ kept_by me (Some what)) where
+  abbrev list : List Record
+  list = stored_as me (run c es).kept me.kind
 
--- the record is of the role's kind, since the event is one of a run
-own_record : (c : Cluster) (es : List Event) (e : Event) (cut : Cut) (me : RoleId) (r : Record)
-    → (change (run c es) (with_cut cut e)).kept ≡ kept_by me (Some (written.Record r)) → IsKeeper me.kind r
-own_record c es e cut me r next =
-    let k : KeptRecord = record { role = me; what = written.Record r } in
-    kinds_are_so.keepers c (es ++ with_cut cut e ∷ []) k
-    (subst (λ (ks : List KeptRecord). Member k ks) (sym (kept_next c es (with_cut cut e)))
-    (Member-second k (run c es).kept (change (run c es) (with_cut cut e)).kept
-    (subst (λ (ks : List KeptRecord). Member k ks) (sym next) (inl refl))))
+  -- the change is one of the role's kind, since the event is one of a run
+  pub own_writer : IsWriter me.kind what
+  own_writer =
+      let k : KeptRecord = record { role = me; what = what } in
+      kinds_are_so.keepers c (es ++ with_cut Whole e ∷ []) k
+      (subst (λ (ks : List KeptRecord). Member k ks) (sym (kept_next c es (with_cut Whole e)))
+      (Member-second k (run c es).kept (change (run c es) (with_cut Whole e)).kept
+      (subst (λ (ks : List KeptRecord). Member k ks) (sym next) (inl refl))))
 
-with_record : (c : Cluster) (es : List Event) (e : Event) (cut : Cut) (me : RoleId) (r : Record) (bytes : List ℕ)
-    → (change (run c es) (with_cut cut e)).kept ≡ kept_by me (Some (written.Record r))
-    → all_kept_by None (stored_as me (run c es).kept me.kind) ≡ true → fits r ≡ true
-    → IsImageOf (stored_as me (run c es).kept me.kind ++ r ∷ []) bytes → IsOfRun c es e cut me bytes
-with_record c es e cut me r bytes next fit in_range image =
-    let one : is_kept_by None r ≡ true = rw in_range refl in
-    of_run c es e cut me bytes _ (ap (λ (ks : List KeptRecord). stored_as me ((run c es).kept ++ ks) me.kind) next
-    ∙ stored_next me r (run c es).kept me.kind (own_record c es e cut me r next))
-    (all_kept-push None (stored_as me (run c es).kept me.kind) r fit one) image
+  changed : (cut : Cut) → (change (run c es) (with_cut cut e)).kept ≡ kept_by me (Some what)
+      → all_kept_by None (change_after list (change_for list what)) ≡ true
+      → IsStored (change_after list (change_for list what)) files → IsOfRun c es e cut me files
+  changed cut kept fit stored =
+      of_run c es e cut me files _ (ap (λ (ks : List KeptRecord). stored_as me ((run c es).kept ++ ks) me.kind) kept
+      ∙ stored_next me what (run c es).kept me.kind own_writer) fit stored
 
-pub kept_of_run : (c : Cluster) (es : List Event) (e : Event) (me : RoleId) (r : Record) (bytes : List ℕ) → MayAppend e
-    → (change (run c es) (with_cut Whole e)).kept ≡ kept_by me (Some (written.Record r))
-    → all_kept_by None (stored_as me (run c es).kept me.kind) ≡ true → fits r ≡ true
-    → IsImageOf (stored_as me (run c es).kept me.kind ++ r ∷ []) bytes → IsOfRun c es e Kept me bytes
-kept_of_run c es e me r bytes may next fit in_range image =
-    with_record c es e Kept me r bytes (cut_change (run c es) e me r may next).kept_too fit in_range image
+  pub lost_of_run : MayChange e → all_kept_by None list ≡ true → IsStored list files → IsOfRun c es e Torn me files
+  lost_of_run may fit stored =
+      let keeps = cut_change (run c es) e me what may next in
+      of_run c es e Torn me files _
+      (ap (λ (ks : List KeptRecord). stored_as me ((run c es).kept ++ ks) me.kind) keeps.lost
+      ∙ ap (λ (ks : List KeptRecord). stored_as me ks me.kind) (append-nil (run c es).kept)) fit stored
 
-pub whole_of_run : (c : Cluster) (es : List Event) (e : Event) (me : RoleId) (r : Record) (bytes : List ℕ)
-    → (change (run c es) (with_cut Whole e)).kept ≡ kept_by me (Some (written.Record r))
-    → all_kept_by None (stored_as me (run c es).kept me.kind) ≡ true → fits r ≡ true
-    → IsImageOf (stored_as me (run c es).kept me.kind ++ r ∷ []) bytes → IsOfRun c es e Whole me bytes
-whole_of_run c es e me r bytes next fit in_range image = with_record c es e Whole me r bytes next fit in_range image
+  pub kept_of_run : MayChange e → all_kept_by None (change_after list (change_for list what)) ≡ true
+      → IsStored (change_after list (change_for list what)) files → IsOfRun c es e Kept me files
+  kept_of_run may = changed Kept (cut_change (run c es) e me what may next).kept_too
+
+  pub whole_of_run : all_kept_by None (change_after list (change_for list what)) ≡ true
+      → IsStored (change_after list (change_for list what)) files → IsOfRun c es e Whole me files
+  whole_of_run = changed Whole next
+
+-- only a list over two disks is put anew
+pub renews_two : (list : List Record) (what : Written) (k : Kind) (two : Bool) → IsWriter k what → two ≡ has_second k
+    → (records : List Record) → change_for list what ≡ Renewal records → two ≡ true
+renews_two list (written.Record r) k two is sides records e = cc
+renews_two list (written.Snap first) k two is sides records e = sides ∙ ap has_second is
+
+-- where the list's records are in their ranges, they are after a change
+module _ {D : Type 0} (by : DiskGhosts D) where
+  abbrev told : Store D → Option Files
+  told s = store_told by.seen s
+
+  pub store_fits : (old : Store D) (ask : Change) (answer : Result (Unit {0}) KeepFault) (new : Store D)
+      → IsStoreChange by old ask answer new → is_some (told old) ≡ true
+      → ((records : List Record) → ask ≡ Renewal records → is_two old ≡ true)
+      → (all_kept_by None (files_records (told old)) ≡ true)
+      × (all_kept_by None (change_after (files_records (told old)) ask) ≡ true)
+  store_fits (One old) (Append r) answer (One new) is known two =
+      let fit : all_kept_by None (files_records (one_told (by.seen old.disk))) ≡ true =
+      ap (λ rs. all_kept_by None rs) (one_records (by.seen old.disk))
+      ∙ is.old_fit (sym (one_tells (by.seen old.disk)) ∙ known) in
+      let one : is_kept_by None r ≡ true = rw is.new_fits refl in
+      (fit, all_kept-push None (files_records (one_told (by.seen old.disk))) r fit one)
+  store_fits (One old) (Renewal records) answer (One new) is known two = absurd (differ (two records refl))
+    where
+      differ : ◌≡◌ {A = Bool} false true → ⊥
+      differ e = cc
+  store_fits (Two old) ask answer (Two new) is known two =
+      let both = two_tell by.seen old known in
+      let same = both_records (by.seen old.first) (by.seen old.second) in (
+        ap (λ rs. all_kept_by None rs) same ∙ is.fit both,
+        ap (λ rs. all_kept_by None (change_after rs ask)) same ∙ is.fit_after both,
+      )
+  store_fits (One old) ask answer (Two new) is known two = absurd is
+  store_fits (Two old) ask answer (One new) is known two = absurd is

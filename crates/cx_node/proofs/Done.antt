@@ -6,13 +6,11 @@ use Rattle.std.proofs.lemmas.Grind.{flat_map-append}
 use Rattle.std.proofs.lemmas.Option.{none-some, same_Some, slice_get-map}
 use Rattle.std.specs.Io.KnownBytes.{Appends}
 use Rattle.cx_base.specs.declared.cluster.Cluster.{Cluster}
-use Rattle.cx_msg.specs.declared.input.KeptRecord.{KeptRecord}
-use Rattle.cx_msg.specs.declared.input.Written.TheVariants as written
-use Rattle.cx_role.specs.Role.{Appending}
 use Rattle.cx_node.specs.declared.guest.Guest.{Guest}
 use Rattle.cx_node.specs.declared.node.Stop.{Stop}
 use Rattle.cx_node.specs.declared.node.Stop.TheVariants as stop
 use Rattle.cx_node.specs.Action.{Action, Kept, Took, kept_as, kept_in, printed_by, printed_in}
+use Rattle.cx_node.specs.Changing.{Changing, StoreChange}
 use Rattle.cx_node.specs.Doing.{Did, DidPart, Does, GuestsGrow, GuestsRest, Scene, StopsAt, scene}
 use Rattle.cx_node.specs.Guest.{GuestGrows, Rests, hosted_in, keeper_of, who}
 use Rattle.cx_node.specs.Hosted.{Hosted}
@@ -35,8 +33,8 @@ same_at f xs ys i x y same p q =
     same_Some (f y) (f x) (ap (option_map f) (sym q) ∙ sym (slice_get-map f ys i) ∙ ap (λ l. slice_get l i) same
     ∙ slice_get-map f xs i ∙ ap (option_map f) p)
 
-module _ {K : Type 0} (gives : Appending K) where
-  guests_then : (ks ls : List KeptRecord) (gs bs ds : List (Guest K)) → map who bs ≡ map who gs
+module _ {K : Type 0} (gives : Changing K) where
+  guests_then : (ks ls : List StoreChange) (gs bs ds : List (Guest K)) → map who bs ≡ map who gs
       → GuestsGrow gives ks gs bs → GuestsGrow gives ls bs ds → GuestsGrow gives (ks ++ ls) gs ds
   guests_then ks ls gs bs ds same p q = (
     q.0 ∙ p.0,
@@ -100,7 +98,7 @@ module _ {K : Type 0} (gives : Appending K) where
     stops_as stop.NoMemory o n gs bs more s = s
     stops_as stop.WriteFault o n gs bs more s = s
     stops_as stop.LinkFault o n gs bs more s = ((s.0.0, more (Took s.0.0) s.0.1), s.1)
-    stops_as (stop.StoreFault role) o n gs bs more s = (s.0, more (Kept (record { role = role; what = written.Record s.0 })) s.1, s.2)
+    stops_as (stop.StoreFault role) o n gs bs more s = (s.0, more (Kept (record { role = role; change = s.0 })) s.1, s.2)
 
     -- it stopped, and what was to come wasn't done
     pub part_then : (xs ys : List Action) (e : Stop) (a b : Scene K) → DidPart gives c xs e a b

@@ -1,6 +1,6 @@
 -- The first role whose store is none of its own: opening stops at it, and it is one role, bad at one place.
-use Rattle.std.proofs.Common.{◌≡◌, ◌⊎◌, ◌<◌, ◌≤◌, ℕ, arith, true, List, length, take, get_or, Option, None, Some}
-use Rattle.std.proofs.Common.{Bool, Ok, Err, sym, ap, ◌∙◌, subst, inl, inr}
+use Rattle.std.proofs.Common.{◌≡◌, ◌⊎◌, ◌<◌, ◌≤◌, ◌++◌, ℕ, arith, true, List, length, take, get_or, Option, None}
+use Rattle.std.proofs.Common.{Some, Bool, Ok, Err, sym, ap, ◌∙◌, subst, inl, inr}
 use Rattle.std.specs.Prelude.{slice_get}
 use Rattle.std.proofs.lemmas.Option.{same_Some, slice_get_cases}
 use Rattle.cx_base.specs.declared.cluster.Cluster.{Cluster}
@@ -9,10 +9,11 @@ use Rattle.cx_base.specs.declared.role.Kind.{Kind}
 use Rattle.cx_base.specs.declared.role.Kind.TheVariants.{Client, Batcher, Leader, Proxy, Acceptor, Matchmaker}
 use Rattle.cx_base.specs.declared.role.Kind.TheVariants.{Replica, Unbatcher, Reader}
 use Rattle.cx_base.specs.declared.role.RoleId.{RoleId}
+use Rattle.cx_journal.specs.Files.{Files, front_in}
 use Rattle.cx_journal.specs.Image.{Image}
 use Rattle.cx_journal.specs.Journal.{frames}
 use Rattle.cx_journal.specs.Payload.{payloads}
-use Rattle.cx_journal.specs.State.{JournalState}
+use Rattle.cx_journal.specs.declared.store.Store.{Store}
 use Rattle.cx_model.specs.Acceptor.{acceptor_rules}
 use Rattle.cx_model.specs.Leader.{leader_rules}
 use Rattle.cx_model.specs.Matchmaker.{matchmaker_rules}
@@ -35,35 +36,35 @@ same_place a b e = cc
 same_records : (rs ts : List Record) → ◌≡◌ {A = Image} (Ok rs) (Ok ts) → rs ≡ ts
 same_records rs ts e = cc
 
-bad_once : {D V : Type 0} (rules : Rules D V) (c : Cluster) (me : RoleId) (file : List ℕ) (a b : ℕ)
-    → IsBadStore rules c me file a → IsBadStore rules c me file b → a ≡ b
-bad_once rules c me file a b (inl p) (inl q) = same_place a b (sym p ∙ q)
-bad_once rules c me file a b (inl p) (inr q) = ok_is_err q.0 a (sym q.1 ∙ p)
-bad_once rules c me file a b (inr p) (inl q) = ok_is_err p.0 b (sym p.1 ∙ q)
-bad_once rules c me file a b (inr p) (inr q) =
+bad_once : {D V : Type 0} (rules : Rules D V) (c : Cluster) (me : RoleId) (files : Files) (a b : ℕ)
+    → IsBadStore rules c me files a → IsBadStore rules c me files b → a ≡ b
+bad_once rules c me files a b (inl p) (inl q) = same_place a b (sym p ∙ q)
+bad_once rules c me files a b (inl p) (inr q) = ok_is_err q.0 a (sym q.1 ∙ p)
+bad_once rules c me files a b (inr p) (inl q) = ok_is_err p.0 b (sym p.1 ∙ q)
+bad_once rules c me files a b (inr p) (inr q) =
     let records : p.0 ≡ q.0 = same_records p.0 q.0 (sym p.1 ∙ q.1) in
     let index : p.2 ≡ q.2 = same_Some p.2 q.2 (sym p.3 ∙ ap (refused rules c me) records ∙ q.3) in
-    p.4 ∙ ap (λ (rs : List Record). length (frames (payloads (take p.2 rs)))) records
-    ∙ ap (λ (i : ℕ). length (frames (payloads (take i q.0)))) index ∙ sym q.4
+    p.4 ∙ ap (λ (rs : List Record). length (front_in files ++ frames (payloads (take p.2 rs)))) records
+    ∙ ap (λ (i : ℕ). length (front_in files ++ frames (payloads (take i q.0)))) index ∙ sym q.4
 
-bad_as_once : (c : Cluster) (me : RoleId) (file : List ℕ) (a b : ℕ) (k : Kind) → IsBadAs c me file a k
-    → IsBadAs c me file b k → a ≡ b
-bad_as_once c me file a b Client p q = absurd p
-bad_as_once c me file a b Batcher p q = absurd p
-bad_as_once c me file a b Leader p q = bad_once leader_rules c me file a b p q
-bad_as_once c me file a b Proxy p q = absurd p
-bad_as_once c me file a b Acceptor p q = bad_once acceptor_rules c me file a b p q
-bad_as_once c me file a b Matchmaker p q = bad_once matchmaker_rules c me file a b p q
-bad_as_once c me file a b Replica p q = bad_once replica_rules c me file a b p q
-bad_as_once c me file a b Unbatcher p q = absurd p
-bad_as_once c me file a b Reader p q = absurd p
+bad_as_once : (c : Cluster) (me : RoleId) (files : Files) (a b : ℕ) (k : Kind) → IsBadAs c me files a k
+    → IsBadAs c me files b k → a ≡ b
+bad_as_once c me files a b Client p q = absurd p
+bad_as_once c me files a b Batcher p q = absurd p
+bad_as_once c me files a b Leader p q = bad_once leader_rules c me files a b p q
+bad_as_once c me files a b Proxy p q = absurd p
+bad_as_once c me files a b Acceptor p q = bad_once acceptor_rules c me files a b p q
+bad_as_once c me files a b Matchmaker p q = bad_once matchmaker_rules c me files a b p q
+bad_as_once c me files a b Replica p q = bad_once replica_rules c me files a b p q
+bad_as_once c me files a b Unbatcher p q = absurd p
+bad_as_once c me files a b Reader p q = absurd p
 
 -- ---- one role
 
 by_order : (m n : ℕ) → (m < n) ⊎ ((m ≡ n) ⊎ (n < m))
 by_order m n = grind arith
 
-pub one_first : (roles : List RoleId) (c : Cluster) (held : RoleId → List ℕ) (role other : RoleId) (a b : ℕ)
+pub one_first : (roles : List RoleId) (c : Cluster) (held : RoleId → Files) (role other : RoleId) (a b : ℕ)
     → IsFirstBad roles c held role a → IsFirstBad roles c held other b → (role ≡ other) × (a ≡ b)
 one_first roles c held role other a b one two = go (by_order one.place two.place)
   where
@@ -81,8 +82,8 @@ one_first roles c held role other a b one two = go (by_order one.place two.place
 
 -- Behind roles that were opened, one whose store is none of its own is the first.
 pub first_bad : {S : Type 0} (seen : S → Option (List ℕ)) (disk_faults : S → ℕ) (c : Cluster) (window : ℕ)
-    (events : List Event) (tells : Bool) (held : RoleId → List ℕ) (roles : List RoleId)
-    (guests : List (Guest (JournalState S)))
+    (events : List Event) (tells : Bool) (held : RoleId → Files) (roles : List RoleId)
+    (guests : List (Guest (Store S)))
     → AreOpened seen disk_faults c window events tells held roles guests → tells ≡ true → (role : RoleId) (at : ℕ)
     → slice_get roles (length guests) ≡ Some role → IsBadAs c role (held role) at role.kind
     → IsFirstBad roles c held role at
@@ -95,7 +96,7 @@ first_bad {S} seen disk_faults c window events tells held roles guests all t rol
   where
     own : (i : ℕ) (other : RoleId) (fault : ℕ) → i < length guests → slice_get roles i ≡ Some other
         → IsBadAs c other (held other) fault other.kind
-        → ((g : Guest (JournalState S)) × (i < length guests) × (slice_get guests i ≡ Some g)
+        → ((g : Guest (Store S)) × (i < length guests) × (slice_get guests i ≡ Some g)
         × (get_or guests i g ≡ g)) ⊎ ((length guests ≤ i) × (slice_get guests i ≡ None)) → ⊥
     own i other fault before there is (inl g) =
         let o = all i g.0 g.2 in

@@ -1,214 +1,249 @@
--- What a depot holds and counts when the stores of roles were given back.
-use Rattle.std.proofs.Common.{◌≡◌, ◌≤◌, ℕ, zero, suc, arith, true, List, [], ◌∷◌, length, refl, sym, ap, subst, ◌∙◌}
-use Rattle.std.proofs.Common.{Option, None, Some, inl, inr, slice_get, option_map, is_some, if◌then◌else◌}
+-- What a depot holds and counts when the disks of roles were given back.
+use Rattle.std.proofs.Common.{◌≡◌, ◌≤◌, ◌⊎◌, ℕ, zero, suc, arith, true, List, [], ◌∷◌, ◌++◌, length, refl, sym, ap, subst, ◌∙◌}
+use Rattle.std.proofs.Common.{Option, None, Some, inl, inr, slice_get, option_map}
 use Rattle.std.proofs.lemmas.Bool.{cases_Bool}
-use Rattle.std.proofs.lemmas.Option.{slice_get-map}
+use Rattle.std.proofs.lemmas.List.{map-append}
+use Rattle.std.proofs.lemmas.Option.{none-some, same_Some, slice_get-map}
 use Rattle.cx_base.specs.declared.role.RoleId.{RoleId}
 use Rattle.cx_base.specs.Faults.{Rises}
 use Rattle.cx_base.specs.Role.{same_role}
+use Rattle.cx_edge.proofs.ShelfLaws.{same_shelf-itself}
 use Rattle.cx_edge.specs.Depot.{IsOut, without}
+use Rattle.cx_edge.specs.Shelf.{shelf}
+use Rattle.cx_edge.specs.declared.shelf.Shelf.{Shelf}
+use Rattle.cx_journal.specs.declared.store.Store.{Store}
+use Rattle.cx_journal.specs.declared.store.Store.TheVariants.{One, Two}
 use Rattle.cx_journal.specs.State.{JournalState}
-use Rattle.cx_model.specs.Lists.{same_role-true, same_role-itself}
+use Rattle.cx_journal.specs.Twin.{TwinState}
+use Rattle.cx_model.specs.Lists.{same_role-true}
 use Rattle.cx_node.specs.declared.guest.Guest.{Guest}
 use Rattle.cx_node.proofs.Lent.{others_differ}
-use Rattle.cx_node.proofs.StoresBack.{Shown, GivesBack, GiveBack}
+use Rattle.cx_node.proofs.StoredRecords.{role_of_disk}
+use Rattle.cx_node.proofs.StoresBack.{Shown, IsGivenBack, GiveBack}
 use Rattle.cx_node.specs.Guest.{AreDistinct, hosted_in, hosted_of, keeper_of, who}
-use Rattle.cx_node.specs.Opening.{lent_to}
+use Rattle.cx_node.specs.Opening.{disks_in, lent_to}
+use Rattle.cx_node.specs.Stores.{Lent, disks_of, places_of}
 
 pub no_items : {T : Type 0} (xs : List T) (n : ℕ) → length xs ≡ n → n ≡ 0 → xs ≡ []
 no_items [] n size none = refl
 no_items (x ∷ xs) n size none = absurd (omega (arith, size, none))
 
+-- ---- places
+
+zero_is_suc : (i : ℕ) → zero ≡ suc i → ⊥
+zero_is_suc i e = cc
+
+less_one : (i j : ℕ) → suc i ≡ suc j → i ≡ j
+less_one i j e = cc
+
+-- no two of these disks have one place
+abbrev Apart : {S : Type 0} → List (Lent S) → Type 0
+Apart [] = Unit {0}
+Apart {S} (l ∷ ls) = ((i : ℕ) (m : Lent S) → slice_get ls i ≡ Some m → m.place ≡ l.place → ⊥) × Apart ls
+
+hosted_at : {K : Type 0} (gs : List (Guest K)) (i : ℕ) (g : Guest K) → slice_get gs i ≡ Some g
+    → slice_get (hosted_in gs) i ≡ Some (hosted_of g)
+hosted_at gs i g at = slice_get-map hosted_of gs i ∙ ap (option_map hosted_of) at
+
+module _ {S : Type 0} where
+  -- a disk is of this role, or of those that follow
+  role_or_rest : (me : RoleId) (o : Option (Store S)) (rest : List (Lent S)) (i : ℕ) (m : Lent S)
+      → slice_get (disks_of me o ++ rest) i ≡ Some m
+      → ((n : ℕ) × (slice_get (disks_of me o) n ≡ Some m)) ⊎ ((k : ℕ) × (slice_get rest k ≡ Some m))
+  role_or_rest me None rest i m at = inr (i, at)
+  role_or_rest me (Some (One j)) rest zero m at = inl (0, at)
+  role_or_rest me (Some (One j)) rest (suc i) m at = inr (i, at)
+  role_or_rest me (Some (Two t)) rest zero m at = inl (0, at)
+  role_or_rest me (Some (Two t)) rest (suc zero) m at = inl (1, at)
+  role_or_rest me (Some (Two t)) rest (suc (suc i)) m at = inr (i, at)
+
+  -- each disk is one of some role's
+  pub lender : (gs : List (Guest (Store S))) (i : ℕ) (m : Lent S) → slice_get (disks_in gs) i ≡ Some m
+      → (k : ℕ) × (g : Guest (Store S)) × (n : ℕ) × (slice_get gs k ≡ Some g)
+      × (slice_get (disks_of (who g) (keeper_of g)) n ≡ Some m)
+  lender [] i m at = absurd (none-some m at)
+  lender (g ∷ gs) i m at = go (lender gs) (role_or_rest (who g) (keeper_of g) (disks_in gs) i m at)
+    where
+      go : ((k : ℕ) (d : Lent S) → slice_get (disks_in gs) k ≡ Some d → (l : ℕ) × (h : Guest (Store S)) × (n : ℕ)
+          × (slice_get gs l ≡ Some h) × (slice_get (disks_of (who h) (keeper_of h)) n ≡ Some d))
+          → ((n : ℕ) × (slice_get (disks_of (who g) (keeper_of g)) n ≡ Some m))
+          ⊎ ((k : ℕ) × (slice_get (disks_in gs) k ≡ Some m))
+          → (k : ℕ) × (h : Guest (Store S)) × (n : ℕ) × (slice_get (g ∷ gs) k ≡ Some h)
+          × (slice_get (disks_of (who h) (keeper_of h)) n ≡ Some m)
+      go rest (inl own) = (0, g, own.0, refl, own.1)
+      go rest (inr later) = let p = rest later.0 m later.1 in (suc p.0, p.1, p.2, p.3, p.4)
+
+  in_front : (xs ys : List (Lent S)) (n : ℕ) (m : Lent S) → slice_get xs n ≡ Some m → slice_get (xs ++ ys) n ≡ Some m
+  in_front [] ys n m at = absurd (none-some m at)
+  in_front (x ∷ xs) ys zero m at = at
+  in_front (x ∷ xs) ys (suc n) m at = in_front xs ys n m at
+
+  in_rest : (xs ys : List (Lent S)) (n : ℕ) (m : Lent S) → slice_get ys n ≡ Some m
+      → (k : ℕ) × (slice_get (xs ++ ys) k ≡ Some m)
+  in_rest [] ys n m at = (n, at)
+  in_rest (x ∷ xs) ys n m at = let p = in_rest xs ys n m at in (suc p.0, p.1)
+
+  -- and the disks of each role are among them
+  pub lent_at : (gs : List (Guest (Store S))) (i : ℕ) (g : Guest (Store S)) (n : ℕ) (m : Lent S)
+      → slice_get gs i ≡ Some g → slice_get (disks_of (who g) (keeper_of g)) n ≡ Some m
+      → (k : ℕ) × (slice_get (disks_in gs) k ≡ Some m)
+  lent_at [] i g n m at own = absurd (none-some g at)
+  lent_at (h ∷ gs) zero g n m at own = (
+    n,
+    in_front (disks_of (who h) (keeper_of h)) (disks_in gs) n m
+        (ap (λ (x : Guest (Store S)). slice_get (disks_of (who x) (keeper_of x)) n) (same_Some h g at) ∙ own),
+  )
+  lent_at (h ∷ gs) (suc i) g n m at own =
+      let p = lent_at gs i g n m at own in in_rest (disks_of (who h) (keeper_of h)) (disks_in gs) p.0 m p.1
+
+  pub apart_disks : (gs : List (Guest (Store S))) → AreDistinct (hosted_in gs) → Apart (disks_in gs)
+  apart_disks [] distinct = tt
+  apart_disks (g ∷ gs) distinct =
+      front (apart_disks gs (λ m n a b x y e. less_one m n (distinct (suc m) (suc n) a b x y e))) (keeper_of g)
+    where
+      other : (i : ℕ) (m : Lent S) → slice_get (disks_in gs) i ≡ Some m → m.place.role ≡ who g → ⊥
+      other i m at same =
+          let p = lender gs i m at in
+          zero_is_suc p.0 (distinct zero (suc p.0) (hosted_of g) (hosted_of p.1) refl (hosted_at gs p.0 p.1 p.3)
+          (sym same ∙ role_of_disk (who p.1) (keeper_of p.1) p.2 m p.4))
+
+      one_is_zero : (a b : Shelf) → a ≡ b → a.side ≡ 1 → b.side ≡ 0 → ⊥
+      one_is_zero a b e p q = cc
+
+      front : Apart (disks_in gs) → (o : Option (Store S)) → Apart (disks_of (who g) o ++ disks_in gs)
+      front rest None = rest
+      front rest (Some (One j)) = (λ i m at same. other i m at (ap (λ (p : Shelf). p.role) same), rest)
+      front rest (Some (Two t)) = (first, (λ i m at same. other i m at (ap (λ (p : Shelf). p.role) same), rest))
+        where
+          first : (i : ℕ) (m : Lent S)
+              → slice_get (record { place = shelf (who g) 1; disk = t.second } ∷ disks_in gs) i ≡ Some m
+              → m.place ≡ shelf (who g) 0 → ⊥
+          first zero m at same =
+              one_is_zero (shelf (who g) 1) (shelf (who g) 0)
+              (ap (λ (l : Lent S). l.place) (same_Some _ m at) ∙ same) refl refl
+          first (suc i) m at same = other i m at (ap (λ (p : Shelf). p.role) same)
+
+-- ---- what is held, and the counts
+
+rises_on : (a b c : ℕ) → Rises a b → b ≤ c → Rises a c
+rises_on a b c rose later = grind arith
+
+rises_from : (a b c : ℕ) → a ≤ b → Rises b c → Rises a c
+rises_from a b c later rose = grind arith
+
 module _ {D S : Type 0} (shown : Shown D S) where
-  told_once : (role : RoleId) (k : Option (JournalState S)) (old new : D) → GivesBack shown role k old new
-      → shown.tells new ≡ shown.tells old
-  told_once role None old new same = ap shown.tells same
-  told_once role (Some j) old new back = back.told
-
-  pub told_all : (gs : List (Guest (JournalState S))) (old new : D) → GiveBack shown gs old new
-      → shown.tells new ≡ shown.tells old
+  pub told_all : (ls : List (Lent S)) (old new : D) → GiveBack shown ls old new → shown.tells new ≡ shown.tells old
   told_all [] old new same = ap shown.tells same
-  told_all (g ∷ gs) old new (mid, first, rest) =
-      told_all gs mid new rest ∙ told_once (who g) (keeper_of g) old mid first
+  told_all (l ∷ ls) old new (mid, first, rest) = told_all ls mid new rest ∙ first.told
 
-  later_once : (role : RoleId) (k : Option (JournalState S)) (old new : D) → GivesBack shown role k old new
-      → (a : RoleId) → shown.faults old a ≤ shown.faults new a
-  later_once role None old new same a = omega (arith, ap (λ (d : D). shown.faults d a) same)
-  later_once role (Some j) old new back a = elim (cases_Bool (same_role a role)) [
+  later_once : (l : Lent S) (old new : D) → IsGivenBack shown l old new → (a : RoleId)
+      → shown.faults old a ≤ shown.faults new a
+  later_once l old new back a = elim (cases_Bool (same_role a l.place.role)) [
     | inl is ↦ subst (λ (b : RoleId). shown.faults old b ≤ shown.faults new b)
-        (sym (same_role-true a role is)) back.later
-    | inr other ↦ omega (arith, back.others a (others_differ a role other))
+        (sym (same_role-true a l.place.role is)) back.later
+    | inr other ↦ omega (arith, back.others a (others_differ a l.place.role other))
   ]
 
-  pub later_all : (gs : List (Guest (JournalState S))) (old new : D) → GiveBack shown gs old new → (a : RoleId)
+  pub later_all : (ls : List (Lent S)) (old new : D) → GiveBack shown ls old new → (a : RoleId)
       → shown.faults old a ≤ shown.faults new a
   later_all [] old new same a = omega (arith, ap (λ (d : D). shown.faults d a) same)
-  later_all (g ∷ gs) old new (mid, first, rest) a =
-      omega (arith, later_once (who g) (keeper_of g) old mid first a, later_all gs mid new rest a)
+  later_all (l ∷ ls) old new (mid, first, rest) a =
+      omega (arith, later_once l old mid first a, later_all ls mid new rest a)
 
-  others_once : (role : RoleId) (k : Option (JournalState S)) (old new : D) → GivesBack shown role k old new
-      → (a : RoleId) → ((j : JournalState S) → k ≡ Some j → role ≡ a → ⊥) → shown.held new a ≡ shown.held old a
-  others_once role None old new same a other = ap (λ (d : D). shown.held d a) same
-  others_once role (Some j) old new back a other = back.others_held a (λ e. other j refl (sym e))
-
-  pub others_all : (gs : List (Guest (JournalState S))) (old new : D) → GiveBack shown gs old new
-      → (a : RoleId) → ((i : ℕ) (g : Guest (JournalState S)) (j : JournalState S) → slice_get gs i ≡ Some g
-      → keeper_of g ≡ Some j → who g ≡ a → ⊥)
-      → shown.held new a ≡ shown.held old a
+  pub others_all : (ls : List (Lent S)) (old new : D) → GiveBack shown ls old new → (a : Shelf)
+      → ((i : ℕ) (l : Lent S) → slice_get ls i ≡ Some l → l.place ≡ a → ⊥) → shown.held new a ≡ shown.held old a
   others_all [] old new same a other = ap (λ (d : D). shown.held d a) same
-  others_all (g ∷ gs) old new (mid, first, rest) a other =
-      others_all gs mid new rest a (λ i. other (suc i))
-      ∙ others_once (who g) (keeper_of g) old mid first a (λ j. other 0 g j refl)
+  others_all (l ∷ ls) old new (mid, first, rest) a other =
+      others_all ls mid new rest a (λ i. other (suc i)) ∙ first.others_held a (λ e. other 0 l refl (sym e))
 
-  counts_once : (role : RoleId) (k : Option (JournalState S)) (old new : D) → GivesBack shown role k old new
-      → (a : RoleId) → ((j : JournalState S) → k ≡ Some j → role ≡ a → ⊥) → shown.faults new a ≡ shown.faults old a
-  counts_once role None old new same a other = ap (λ (d : D). shown.faults d a) same
-  counts_once role (Some j) old new back a other = back.others a (λ e. other j refl (sym e))
+  pub held_all : (ls : List (Lent S)) (old new : D) → GiveBack shown ls old new → Apart ls → shown.tells old ≡ true
+      → (i : ℕ) (l : Lent S) (file : List ℕ) → slice_get ls i ≡ Some l → shown.seen l.disk ≡ Some file
+      → shown.held new l.place ≡ file
+  held_all [] old new same apart tells i l file at holds = absurd (none-some l at)
+  held_all (m ∷ ls) old new (mid, first, rest) apart tells zero l file at holds =
+      let same = same_Some m l at in
+      ap (λ (x : Lent S). shown.held new x.place) (sym same)
+      ∙ others_all ls mid new rest m.place apart.0
+      ∙ first.held tells file (ap (λ (x : Lent S). shown.seen x.disk) same ∙ holds)
+  held_all (m ∷ ls) old new (mid, first, rest) apart tells (suc i) l file at holds =
+      held_all ls mid new rest apart.1 (first.told ∙ tells) i l file at holds
 
-  pub counts_all : (gs : List (Guest (JournalState S))) (old new : D) → GiveBack shown gs old new
-      → (a : RoleId) → ((i : ℕ) (g : Guest (JournalState S)) (j : JournalState S) → slice_get gs i ≡ Some g
-      → keeper_of g ≡ Some j → who g ≡ a → ⊥)
+  still_once : (l : Lent S) (old new : D) → IsGivenBack shown l old new → (a : RoleId)
+      → (l.place.role ≡ a → shown.failures l.disk ≡ 0) → shown.faults new a ≡ shown.faults old a
+  still_once l old new back a none = elim (cases_Bool (same_role a l.place.role)) [
+    | inl is ↦ subst (λ (b : RoleId). shown.faults new b ≡ shown.faults old b)
+        (sym (same_role-true a l.place.role is)) (back.still (none (sym (same_role-true a l.place.role is))))
+    | inr other ↦ back.others a (others_differ a l.place.role other)
+  ]
+
+  pub still_all : (ls : List (Lent S)) (old new : D) → GiveBack shown ls old new → (a : RoleId)
+      → ((i : ℕ) (l : Lent S) → slice_get ls i ≡ Some l → l.place.role ≡ a → shown.failures l.disk ≡ 0)
       → shown.faults new a ≡ shown.faults old a
-  counts_all [] old new same a other = ap (λ (d : D). shown.faults d a) same
-  counts_all (g ∷ gs) old new (mid, first, rest) a other =
-      counts_all gs mid new rest a (λ i. other (suc i))
-      ∙ counts_once (who g) (keeper_of g) old mid first a (λ j. other 0 g j refl)
+  still_all [] old new same a none = ap (λ (d : D). shown.faults d a) same
+  still_all (l ∷ ls) old new (mid, first, rest) a none =
+      still_all ls mid new rest a (λ i. none (suc i)) ∙ still_once l old mid first a (none 0 l refl)
 
-  held_once : (role : RoleId) (k : Option (JournalState S)) (old new : D) → GivesBack shown role k old new
-      → shown.tells old ≡ true
-      → (j : JournalState S) (file : List ℕ) → k ≡ Some j → shown.seen j.disk ≡ Some file → shown.held new role ≡ file
-  held_once role None old new same tells j file is holds = cc
-  held_once role (Some k) old new back tells j file is holds =
-      back.held tells file (subst (λ (x : JournalState S). shown.seen x.disk ≡ Some file) (sym (one k j is)) holds)
-    where
-      one : (x y : JournalState S) → Some x ≡ Some y → x ≡ y
-      one x y e = cc
+  pub cause_all : (ls : List (Lent S)) (old new : D) → GiveBack shown ls old new
+      → (i : ℕ) (l : Lent S) → slice_get ls i ≡ Some l → Rises 0 (shown.failures l.disk)
+      → Rises (shown.faults old l.place.role) (shown.faults new l.place.role)
+  cause_all [] old new same i l at rose = absurd (none-some l at)
+  cause_all (m ∷ ls) old new (mid, first, rest) zero l at rose =
+      let same = same_Some m l at in
+      subst (λ (x : Lent S). Rises (shown.faults old x.place.role) (shown.faults new x.place.role)) same
+      (rises_on _ _ _ (first.cause (subst (λ (x : Lent S). Rises 0 (shown.failures x.disk)) (sym same) rose))
+      (later_all ls mid new rest m.place.role))
+  cause_all (m ∷ ls) old new (mid, first, rest) (suc i) l at rose =
+      rises_from _ _ _ (later_once m old mid first l.place.role) (cause_all ls mid new rest i l at rose)
 
-  zero_is_suc : (i : ℕ) → zero ≡ suc i → ⊥
-  zero_is_suc i e = cc
+  -- ---- the stores of one role after those of another
 
-  less_one : (i j : ℕ) → suc i ≡ suc j → i ≡ j
-  less_one i j e = cc
+  module _ (g : Guest (Store S)) (rest items : List (Guest (Store S))) (next : items ≡ g ∷ rest) where
+    first_lent : (out : List Shelf) (o : Option (Store S)) → out ≡ lent_to items → keeper_of g ≡ o
+        → out ≡ places_of (disks_of (who g) o) ++ lent_to rest
+    first_lent out o lent some =
+        lent ∙ ap lent_to next ∙ ap (λ k. places_of (disks_of (who g) k ++ disks_in rest)) some
+        ∙ map-append (λ (l : Lent S). l.place) (disks_of (who g) o) (disks_in rest)
 
-  hosted_at : (gs : List (Guest (JournalState S))) (i : ℕ) (g : Guest (JournalState S)) → slice_get gs i ≡ Some g
-      → slice_get (hosted_in gs) i ≡ Some (hosted_of g)
-  hosted_at gs i g at = slice_get-map hosted_of gs i ∙ ap (option_map hosted_of) at
+    -- none is given back where the role has no store
+    pub skipped : (out : List Shelf) → out ≡ lent_to items → keeper_of g ≡ None → out ≡ lent_to rest
+    skipped out lent none = first_lent out None lent none
 
-  pub held_all : (gs : List (Guest (JournalState S))) (old new : D) → GiveBack shown gs old new
-      → AreDistinct (hosted_in gs) → shown.tells old ≡ true
-      → (i : ℕ) (g : Guest (JournalState S)) (j : JournalState S) (file : List ℕ) → slice_get gs i ≡ Some g
-      → keeper_of g ≡ Some j → shown.seen j.disk ≡ Some file
-      → shown.held new (who g) ≡ file
-  held_all [] old new same distinct tells i g j file at keeps holds = cc
-  held_all (h ∷ gs) old new (mid, first, rest) distinct tells zero g j file at keeps holds =
-      subst (λ (x : Guest (JournalState S)). shown.held new (who x) ≡ file) (one h g at)
-      (others_all gs mid new rest (who h) (λ k x y is has same. zero_is_suc k
-      (distinct zero (suc k) (hosted_of h) (hosted_of x) refl (hosted_at gs k x is) (sym same)))
-      ∙ held_once (who h) (keeper_of h) old mid first tells j file (ap keeper_of (one h g at) ∙ keeps) holds)
-    where
-      one : (x y : Guest (JournalState S)) → Some x ≡ Some y → x ≡ y
-      one x y e = cc
-  held_all (h ∷ gs) old new (mid, first, rest) distinct tells (suc i) g j file at keeps holds =
-      held_all gs mid new rest (λ m n a b x y e. less_one m n (distinct (suc m) (suc n) a b x y e))
-      (told_once (who h) (keeper_of h) old mid first ∙ tells) i g j file at keeps holds
+    pub one_is_out : (out : List Shelf) (j : JournalState S) → out ≡ lent_to items → keeper_of g ≡ Some (One j)
+        → IsOut (shelf (who g) 0) out
+    one_is_out out j lent some = rw (first_lent out (Some (One j)) lent some, same_shelf-itself (shelf (who g) 0)) refl
 
-  still_once : (role : RoleId) (k : Option (JournalState S)) (old new : D) → GivesBack shown role k old new
-      → (j : JournalState S) → k ≡ Some j → shown.failures j.disk ≡ 0 → shown.faults new role ≡ shown.faults old role
-  still_once role None old new same j is none = ap (λ (d : D). shown.faults d role) same
-  still_once role (Some k) old new back j is none =
-      back.still (subst (λ (x : JournalState S). shown.failures x.disk ≡ 0) (sym (one k j is)) none)
-    where
-      one : (x y : JournalState S) → Some x ≡ Some y → x ≡ y
-      one x y e = cc
+    pub one_taken : (out : List Shelf) (j : JournalState S) → out ≡ lent_to items → keeper_of g ≡ Some (One j)
+        → without (shelf (who g) 0) out ≡ lent_to rest
+    one_taken out j lent some = rw (first_lent out (Some (One j)) lent some, same_shelf-itself (shelf (who g) 0)) refl
 
-  pub still_all : (gs : List (Guest (JournalState S))) (old new : D) → GiveBack shown gs old new
-      → AreDistinct (hosted_in gs)
-      → (i : ℕ) (g : Guest (JournalState S)) (j : JournalState S) → slice_get gs i ≡ Some g → keeper_of g ≡ Some j
-      → shown.failures j.disk ≡ 0
-      → shown.faults new (who g) ≡ shown.faults old (who g)
-  still_all [] old new same distinct i g j at keeps none = cc
-  still_all (h ∷ gs) old new (mid, first, rest) distinct zero g j at keeps none =
-      subst (λ (x : Guest (JournalState S)). shown.faults new (who x) ≡ shown.faults old (who x)) (one h g at)
-      (counts_all gs mid new rest (who h) (λ k x y is has same. zero_is_suc k
-      (distinct zero (suc k) (hosted_of h) (hosted_of x) refl (hosted_at gs k x is) (sym same)))
-      ∙ still_once (who h) (keeper_of h) old mid first j (ap keeper_of (one h g at) ∙ keeps) none)
-    where
-      one : (x y : Guest (JournalState S)) → Some x ≡ Some y → x ≡ y
-      one x y e = cc
-  still_all (h ∷ gs) old new (mid, first, rest) distinct (suc i) g j at keeps none =
-      still_all gs mid new rest (λ m n a b x y e. less_one m n (distinct (suc m) (suc n) a b x y e)) i g j at keeps none
-      ∙ counts_once (who h) (keeper_of h) old mid first (who g)
-      (λ k has same. zero_is_suc i (distinct zero (suc i) (hosted_of h) (hosted_of g) refl
-      (hosted_at gs i g at) same))
+    pub first_is_out : (out : List Shelf) (t : TwinState S) → out ≡ lent_to items → keeper_of g ≡ Some (Two t)
+        → IsOut (shelf (who g) 0) out
+    first_is_out out t lent some = rw (first_lent out (Some (Two t)) lent some, same_shelf-itself (shelf (who g) 0)) refl
 
-  cause_once : (role : RoleId) (k : Option (JournalState S)) (old new : D) → GivesBack shown role k old new
-      → (j : JournalState S) → k ≡ Some j → Rises 0 (shown.failures j.disk)
-      → Rises (shown.faults old role) (shown.faults new role)
-  cause_once role None old new same j is rose = cc
-  cause_once role (Some k) old new back j is rose =
-      back.cause (subst (λ (x : JournalState S). Rises 0 (shown.failures x.disk)) (sym (one k j is)) rose)
-    where
-      one : (x y : JournalState S) → Some x ≡ Some y → x ≡ y
-      one x y e = cc
+    pub first_taken : (out : List Shelf) (t : TwinState S) → out ≡ lent_to items → keeper_of g ≡ Some (Two t)
+        → without (shelf (who g) 0) out ≡ shelf (who g) 1 ∷ lent_to rest
+    first_taken out t lent some = rw (first_lent out (Some (Two t)) lent some, same_shelf-itself (shelf (who g) 0)) refl
 
-  rises_on : (a b c : ℕ) → Rises a b → b ≤ c → Rises a c
-  rises_on a b c rose later = grind arith
+    pub second_is_out : (out : List Shelf) → out ≡ shelf (who g) 1 ∷ lent_to rest → IsOut (shelf (who g) 1) out
+    second_is_out out lent = rw (lent, same_shelf-itself (shelf (who g) 1)) refl
 
-  rises_from : (a b c : ℕ) → a ≤ b → Rises b c → Rises a c
-  rises_from a b c later rose = grind arith
+    pub second_taken : (out : List Shelf) → out ≡ shelf (who g) 1 ∷ lent_to rest
+        → without (shelf (who g) 1) out ≡ lent_to rest
+    second_taken out lent = rw (lent, same_shelf-itself (shelf (who g) 1)) refl
 
-  pub cause_all : (gs : List (Guest (JournalState S))) (old new : D) → GiveBack shown gs old new
-      → (i : ℕ) (g : Guest (JournalState S)) (j : JournalState S) → slice_get gs i ≡ Some g → keeper_of g ≡ Some j
-      → Rises 0 (shown.failures j.disk)
-      → Rises (shown.faults old (who g)) (shown.faults new (who g))
-  cause_all [] old new same i g j at keeps rose = cc
-  cause_all (h ∷ gs) old new (mid, first, rest) zero g j at keeps rose =
-      subst (λ (x : Guest (JournalState S)). Rises (shown.faults old (who x)) (shown.faults new (who x))) (one h g at)
-      (rises_on _ _ _ (cause_once (who h) (keeper_of h) old mid first j (ap keeper_of (one h g at) ∙ keeps) rose)
-      (later_all gs mid new rest (who h)))
-    where
-      one : (x y : Guest (JournalState S)) → Some x ≡ Some y → x ≡ y
-      one x y e = cc
-  cause_all (h ∷ gs) old new (mid, first, rest) (suc i) g j at keeps rose =
-      rises_from _ _ _ (later_once (who h) (keeper_of h) old mid first (who g))
-      (cause_all gs mid new rest i g j at keeps rose)
-
-  -- ---- one store after the other
-
-  module _ (g : Guest (JournalState S)) (rest items : List (Guest (JournalState S))) (next : items ≡ g ∷ rest) where
-    -- nothing is given back where the role has no store
-    pub skipped : (out : List RoleId) → out ≡ lent_to items → keeper_of g ≡ None → out ≡ lent_to rest
-    skipped out lent none = lent ∙ ap lent_to next ∙ without_keeper (keeper_of g) none
-      where
-        without_keeper : (k : Option (JournalState S)) → k ≡ None
-            → (if is_some k then who g ∷ lent_to rest else lent_to rest) ≡ lent_to rest
-        without_keeper k e = rw e refl
-
-    pub first_lent : (out : List RoleId) (j : JournalState S) → out ≡ lent_to items → keeper_of g ≡ Some j
-        → out ≡ who g ∷ lent_to rest
-    first_lent out j lent some = lent ∙ ap lent_to next ∙ with_keeper (keeper_of g) some
-      where
-        with_keeper : (k : Option (JournalState S)) → k ≡ Some j
-            → (if is_some k then who g ∷ lent_to rest else lent_to rest) ≡ who g ∷ lent_to rest
-        with_keeper k e = rw e refl
-
-    pub first_is_out : (out : List RoleId) (j : JournalState S) → out ≡ lent_to items → keeper_of g ≡ Some j
-        → IsOut (who g) out
-    first_is_out out j lent some = rw (first_lent out j lent some, same_role-itself (who g)) refl
-
-    pub first_taken : (out : List RoleId) (j : JournalState S) → out ≡ lent_to items → keeper_of g ≡ Some j
-        → without (who g) out ≡ lent_to rest
-    first_taken out j lent some = rw (first_lent out j lent some, same_role-itself (who g)) refl
-
-    -- one step, before those that are to come
-    pub goes_on : (old mid : D) (all : List (Guest (JournalState S))) (begin : D)
-        → GivesBack shown (who g) (keeper_of g) old mid
-        → ((end : D) → GiveBack shown items old end → GiveBack shown all begin end)
-        → (end : D) → GiveBack shown rest mid end → GiveBack shown all begin end
-    goes_on old mid all begin first before end later =
-        before end (subst (λ gs. GiveBack shown gs old end) (sym next) (mid, first, later))
+    -- those of this role, before those that are to come
+    pub goes_on : (old mid : D) (all : List (Lent S)) (begin : D) (o : Option (Store S)) → keeper_of g ≡ o
+        → ((end : D) → GiveBack shown (disks_in rest) mid end
+        → GiveBack shown (disks_of (who g) o ++ disks_in rest) old end)
+        → ((end : D) → GiveBack shown (disks_in items) old end → GiveBack shown all begin end)
+        → (end : D) → GiveBack shown (disks_in rest) mid end → GiveBack shown all begin end
+    goes_on old mid all begin o some first before end later =
+        before end (subst (λ ls. GiveBack shown ls old end)
+        (ap (λ k. disks_of (who g) k ++ disks_in rest) (sym some) ∙ ap disks_in (sym next)) (first end later))
 
   -- all were given back
-  pub all_back : (items all : List (Guest (JournalState S))) (begin now : D) → items ≡ []
-      → ((end : D) → GiveBack shown items now end → GiveBack shown all begin end) → GiveBack shown all begin now
-  all_back items all begin now empty before = before now (subst (λ gs. GiveBack shown gs now now) (sym empty) refl)
+  pub all_back : (items : List (Guest (Store S))) (all : List (Lent S)) (begin now : D) → items ≡ []
+      → ((end : D) → GiveBack shown (disks_in items) now end → GiveBack shown all begin end)
+      → GiveBack shown all begin now
+  all_back items all begin now empty before =
+      before now (subst (λ gs. GiveBack shown (disks_in gs) now now) (sym empty) refl)

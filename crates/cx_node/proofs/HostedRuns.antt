@@ -13,9 +13,10 @@ use Rattle.cx_base.specs.declared.role.RoleId.{RoleId}
 use Rattle.cx_base.specs.declared.status.Status.TheVariants as status
 use Rattle.cx_base.specs.Faults.{Rises}
 use Rattle.cx_edge.specs.Link.{LinkHistory}
-use Rattle.cx_journal.specs.State.{JournalState, told_records}
-use Rattle.cx_model.specs.World.{records_of}
-use Rattle.cx_msg.specs.declared.input.KeptRecord.{KeptRecord}
+use Rattle.cx_edge.specs.declared.shelf.Shelf.{Shelf}
+use Rattle.cx_journal.specs.Files.{files_records}
+use Rattle.cx_journal.specs.declared.store.Store.{Store}
+use Rattle.cx_disk.specs.declared.disk.Disk.{Ghosts as DiskGhosts}
 use Rattle.cx_node.specs.declared.guest.Guest.{Guest}
 use Rattle.cx_node.specs.declared.node.RunEnd.{RunEnd}
 use Rattle.cx_node.specs.declared.node.RunEnd.TheVariants as end
@@ -25,22 +26,24 @@ use Rattle.cx_node.specs.declared.opening.OpenStop.{OpenStop}
 use Rattle.cx_node.specs.declared.opening.OpenStop.TheVariants as open_stop
 use Rattle.cx_node.specs.Action.{Action, Bound, HasTaken, Kept, kept_as, kept_in, printed_by, printed_in}
 use Rattle.cx_node.specs.Acts.{failures}
+use Rattle.cx_node.specs.Changing.{StoreChange, changes_of, lists_after}
 use Rattle.cx_node.specs.Doing.{Linked, scene}
 use Rattle.cx_node.specs.Guest.{hosted_in, who}
 use Rattle.cx_node.specs.Hosting.{GivesBack, HasRun, HostAnswered, HostDid, HostEnds, HostEndsEarly, Ran}
 use Rattle.cx_node.specs.Hosting.{ended_status, unopened_status, with_binds}
 use Rattle.cx_node.specs.Node.{IsEnd, IsUnderway, Runs, RunsPart}
-use Rattle.cx_node.specs.Opening.{AreApart, AreOpened, IsBadAs, IsFirstBad, is_durable}
+use Rattle.cx_node.specs.Opening.{AreApart, AreOpened, IsBadAs, IsFirstBad, disks_in, is_durable}
 use Rattle.cx_node.specs.Ports.{bind_of}
 use Rattle.cx_node.specs.Tending.{node_run}
 use Rattle.cx_node.specs.Serving.{Did, Outside, hosts, told_to}
+use Rattle.cx_node.specs.Stores.{files_of, is_two}
 use Rattle.cx_node.proofs.Asked.{binds_kept, binds_printed, linked_binds, linked_nothing, linked_then}
 use Rattle.cx_node.proofs.ClosedStores.{ran_still, ran_stores, stops_rises, stops_still, stops_stores, told_whole}
 use Rattle.cx_node.proofs.ClosedStores.{unhosted}
 use Rattle.cx_node.proofs.Grown.{before, behind}
 use Rattle.cx_node.proofs.OpenedRoles.{AreTold, get_beside, good_opened, hosts_opened, name_is, told_opened}
 use Rattle.cx_node.proofs.SteadySeats.{IsSteady, steady_run}
-use Rattle.cx_node.proofs.StoredRecords.{gives, take_next}
+use Rattle.cx_node.proofs.StoredRecords.{gives, shape_stays, take_next}
 use Rattle.cx_node.proofs.Turned.{no_end}
 
 -- nothing is kept or printed among binds
@@ -62,7 +65,7 @@ module _ (tend : Option ℕ) (c : Cluster) (window : ℕ) (events : List Event) 
   pub host_early : (n : ℕ) → new.link ≡ option_map (with_binds (map (bind_of c) (take n roles))) old.link
       → new.out ≡ old.out
       → (old.tells ≡ true → (i : ℕ) (me : RoleId) → slice_get roles i ≡ Some me → is_durable me.kind ≡ true
-      → told_records (Some (new.held me)) ≡ told_records (Some (old.held me)))
+      → files_records (Some (new.held me)) ≡ files_records (Some (old.held me)))
       → ((me : RoleId) → IsUnhosted roles me → (new.held me ≡ old.held me) × (new.stores me ≡ old.stores me))
       → new.tells ≡ old.tells
       → HostEndsEarly roles tend c window events turns old new
@@ -82,8 +85,8 @@ module _ (tend : Option ℕ) (c : Cluster) (window : ℕ) (events : List Event) 
                 subst (λ bytes. Appends old.out new.out bytes) (sym (only_printed (take n roles)))
                 (subst (λ o. Appends old.out o []) (sym out) (Appends-nil old.out));
             stores = λ t i me here durable.
-                stays t i me here durable ∙ sym (append-nil (told_records (Some (old.held me))))
-                ∙ ap (λ ks. told_records (Some (old.held me)) ++ records_of me ks) (sym (only_kept (take n roles)));
+                stays t i me here durable
+                ∙ ap (λ ks. lists_after (files_records (Some (old.held me))) (changes_of me ks)) (sym (only_kept (take n roles)));
             others = others;
             tells = tells;
           });
@@ -121,56 +124,53 @@ module _ (tend : Option ℕ) (c : Cluster) (window : ℕ) (events : List Event) 
       did (open_stop.StoreFault role) failed bad = (early, failed role refl)
       did (open_stop.BadStore role at) failed bad = (early, bad role at refl)
 
--- one record more is kept, and nothing else is done
-kept_more : (actions : List Action) (n : ℕ) (k : KeptRecord) → slice_get actions n ≡ Some (Kept k)
+-- one change more is made, and nothing else is done
+kept_more : (actions : List Action) (n : ℕ) (k : StoreChange) → slice_get actions n ≡ Some (Kept k)
     → kept_in (take (suc n) actions) ≡ kept_in (take n actions) ++ k ∷ []
 kept_more actions n k next =
     ap kept_in (take_next actions n (Kept k) next) ∙ flat_map-append kept_as (take n actions) (Kept k ∷ [])
 
-printed_same : (actions : List Action) (n : ℕ) (k : KeptRecord) → slice_get actions n ≡ Some (Kept k)
+printed_same : (actions : List Action) (n : ℕ) (k : StoreChange) → slice_get actions n ≡ Some (Kept k)
     → printed_in (take (suc n) actions) ≡ printed_in (take n actions)
 printed_same actions n k next =
     ap printed_in (take_next actions n (Kept k) next) ∙ flat_map-append printed_by (take n actions) (Kept k ∷ [])
     ∙ append-nil (printed_in (take n actions))
 
-linked_same : (c : Cluster) (actions : List Action) (n : ℕ) (k : KeptRecord) (a b : Option LinkHistory)
+linked_same : (c : Cluster) (actions : List Action) (n : ℕ) (k : StoreChange) (a b : Option LinkHistory)
     → slice_get actions n ≡ Some (Kept k) → Linked c (take n actions) a b → Linked c (take (suc n) actions) a b
 linked_same c actions n k a b next linked =
     subst (λ l. Linked c l a b) (sym (take_next actions n (Kept k) next))
     (linked_then c (take n actions) (Kept k ∷ []) a b b linked (linked_nothing c b))
 
-module _ {D : Type 0} (seen : D → Option (List ℕ)) (may_leave : D → List ℕ → Type 0) (moment : D → ℕ)
-    (left_since : D → ℕ → List ℕ → Type 0) (disk_faults : D → ℕ)
-    (tend : Option ℕ) (c : Cluster) (window : ℕ) (events : List Event) (turns : ℕ) (roles : List RoleId)
-    (old new : Outside) (mid : Option LinkHistory) (mid_links : ℕ) (held_mid : RoleId → List ℕ)
-    (faults : RoleId → ℕ)
-    (guests after : List (Guest (JournalState D))) (answer : Result RunEnd Stop)
-    (apart : AreApart roles) (all : AreOpened seen disk_faults c window events old.tells old.held roles guests)
+module _ {D : Type 0} (by : DiskGhosts D) (tend : Option ℕ) (c : Cluster) (window : ℕ) (events : List Event)
+    (turns : ℕ) (roles : List RoleId) (old new : Outside) (mid : Option LinkHistory) (mid_links : ℕ)
+    (held_mid held_after : Shelf → List ℕ) (faults : RoleId → ℕ) (guests after : List (Guest (Store D)))
+    (answer : Result RunEnd Stop)
+    (apart : AreApart roles) (all : AreOpened by.seen by.faults c window events old.tells old.held roles guests)
     (count : length guests ≡ length roles)
     (link : mid ≡ option_map (with_binds (map (bind_of c) roles)) old.link) (links : mid_links ≡ old.links)
     (still : (role : RoleId) → faults role ≡ old.stores role)
-    (unopened : (me : RoleId) → IsUnhosted roles me → held_mid me ≡ old.held me) (tells : new.tells ≡ old.tells)
-    (ran : Ran (gives seen may_leave moment left_since disk_faults) tend c turns answer
-    (scene guests mid old.out) (scene after new.link new.out)
+    (unopened : (me : RoleId) → IsUnhosted roles me → files_of held_mid me ≡ old.held me)
+    (holds : (me : RoleId) → new.held me ≡ files_of held_after me) (tells : new.tells ≡ old.tells)
+    (ran : Ran (gives by) tend c turns answer (scene guests mid old.out) (scene after new.link new.out)
     (failures mid_links old.writes) (failures new.links new.writes))
-    (back : GivesBack seen disk_faults after old.tells held_mid new.held faults new.stores) where
-  told : AreTold seen disk_faults c window events old.tells old.held roles guests
-  told = told_opened seen disk_faults c window events old.tells old.held roles guests apart all
+    (back : GivesBack by.seen by.faults (disks_in after) old.tells held_mid held_after faults new.stores) where
+  told : AreTold by.seen by.faults c window events old.tells old.held roles guests
+  told = told_opened by.seen by.faults c window events old.tells old.held roles guests apart all
 
-  steady : IsSteady guests after
-  steady = steady_run (gives seen may_leave moment left_since disk_faults) tend c turns answer
+  steady : IsSteady is_two guests after
+  steady = steady_run (gives by) is_two (shape_stays by) tend c turns answer
       (scene guests mid old.out) (scene after new.link new.out) ran.done ran.part
 
   same : hosted_in guests ≡ hosts c window events told.0 roles
-  same = hosts_opened seen disk_faults c window events old.tells old.held told.0 roles guests count told.2
+  same = hosts_opened by.seen by.faults c window events old.tells old.held told.0 roles guests count told.2
 
   others : (me : RoleId) → IsUnhosted roles me → (new.held me ≡ old.held me) × (new.stores me ≡ old.stores me)
   others me none =
-      let stays = unhosted seen may_leave moment left_since disk_faults c window events old.tells old.held held_mid
-      new.held faults new.stores roles guests after named back me none in
-      (stays.0 ∙ unopened me none, stays.1 ∙ still me)
+      let stays = unhosted by c window events old.tells old.held held_mid held_after faults new.stores roles guests after named back me none in
+      (holds me ∙ stays.0 ∙ unopened me none, stays.1 ∙ still me)
     where
-      named : (i : ℕ) (h : Guest (JournalState D)) → slice_get after i ≡ Some h → (me : RoleId)
+      named : (i : ℕ) (h : Guest (Store D)) → slice_get after i ≡ Some h → (me : RoleId)
           × (slice_get roles i ≡ Some me) × (who h ≡ me)
       named i h at =
           let g = get_beside after guests i h (sym steady.count) at in
@@ -178,13 +178,14 @@ module _ {D : Type 0} (seen : D → Option (List ℕ)) (may_leave : D → List �
             o.0,
             o.1,
             (steady.each i g.0 h g.1 at).0
-                ∙ name_is seen disk_faults c window events old.tells old.held o.0 g.0 o.2,
+                ∙ name_is by.seen by.faults c window events old.tells old.held o.0 g.0 o.2,
           )
 
-  -- each store has these records besides
-  abbrev StoresTell : List KeptRecord → Type 0
+  -- each store has the list after these changes
+  abbrev StoresTell : List StoreChange → Type 0
   StoresTell more = old.tells ≡ true → (i : ℕ) (me : RoleId) → slice_get roles i ≡ Some me → is_durable me.kind ≡ true
-      → told_records (Some (new.held me)) ≡ told_records (Some (old.held me)) ++ records_of me more
+      → files_records (Some (files_of held_after me))
+      ≡ lists_after (files_records (Some (old.held me))) (changes_of me more)
 
   -- the binds, and then these actions
   did_behind : (actions : List Action) → Linked c actions mid new.link → Appends old.out new.out (printed_in actions)
@@ -196,13 +197,13 @@ module _ {D : Type 0} (seen : D → Option (List ℕ)) (may_leave : D → List �
             (linked_binds c roles old.link mid link) linked;
         printed = subst (Appends old.out new.out) (sym (binds_printed roles actions)) printed;
         stores =
-            λ t i me here durable. stores t i me here durable
-            ∙ ap (λ ks. told_records (Some (old.held me)) ++ records_of me ks) (sym (binds_kept roles actions));
+            λ t i me here durable. ap (λ f. files_records (Some f)) (holds me) ∙ stores t i me here durable
+            ∙ ap (λ ks. lists_after (files_records (Some (old.held me))) (changes_of me ks)) (sym (binds_kept roles actions));
         others = others;
         tells = tells;
       }
 
-  whole : (e : RunEnd) → Runs (gives seen may_leave moment left_since disk_faults) tend c turns e
+  whole : (e : RunEnd) → Runs (gives by) tend c turns e
       (scene guests mid old.out) (scene after new.link new.out) → HostEnds roles tend c window events turns e old new
   whole e runs =
       let takes = runs.0 in
@@ -213,22 +214,20 @@ module _ {D : Type 0} (seen : D → Option (List ℕ)) (may_leave : D → List �
         record {
           told_by = told.1;
           told_whole =
-              told_whole seen may_leave moment left_since disk_faults c window events old.tells old.held held_mid
-              new.held faults new.stores roles guests told.0 told.2 all count apart
+              told_whole by c window events old.tells old.held held_mid held_after faults new.stores roles guests told.0 told.2 all count apart
               (kept_in actions) after did.names did.kept;
           taken = subst (λ hs. HasTaken takes ((node_run tend c takes hs).actions)) same runs.3;
           did = subst (λ hs. Did roles c (map Bound roles ++ (node_run tend c takes hs).actions) old new) same
               (did_behind actions did.link did.printed
-              (ran_stores seen may_leave moment left_since disk_faults c window events old.tells old.held held_mid
-              new.held faults new.stores roles guests told.0 told.2 all count apart
+              (ran_stores by c window events old.tells old.held held_mid held_after faults new.stores roles guests told.0 told.2 all count apart
               (kept_in actions) after did.names did.kept back));
         },
         subst (λ hs. IsEnd tend c turns hs takes e) same runs.2,
       )
 
-  -- the actions before it stopped; one more, where an append failed that left its record
+  -- the actions before it stopped; one more, where a change failed and was made all the same
   cut : (actions : List Action) (n : ℕ) → StoresTell (kept_in (take n actions))
-      ⊎ ((k : KeptRecord) × (slice_get actions n ≡ Some (Kept k)) × StoresTell (kept_in (take n actions) ++ k ∷ []))
+      ⊎ ((k : StoreChange) × (slice_get actions n ≡ Some (Kept k)) × StoresTell (kept_in (take n actions) ++ k ∷ []))
       → Linked c (take n actions) mid new.link → Appends old.out new.out (printed_in (take n actions)) → (m : ℕ)
       × Did roles c (map Bound roles ++ take m actions) old new
   cut actions n (inl stores) linked printed = (n, did_behind (take n actions) linked printed stores)
@@ -239,7 +238,7 @@ module _ {D : Type 0} (seen : D → Option (List ℕ)) (may_leave : D → List �
         (subst StoresTell (sym (kept_more actions n more.0 more.1)) more.2),
   )
 
-  front : (e : Stop) → RunsPart (gives seen may_leave moment left_since disk_faults) e tend c turns
+  front : (e : Stop) → RunsPart (gives by) e tend c turns
       (scene guests mid old.out) (scene after new.link new.out)
       → HostEndsEarly roles tend c window events turns old new
   front e runs =
@@ -247,8 +246,7 @@ module _ {D : Type 0} (seen : D → Option (List ℕ)) (may_leave : D → List �
       let p = runs.2 in
       let actions = (node_run tend c takes (hosted_in guests)).actions in
       let part = cut actions p.count
-      (stops_stores seen may_leave moment left_since disk_faults c window events old.tells old.held held_mid
-      new.held faults new.stores roles guests told.0 told.2 all count apart
+      (stops_stores by c window events old.tells old.held held_mid held_after faults new.stores roles guests told.0 told.2 all count apart
       (kept_in (take p.count actions)) p.mid p.did.names p.did.kept after back e
       (slice_get actions p.count) p.stops) p.did.link p.did.printed in
       let k = behind (map Bound roles) actions part.0 in (
@@ -268,20 +266,20 @@ module _ {D : Type 0} (seen : D → Option (List ℕ)) (may_leave : D → List �
   did_so : (a : Result RunEnd Stop) → answer ≡ a → HostDid roles tend c window events turns old new (ended_status a)
   did_so (Ok end.Done) e =
       whole end.Done (subst (λ a. IfOk a (λ x. Runs
-      (gives seen may_leave moment left_since disk_faults) tend c turns x (scene guests mid old.out)
+      (gives by) tend c turns x (scene guests mid old.out)
       (scene after new.link new.out))) e ran.done)
   did_so (Ok end.Turns) e =
       whole end.Turns (subst (λ a. IfOk a (λ x. Runs
-      (gives seen may_leave moment left_since disk_faults) tend c turns x (scene guests mid old.out)
+      (gives by) tend c turns x (scene guests mid old.out)
       (scene after new.link new.out))) e ran.done)
   did_so (Err s) e =
       let runs = subst (λ a. IfErr a (λ x. RunsPart
-      (gives seen may_leave moment left_since disk_faults) x tend c turns (scene guests mid old.out)
+      (gives by) x tend c turns (scene guests mid old.out)
       (scene after new.link new.out))) e ran.part in
       stopped s e runs (front s runs)
     where
       stopped : (s : Stop) → answer ≡ Err s → RunsPart
-          (gives seen may_leave moment left_since disk_faults) s tend c turns (scene guests mid old.out)
+          (gives by) s tend c turns (scene guests mid old.out)
           (scene after new.link new.out)
           → HostEndsEarly roles tend c window events turns old new
           → HostDid roles tend c window events turns old new (ended_status (Err s))
@@ -293,8 +291,7 @@ module _ {D : Type 0} (seen : D → Option (List ℕ)) (may_leave : D → List �
           let actions = (node_run tend c runs.0 (hosted_in guests)).actions in (
             early,
             subst (λ n. Rises n (new.stores role)) (still role)
-                (stops_rises seen may_leave moment left_since disk_faults c window events old.tells old.held held_mid
-                new.held faults new.stores roles guests told.0 told.2 all count apart
+                (stops_rises by c window events old.tells old.held held_mid held_after faults new.stores roles guests told.0 told.2 all count apart
                 (kept_in (take p.count actions)) p.mid p.did.names p.did.kept after back role
                 (slice_get actions p.count) p.stops),
           )
@@ -303,20 +300,20 @@ module _ {D : Type 0} (seen : D → Option (List ℕ)) (may_leave : D → List �
   stored_so : (a : Result RunEnd Stop) → answer ≡ a → (role : RoleId)
       → (ended_status answer ≡ status.StoreFault role → ⊥) → new.stores role ≡ old.stores role
   stored_so (Ok e) is role unsaid =
-      let runs = subst (λ a. IfOk a (λ x. Runs (gives seen may_leave moment left_since disk_faults) tend c turns x
+      let runs = subst (λ a. IfOk a (λ x. Runs (gives by) tend c turns x
       (scene guests mid old.out) (scene after new.link new.out))) is ran.done in
       let actions = (node_run tend c runs.0 (hosted_in guests)).actions in
-      ran_still seen may_leave moment left_since disk_faults c window events old.tells old.held held_mid new.held
+      ran_still by c window events old.tells old.held held_mid held_after
       faults new.stores roles guests told.0 told.2 all count apart
       (kept_in actions) after runs.1.did.names runs.1.did.kept back role
       ∙ still role
   stored_so (Err s) is role unsaid =
       let runs = subst (λ a. IfErr a (λ x. RunsPart
-      (gives seen may_leave moment left_since disk_faults) x tend c turns (scene guests mid old.out)
+      (gives by) x tend c turns (scene guests mid old.out)
       (scene after new.link new.out))) is ran.part in
       let p = runs.2 in
       let actions = (node_run tend c runs.0 (hosted_in guests)).actions in
-      stops_still seen may_leave moment left_since disk_faults c window events old.tells old.held held_mid new.held
+      stops_still by c window events old.tells old.held held_mid held_after
       faults new.stores roles guests told.0 told.2 all count apart
       (kept_in (take p.count actions)) p.mid p.did.names p.did.kept after back s
       (slice_get actions p.count) p.stops role (λ e. unsaid (ap ended_status (is ∙ ap Err e)))
@@ -328,7 +325,7 @@ module _ {D : Type 0} (seen : D → Option (List ℕ)) (may_leave : D → List �
   good_so t i role at here bad =
       let g = get_beside roles guests i role count here in
       let o = all i g.0 g.1 in
-      good_opened seen disk_faults c window events old.tells old.held o.0 g.0 at o.2 t
+      good_opened by.seen by.faults c window events old.tells old.held o.0 g.0 at o.2 t
       (subst (λ r. IsBadAs c r (old.held r) at r.kind) (same_Some role o.0 (sym here ∙ o.1)) bad)
 
   -- the roles ran to this answer

@@ -1,75 +1,153 @@
--- The stores that are out, as one is lent and given back, and what a store holds that was given back.
-use Rattle.std.proofs.Common.{◌≡◌, ◌≤◌, ℕ, zero, suc, arith, Bool, true, false, List, [], ◌∷◌, ◌++◌, length, refl}
-use Rattle.std.proofs.Common.{sym, ap, subst, ◌∙◌, Option, None, Some, Result, Ok, Err, is_some, inl, inr, slice_get}
+-- The stores that are out, as they are lent and given back, and what stores hold that were given back.
+use Rattle.std.proofs.Common.{◌≡◌, ◌≤◌, ℕ, zero, suc, arith, Bool, true, false, List, [], ◌∷◌, ◌++◌, length}
+use Rattle.std.proofs.Common.{refl, sym, ap, subst, ◌∙◌, append_assoc, append-nil, Option, None, Some, Result, Ok, Err}
+use Rattle.std.proofs.Common.{is_some, inl, inr, slice_get}
 use Rattle.std.specs.List.{list_any}
 use Rattle.std.proofs.lemmas.Bool.{cases_Bool}
-use Rattle.std.proofs.lemmas.Option.{slice_get_within}
+use Rattle.std.proofs.lemmas.Grind.{flat_map-append}
+use Rattle.std.proofs.lemmas.List.{map-append}
+use Rattle.std.proofs.lemmas.Option.{same_Some, slice_get_within}
 use Rattle.cx_base.specs.declared.cluster.Cluster.{Cluster}
 use Rattle.cx_base.specs.declared.event.Event.{Event}
 use Rattle.cx_base.specs.declared.role.RoleId.{RoleId}
-use Rattle.cx_base.specs.declared.role.Kind.{Kind}
-use Rattle.cx_base.specs.declared.role.Kind.TheVariants.{Client, Batcher, Leader, Proxy, Acceptor, Matchmaker}
-use Rattle.cx_base.specs.declared.role.Kind.TheVariants.{Replica, Unbatcher, Reader}
 use Rattle.cx_base.specs.Role.{same_role}
-use Rattle.cx_edge.specs.Depot.{without}
+use Rattle.cx_edge.proofs.ShelfLaws.{out_last, same_shelf-itself, without_last}
+use Rattle.cx_edge.specs.Depot.{IsOut, without}
+use Rattle.cx_edge.specs.Shelf.{same_shelf, shelf}
+use Rattle.cx_edge.specs.declared.shelf.Shelf.{Shelf}
+use Rattle.cx_journal.specs.Files.{Files, OneFile, TwoFiles, files_records}
 use Rattle.cx_journal.specs.Image.{SameImage}
-use Rattle.cx_journal.specs.State.{JournalState, told_records, records_or_none}
+use Rattle.cx_journal.specs.State.{records_or_none}
+use Rattle.cx_journal.specs.Twin.{SamePair}
+use Rattle.cx_journal.specs.declared.store.Store.{Store}
+use Rattle.cx_journal.specs.declared.store.Store.TheVariants.{One, Two}
 use Rattle.cx_model.specs.Lists.{same_role-true, same_role-itself}
-use Rattle.cx_msg.specs.declared.kept.Record.{Record}
 use Rattle.cx_node.specs.declared.guest.Guest.{Guest}
 use Rattle.cx_node.specs.Guest.{keeper_of, who}
-use Rattle.cx_node.specs.Hosted.{name_of}
-use Rattle.cx_node.specs.Opening.{AreOpened, IsOpened, lent_to, opened_as}
+use Rattle.cx_node.specs.Opening.{AreOpened, IsOpened, NoneIsOut, disks_in, lent_to}
+use Rattle.cx_node.specs.Stores.{Lent, SameRecords, disks_of, files_by, files_of, has_second, places_of}
+use Rattle.cx_node.proofs.OpenedRoles.{name_is}
 
-pub others_differ : (a b : RoleId) → same_role a b ≡ false → a ≡ b → ⊥
-others_differ a b other e =
-    true_is_false (sym (same_role-itself b) ∙ subst (λ (x : RoleId). same_role x b ≡ false) e other)
-  where
-    true_is_false : true ≡ false → ⊥
-    true_is_false e = cc
+true_is_false : true ≡ false → ⊥
+true_is_false e = cc
 
 pub ok_is_err : {T E : Type 0} (x : T) (e : E) → ◌≡◌ {A = Result T E} (Ok x) (Err e) → ⊥
 ok_is_err x e is = cc
 
--- a store that was handed out last, given back
-pub without_last : (me : RoleId) (out : List RoleId) → list_any (same_role me) out ≡ false
-    → without me (out ++ me ∷ []) ≡ out
-without_last me [] none = rw (same_role-itself me) refl
-without_last me (r ∷ rest) none = elim (cases_Bool (same_role me r)) [
+-- ---- names and places
+
+pub others_differ : (a b : RoleId) → same_role a b ≡ false → a ≡ b → ⊥
+others_differ a b other e =
+    true_is_false (sym (same_role-itself b) ∙ subst (λ (x : RoleId). same_role x b ≡ false) e other)
+
+-- the other side of a role is another place
+pub sides_differ : (me : RoleId) → shelf me 0 ≡ shelf me 1 → ⊥
+sides_differ me e = let side : 0 ≡ 1 = ap (λ (p : Shelf). p.side) e in absurd (omega (arith, side))
+
+-- ---- what is out
+
+-- one that was lent once, given back
+pub without_lent : (p : Shelf) (out more : List Shelf) → list_any (same_shelf p) out ≡ false
+    → without p (out ++ p ∷ more) ≡ out ++ more
+without_lent p [] more none = rw (same_shelf-itself p) refl
+without_lent p (q ∷ rest) more none = elim (cases_Bool (same_shelf p q)) [
   | inl is ↦ absurd (true_is_false (rw is at none))
-  | inr other ↦ rw other (ap (λ (rs : List RoleId). r ∷ rs) (without_last me rest (rw other at none)))
+  | inr other ↦ rw other (ap (λ (ps : List Shelf). q ∷ ps) (without_lent p rest more (rw other at none)))
 ]
-  where
-    true_is_false : true ≡ false → ⊥
-    true_is_false e = cc
 
--- the records of stores stay, where the one that was given back has the same image
-pub told_stay : {S : Type 0} (seen : S → Option (List ℕ)) (lent back : S) (me : RoleId) (before after : RoleId → List ℕ)
-    → seen lent ≡ Some (before me) → is_some (seen back) ≡ is_some (seen lent)
-    → ((file now : List ℕ) → seen lent ≡ Some file → seen back ≡ Some now → SameImage now file)
-    → ((file : List ℕ) → seen back ≡ Some file → after me ≡ file)
-    → ((a : RoleId) → (a ≡ me → ⊥) → after a ≡ before a)
-    → (a : RoleId) → told_records (Some (after a)) ≡ told_records (Some (before a))
-told_stay seen lent back me before after opened tells same closed others a =
-    elim (cases_Bool (same_role a me)) [
-      | inl is ↦ subst (λ (b : RoleId). told_records (Some (after b)) ≡ told_records (Some (before b)))
-          (sym (same_role-true a me is)) (mine (seen back) refl (tells ∙ ap is_some opened))
-      | inr other ↦ ap (λ (file : List ℕ). told_records (Some file))
-          (others a (λ e. not_itself (subst (λ (b : RoleId). same_role b me ≡ false) e other)))
-    ]
-  where
-    not_itself : same_role me me ≡ false → ⊥
-    not_itself e = true_is_false (sym (same_role-itself me) ∙ e)
-      where
-        true_is_false : true ≡ false → ⊥
-        true_is_false e = cc
+-- both of a role's, where its first is given back before its second
+module _ (me : RoleId) (out : List Shelf) (none : NoneIsOut me out) where
+  both_lent : (out ++ shelf me 0 ∷ []) ++ shelf me 1 ∷ [] ≡ out ++ shelf me 0 ∷ shelf me 1 ∷ []
+  both_lent = append_assoc out (shelf me 0 ∷ []) (shelf me 1 ∷ [])
 
-    mine : (o : Option (List ℕ)) → seen back ≡ o → is_some o ≡ true
-        → told_records (Some (after me)) ≡ told_records (Some (before me))
-    mine None e some = cc
-    mine (Some now) e some =
-        ap (λ (file : List ℕ). told_records (Some file)) (closed now e)
-        ∙ ap records_or_none (same (before me) now opened e None)
+  second_lent : without (shelf me 0) ((out ++ shelf me 0 ∷ []) ++ shelf me 1 ∷ []) ≡ out ++ shelf me 1 ∷ []
+  second_lent = ap (without (shelf me 0)) both_lent ∙ without_lent (shelf me 0) out (shelf me 1 ∷ []) (none 0)
+
+  pub second_is_out : IsOut (shelf me 1) (without (shelf me 0) ((out ++ shelf me 0 ∷ []) ++ shelf me 1 ∷ []))
+  second_is_out = rw second_lent (out_last (shelf me 1) out)
+
+  pub without_both : without (shelf me 1) (without (shelf me 0) ((out ++ shelf me 0 ∷ []) ++ shelf me 1 ∷ [])) ≡ out
+  without_both = ap (without (shelf me 1)) second_lent ∙ without_last (shelf me 1) out (none 1)
+
+-- ---- what is held
+
+pub files_by_sides : (held after : Shelf → List ℕ) (who : RoleId) → after (shelf who 0) ≡ held (shelf who 0)
+    → after (shelf who 1) ≡ held (shelf who 1) → files_of after who ≡ files_of held who
+files_by_sides held after who one other =
+    ap (λ first. files_by (has_second who.kind) first (after (shelf who 1))) one
+    ∙ ap (λ second. files_by (has_second who.kind) (held (shelf who 0)) second) other
+
+pub files_same : (held after : Shelf → List ℕ) (who : RoleId)
+    → ((side : ℕ) → after (shelf who side) ≡ held (shelf who side)) → files_of after who ≡ files_of held who
+files_same held after who same = files_by_sides held after who (same 0) (same 1)
+
+pub same_records : (held after : Shelf → List ℕ) → ((place : Shelf) → after place ≡ held place)
+    → SameRecords (files_of held) (files_of after)
+same_records held after same who =
+    ap (λ files. files_records (Some files)) (files_same held after who (λ side. same (shelf who side)))
+
+pub one_file : (held : Shelf → List ℕ) (me : RoleId) → has_second me.kind ≡ false
+    → files_of held me ≡ OneFile (held (shelf me 0))
+one_file held me one = ap (λ b. files_by b (held (shelf me 0)) (held (shelf me 1))) one
+
+pub two_files : (held : Shelf → List ℕ) (me : RoleId) → has_second me.kind ≡ true
+    → files_of held me ≡ TwoFiles (held (shelf me 0)) (held (shelf me 1))
+two_files held me two = ap (λ b. files_by b (held (shelf me 0)) (held (shelf me 1))) two
+
+-- the records of all stores stay, where those of one role do, and elsewhere what is held
+pub records_stay : (me : RoleId) (held after : Shelf → List ℕ)
+    → files_records (Some (files_of after me)) ≡ files_records (Some (files_of held me))
+    → ((place : Shelf) → (place.role ≡ me → ⊥) → after place ≡ held place)
+    → SameRecords (files_of held) (files_of after)
+records_stay me held after own others who = elim (cases_Bool (same_role who me)) [
+  | inl is ↦ subst (λ (a : RoleId). files_records (Some (files_of after a)) ≡ files_records (Some (files_of held a)))
+      (sym (same_role-true who me is)) own
+  | inr other ↦ ap (λ files. files_records (Some files))
+      (files_same held after who (λ side. others (shelf who side) (others_differ who me other)))
+]
+
+module _ {S : Type 0} (seen : S → Option (List ℕ)) (me : RoleId) (held after : Shelf → List ℕ) where
+  -- the records of a role's only store, where the disk that was given back has the same image
+  pub one_stays : (lent back : S) → has_second me.kind ≡ false → seen lent ≡ Some (held (shelf me 0))
+      → is_some (seen back) ≡ is_some (seen lent)
+      → ((file now : List ℕ) → seen lent ≡ Some file → seen back ≡ Some now → SameImage now file)
+      → ((file : List ℕ) → seen back ≡ Some file → after (shelf me 0) ≡ file)
+      → files_records (Some (files_of after me)) ≡ files_records (Some (files_of held me))
+  one_stays lent back one opened tells same closed =
+      ap (λ files. files_records (Some files)) (one_file after me one)
+      ∙ go (seen back) refl (tells ∙ ap is_some opened)
+      ∙ ap (λ files. files_records (Some files)) (sym (one_file held me one))
+    where
+      go : (o : Option (List ℕ)) → seen back ≡ o → is_some o ≡ true
+          → files_records (Some (OneFile (after (shelf me 0)))) ≡ files_records (Some (OneFile (held (shelf me 0))))
+      go None e some = cc
+      go (Some now) e some =
+          ap (λ file. files_records (Some (OneFile file))) (closed now e)
+          ∙ ap records_or_none (same (held (shelf me 0)) now opened e None)
+
+  -- those of its two stores, where the two have the same records
+  pub two_stay : (first second first_back second_back : S) → has_second me.kind ≡ true
+      → seen first ≡ Some (held (shelf me 0)) → seen second ≡ Some (held (shelf me 1))
+      → is_some (seen first_back) ≡ is_some (seen first) → is_some (seen second_back) ≡ is_some (seen second)
+      → ((a b c d : List ℕ) → seen first ≡ Some a → seen second ≡ Some b → seen first_back ≡ Some c
+      → seen second_back ≡ Some d → SamePair c d a b)
+      → ((file : List ℕ) → seen first_back ≡ Some file → after (shelf me 0) ≡ file)
+      → ((file : List ℕ) → seen second_back ≡ Some file → after (shelf me 1) ≡ file)
+      → files_records (Some (files_of after me)) ≡ files_records (Some (files_of held me))
+  two_stay first second first_back second_back two opened other tells other_tells same closed other_closed =
+      ap (λ files. files_records (Some files)) (two_files after me two)
+      ∙ go (seen first_back) (seen second_back) refl refl (tells ∙ ap is_some opened) (other_tells ∙ ap is_some other)
+      ∙ ap (λ files. files_records (Some files)) (sym (two_files held me two))
+    where
+      go : (o p : Option (List ℕ)) → seen first_back ≡ o → seen second_back ≡ p → is_some o ≡ true → is_some p ≡ true
+          → files_records (Some (TwoFiles (after (shelf me 0)) (after (shelf me 1))))
+          ≡ files_records (Some (TwoFiles (held (shelf me 0)) (held (shelf me 1))))
+      go None p d e some more = cc
+      go (Some a) None d e some more = cc
+      go (Some a) (Some b) d e some more =
+          ap (λ file. files_records (Some (TwoFiles file (after (shelf me 1))))) (closed a d)
+          ∙ ap (λ file. files_records (Some (TwoFiles a file))) (other_closed b e)
+          ∙ ap records_or_none (same (held (shelf me 0)) (held (shelf me 1)) a b opened other d e None)
 
 -- no count falls, where one doesn't and the others stay
 pub none_falls : (me : RoleId) (before after : RoleId → ℕ) → before me ≤ after me
@@ -79,81 +157,74 @@ none_falls me before after later others a = elim (cases_Bool (same_role a me)) [
   | inr other ↦ omega (arith, others a (others_differ a me other))
 ]
 
--- of two steps too
-pub later_still : (before mid after : RoleId → ℕ) → ((a : RoleId) → before a ≤ mid a)
-    → ((a : RoleId) → mid a ≤ after a) → (a : RoleId) → before a ≤ after a
-later_still before mid after first second a = omega (arith, first a, second a)
+-- ---- roles that were opened
 
--- the name of a role that was opened
-name_opened : (c : Cluster) (window : ℕ) (events : List Event) (me : RoleId) (records : List Record) (k : Kind)
-    → name_of (opened_as c window events me records k) ≡ me
-name_opened c window events me records Client = refl
-name_opened c window events me records Batcher = refl
-name_opened c window events me records Leader = refl
-name_opened c window events me records Proxy = refl
-name_opened c window events me records Acceptor = refl
-name_opened c window events me records Matchmaker = refl
-name_opened c window events me records Replica = refl
-name_opened c window events me records Unbatcher = refl
-name_opened c window events me records Reader = refl
-
-pub who_opened : {S : Type 0} (seen : S → Option (List ℕ)) (disk_faults : S → ℕ) (c : Cluster) (window : ℕ)
-    (events : List Event) (tells : Bool) (file : List ℕ) (me : RoleId) (guest : Guest (JournalState S))
-    → IsOpened seen disk_faults c window events tells file me guest → who guest ≡ me
-who_opened seen disk_faults c window events tells file me guest opened =
-    ap name_of opened.hosted ∙ name_opened c window events me opened.records me.kind
-
-pub lent_append : {K : Type 0} (guests more : List (Guest K)) → lent_to (guests ++ more) ≡ lent_to guests
+pub lent_append : {D : Type 0} (guests more : List (Guest (Store D))) → lent_to (guests ++ more) ≡ lent_to guests
     ++ lent_to more
-lent_append [] more = refl
-lent_append (g ∷ gs) more = elim (cases_Bool (is_some (keeper_of g))) [
-  | inl has ↦ rw has (ap (λ (rs : List RoleId). who g ∷ rs) (lent_append gs more))
-  | inr none ↦ rw none (lent_append gs more)
+lent_append guests more =
+    ap places_of (flat_map-append (λ g. disks_of (who g) (keeper_of g)) guests more)
+    ∙ map-append (λ (l : Lent _). l.place) (disks_in guests) (disks_in more)
+
+pub lent_one : {D : Type 0} (guest : Guest (Store D))
+    → lent_to (guest ∷ []) ≡ places_of (disks_of (who guest) (keeper_of guest))
+lent_one guest = ap places_of (append-nil (disks_of (who guest) (keeper_of guest)))
+
+any_append : {X : Type 0} (p : X → Bool) (xs ys : List X) → list_any p xs ≡ false → list_any p ys ≡ false
+    → list_any p (xs ++ ys) ≡ false
+any_append p [] ys none more = more
+any_append p (x ∷ xs) ys none more = elim (cases_Bool (p x)) [
+  | inl is ↦ absurd (true_is_false (rw is at none))
+  | inr other ↦ rw other (any_append p xs ys (rw other at none) more)
 ]
 
-not_lent : {K : Type 0} (me : RoleId) (guests : List (Guest K))
-    → ((i : ℕ) (g : Guest K) → slice_get guests i ≡ Some g → same_role me (who g) ≡ false)
-    → list_any (same_role me) (lent_to guests) ≡ false
-not_lent me [] other = refl
-not_lent me (g ∷ gs) other = elim (cases_Bool (is_some (keeper_of g))) [
-  | inl has ↦ rw (has, other 0 g refl) (not_lent me gs (λ i. other (suc i)))
-  | inr none ↦ rw none (not_lent me gs (λ i. other (suc i)))
-]
+-- a role's places are none of another's
+places_differ : {D : Type 0} (me other : RoleId) (side : ℕ) (k : Option (Store D)) → same_role me other ≡ false
+    → list_any (same_shelf (shelf me side)) (places_of (disks_of other k)) ≡ false
+places_differ me other side None differ = refl
+places_differ me other side (Some (One j)) differ = rw differ refl
+places_differ me other side (Some (Two t)) differ = rw differ refl
+
+not_lent : {D : Type 0} (me : RoleId) (guests : List (Guest (Store D)))
+    → ((i : ℕ) (g : Guest (Store D)) → slice_get guests i ≡ Some g → same_role me (who g) ≡ false)
+    → NoneIsOut me (lent_to guests)
+not_lent me [] other side = refl
+not_lent me (g ∷ gs) other side =
+    rw (lent_append (g ∷ []) gs) (any_append (same_shelf (shelf me side)) (lent_to (g ∷ [])) (lent_to gs)
+    (ap (list_any (same_shelf (shelf me side))) (lent_one g)
+    ∙ places_differ me (who g) side (keeper_of g) (other 0 g refl))
+    (not_lent me gs (λ i. other (suc i)) side))
 
 -- a property of each element, and of one more at the end
 one_more : {T : Type 0} (P : ℕ → T → Type 0) (xs : List T) (x : T)
     → ((i : ℕ) (y : T) → slice_get xs i ≡ Some y → P i y) → P (length xs) x
     → (i : ℕ) (y : T) → slice_get (xs ++ x ∷ []) i ≡ Some y → P i y
-one_more P [] x each last zero y e = subst (P zero) (same x y e) last
-  where
-    same : {T : Type 0} (a b : T) → Some a ≡ Some b → a ≡ b
-    same a b e = cc
+one_more P [] x each last zero y e = subst (P zero) (same_Some x y e) last
 one_more P [] x each last (suc i) y e = cc
 one_more P (z ∷ zs) x each last zero y e = each zero y e
 one_more P (z ∷ zs) x each last (suc i) y e = one_more (λ k. P (suc k)) zs x (λ k. each (suc k)) last i y e
 
 module _ {S : Type 0} (seen : S → Option (List ℕ)) (disk_faults : S → ℕ) (c : Cluster) (window : ℕ)
-    (events : List Event) (tells : Bool) (held : RoleId → List ℕ) (roles : List RoleId)
-    (guests : List (Guest (JournalState S))) (me : RoleId) (next : slice_get roles (length guests) ≡ Some me)
+    (events : List Event) (tells : Bool) (held : RoleId → Files) (roles : List RoleId)
+    (guests : List (Guest (Store S))) (me : RoleId) (next : slice_get roles (length guests) ≡ Some me)
     (all : AreOpened seen disk_faults c window events tells held roles guests) where
   -- the next role of the list is opened
-  pub opened_more : (guest : Guest (JournalState S)) → IsOpened seen disk_faults c window events tells
+  pub opened_more : (guest : Guest (Store S)) → IsOpened seen disk_faults c window events tells
       (held me) me guest → AreOpened seen disk_faults c window events tells held roles (guests ++ guest ∷ [])
   opened_more guest opened =
-      one_more (λ i (g : Guest (JournalState S)). (a : RoleId) × (slice_get roles i ≡ Some a)
+      one_more (λ i (g : Guest (Store S)). (a : RoleId) × (slice_get roles i ≡ Some a)
       × IsOpened seen disk_faults c window events tells (held a) a g) guests guest all (me, next, opened)
 
-  -- its store isn't out yet
+  -- its stores aren't out yet
   pub next_in_depot : ((i j : ℕ) (a : RoleId) → slice_get roles i ≡ Some a → slice_get roles j ≡ Some a → i ≡ j)
-      → list_any (same_role me) (lent_to guests) ≡ false
+      → NoneIsOut me (lent_to guests)
   next_in_depot distinct = not_lent me guests (λ i g at. other i g at (same_role me (who g)) refl)
     where
-      other : (i : ℕ) (g : Guest (JournalState S)) → slice_get guests i ≡ Some g → (b : Bool)
+      other : (i : ℕ) (g : Guest (Store S)) → slice_get guests i ≡ Some g → (b : Bool)
           → same_role me (who g) ≡ b → same_role me (who g) ≡ false
       other i g at false e = e
       other i g at true e =
           let one = all i g at in
-          let same : one.0 ≡ me = sym (who_opened seen disk_faults c window events tells (held one.0) one.0 g one.2)
+          let same : one.0 ≡ me = sym (name_is seen disk_faults c window events tells held one.0 g one.2)
           ∙ sym (same_role-true me (who g) e) in
           let place : i ≡ length guests = distinct i (length guests) me (one.1 ∙ ap Some same) next in
           absurd (omega (arith, place, slice_get_within guests i g at))

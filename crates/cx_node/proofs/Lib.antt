@@ -6,6 +6,7 @@ pub mod Grown
 pub mod Asked
 pub mod Done
 pub mod Acted
+pub mod Ends
 pub mod Seated
 pub mod Turned
 pub mod Grids
@@ -15,6 +16,8 @@ pub mod RefusedPlace
 pub mod Named
 pub mod ClientName
 mod Lent
+mod Lending
+mod Woken
 mod StoresBack
 mod GivenBack
 pub mod AnyKind

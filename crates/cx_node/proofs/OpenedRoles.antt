@@ -12,8 +12,10 @@ use Rattle.cx_base.specs.declared.role.Kind.TheVariants.{Replica, Unbatcher, Rea
 use Rattle.cx_base.specs.declared.role.RoleId.{RoleId}
 use Rattle.cx_base.specs.Role.{same_role}
 use Rattle.cx_inv_open.specs.Reopened.{refused_as}
-use Rattle.cx_journal.specs.Image.{Image, image}
-use Rattle.cx_journal.specs.State.{JournalState, records_or_none}
+use Rattle.cx_journal.specs.Files.{Files, files_image}
+use Rattle.cx_journal.specs.Image.{Image}
+use Rattle.cx_journal.specs.State.{records_or_none}
+use Rattle.cx_journal.specs.declared.store.Store.{Store}
 use Rattle.cx_journal.proofs.Payloads.{both_so}
 use Rattle.cx_model.specs.Acceptor.{acceptor_rules}
 use Rattle.cx_model.specs.Leader.{leader_rules}
@@ -25,9 +27,10 @@ use Rattle.cx_model.specs.Rules.{Rules, refused}
 use Rattle.cx_msg.specs.declared.kept.Record.{Record}
 use Rattle.cx_node.specs.declared.guest.Guest.{Guest}
 use Rattle.cx_node.specs.Guest.{AreDistinct, AreReady, hosted_in, hosted_of, keeper_of, who}
-use Rattle.cx_node.specs.Hosted.{Hosted, is_live, name_of}
-use Rattle.cx_node.specs.Opening.{AreApart, AreOpened, HasJournal, HasRecords, IsBadAs, IsOpened, is_durable, opened_as}
+use Rattle.cx_node.specs.Hosted.{Hosted, is_live, kind_at, name_of}
+use Rattle.cx_node.specs.Opening.{AreApart, AreOpened, HasRecords, HasStore, IsBadAs, IsOpened, is_durable, opened_as}
 use Rattle.cx_node.specs.Serving.{hosts, told_to}
+use Rattle.cx_node.specs.Stores.{has_second}
 use Rattle.cx_node.specs.Wake.{IsBadStore}
 
 -- ---- places in two lists
@@ -84,17 +87,29 @@ live_opened c window events me records Replica = refl
 live_opened c window events me records Unbatcher = refl
 live_opened c window events me records Reader = refl
 
+kind_opened : (c : Cluster) (window : ℕ) (events : List Event) (me : RoleId) (records : List Record) (k : Kind)
+    → kind_at (opened_as c window events me records k) ≡ k
+kind_opened c window events me records Client = refl
+kind_opened c window events me records Batcher = refl
+kind_opened c window events me records Leader = refl
+kind_opened c window events me records Proxy = refl
+kind_opened c window events me records Acceptor = refl
+kind_opened c window events me records Matchmaker = refl
+kind_opened c window events me records Replica = refl
+kind_opened c window events me records Unbatcher = refl
+kind_opened c window events me records Reader = refl
+
 -- ---- stores of their own
 
 -- one that is read, and refused for no record, is none at no place
-good_store : {D V : Type 0} (rules : Rules D V) (c : Cluster) (me : RoleId) (file : List ℕ) (records : List Record)
-    (at : ℕ) → image (Some me.kind) file ≡ Ok records → refused rules c me records ≡ None
-    → IsBadStore rules c me file at → ⊥
-good_store rules c me file records at read accepted (inl broken) = ok_is_err (sym read ∙ broken)
+good_store : {D V : Type 0} (rules : Rules D V) (c : Cluster) (me : RoleId) (files : Files) (records : List Record)
+    (at : ℕ) → files_image (Some me.kind) files ≡ Ok records → refused rules c me records ≡ None
+    → IsBadStore rules c me files at → ⊥
+good_store rules c me files records at read accepted (inl broken) = ok_is_err (sym read ∙ broken)
   where
     ok_is_err : ◌≡◌ {A = Image} (Ok records) (Err at) → ⊥
     ok_is_err e = cc
-good_store rules c me file records at read accepted (inr bad) =
+good_store rules c me files records at read accepted (inr bad) =
     let same : records ≡ bad.0 = same_records records bad.0 (sym read ∙ bad.1) in
     none-some bad.2 (sym accepted ∙ ap (refused rules c me) same ∙ bad.3)
   where
@@ -102,58 +117,61 @@ good_store rules c me file records at read accepted (inr bad) =
     same_records rs ts e = cc
 
 -- the same of a role of any kind
-pub good_as : (c : Cluster) (me : RoleId) (file : List ℕ) (records : List Record) (at : ℕ) (k : Kind)
-    → (is_durable k ≡ true → image (Some me.kind) file ≡ Ok records) → refused_as c me records k ≡ None
-    → IsBadAs c me file at k → ⊥
-good_as c me file records at Client read accepted bad = bad
-good_as c me file records at Batcher read accepted bad = bad
-good_as c me file records at Leader read accepted bad =
-    good_store leader_rules c me file records at (read refl) accepted bad
-good_as c me file records at Proxy read accepted bad = bad
-good_as c me file records at Acceptor read accepted bad =
-    good_store acceptor_rules c me file records at (read refl) accepted bad
-good_as c me file records at Matchmaker read accepted bad =
-    good_store matchmaker_rules c me file records at (read refl) accepted bad
-good_as c me file records at Replica read accepted bad =
-    good_store replica_rules c me file records at (read refl) accepted bad
-good_as c me file records at Unbatcher read accepted bad = bad
-good_as c me file records at Reader read accepted bad = bad
+pub good_as : (c : Cluster) (me : RoleId) (files : Files) (records : List Record) (at : ℕ) (k : Kind)
+    → (is_durable k ≡ true → files_image (Some me.kind) files ≡ Ok records) → refused_as c me records k ≡ None
+    → IsBadAs c me files at k → ⊥
+good_as c me files records at Client read accepted bad = bad
+good_as c me files records at Batcher read accepted bad = bad
+good_as c me files records at Leader read accepted bad =
+    good_store leader_rules c me files records at (read refl) accepted bad
+good_as c me files records at Proxy read accepted bad = bad
+good_as c me files records at Acceptor read accepted bad =
+    good_store acceptor_rules c me files records at (read refl) accepted bad
+good_as c me files records at Matchmaker read accepted bad =
+    good_store matchmaker_rules c me files records at (read refl) accepted bad
+good_as c me files records at Replica read accepted bad =
+    good_store replica_rules c me files records at (read refl) accepted bad
+good_as c me files records at Unbatcher read accepted bad = bad
+good_as c me files records at Reader read accepted bad = bad
 
-module _ {D : Type 0} (seen : D → Option (List ℕ)) (disk_faults : D → ℕ) (tells : Bool) where
-  has_journal : (records : List Record) (b : Bool) (o : Option (JournalState D)) → b ≡ true
-      → HasJournal seen disk_faults tells records b o → (j : JournalState D) × (o ≡ Some j)
-      × HasRecords seen disk_faults tells records j
-  has_journal records true None durable has = absurd has
-  has_journal records true (Some j) durable has = (j, refl, has)
-  has_journal records false o durable has = cc
+module _ {D : Type 0} (seen : D → Option (List ℕ)) (disk_faults : D → ℕ) (tells second : Bool) where
+  has_store : (records : List Record) (b : Bool) (o : Option (Store D)) → b ≡ true
+      → HasStore seen disk_faults tells second records b o → (s : Store D) × (o ≡ Some s)
+      × HasRecords seen disk_faults tells second records s
+  has_store records true None durable has = absurd has
+  has_store records true (Some s) durable has = (s, refl, has)
+  has_store records false o durable has = cc
 
-  pub has_records : (records : List Record) (b : Bool) (o : Option (JournalState D)) (j : JournalState D) → o ≡ Some j
-      → HasJournal seen disk_faults tells records b o → HasRecords seen disk_faults tells records j
-  has_records records b None j e has = absurd (none-some j e)
-  has_records records true (Some k) j e has = subst (HasRecords seen disk_faults tells records) (same_Some k j e) has
-  has_records records false (Some k) j e has = absurd has
+  pub has_records : (records : List Record) (b : Bool) (o : Option (Store D)) (s : Store D) → o ≡ Some s
+      → HasStore seen disk_faults tells second records b o → HasRecords seen disk_faults tells second records s
+  has_records records b None s e has = absurd (none-some s e)
+  has_records records true (Some k) s e has =
+      subst (HasRecords seen disk_faults tells second records) (same_Some k s e) has
+  has_records records false (Some k) s e has = absurd has
 
 module _ {D : Type 0} (seen : D → Option (List ℕ)) (disk_faults : D → ℕ) (c : Cluster) (window : ℕ)
-    (events : List Event) (tells : Bool) (held : RoleId → List ℕ) where
-  pub name_is : (me : RoleId) (guest : Guest (JournalState D))
+    (events : List Event) (tells : Bool) (held : RoleId → Files) where
+  pub name_is : (me : RoleId) (guest : Guest (Store D))
       → IsOpened seen disk_faults c window events tells (held me) me guest → who guest ≡ me
   name_is me guest o = ap name_of o.hosted ∙ name_opened c window events me o.records me.kind
 
-  pub keeps_journal : (me : RoleId) (guest : Guest (JournalState D))
+  pub keeps_store : (me : RoleId) (guest : Guest (Store D))
       (o : IsOpened seen disk_faults c window events tells (held me) me guest) → is_durable me.kind ≡ true
-      → (j : JournalState D) × (keeper_of guest ≡ Some j) × HasRecords seen disk_faults tells o.records j
-  keeps_journal me guest o durable =
-      has_journal seen disk_faults tells o.records (is_durable me.kind) (keeper_of guest) durable o.journal
+      → (s : Store D) × (keeper_of guest ≡ Some s)
+      × HasRecords seen disk_faults tells (has_second me.kind) o.records s
+  keeps_store me guest o durable =
+      has_store seen disk_faults tells (has_second me.kind) o.records (is_durable me.kind) (keeper_of guest) durable
+      o.stored
 
   -- the store of a role that was opened is its own
-  pub good_opened : (me : RoleId) (guest : Guest (JournalState D)) (at : ℕ)
+  pub good_opened : (me : RoleId) (guest : Guest (Store D)) (at : ℕ)
       → IsOpened seen disk_faults c window events tells (held me) me guest → tells ≡ true
       → IsBadAs c me (held me) at me.kind → ⊥
   good_opened me guest at o t bad = good_as c me (held me) o.records at me.kind (o.read t) o.accepted bad
 
   -- ---- all roles
 
-  pub distinct_opened : (roles : List RoleId) (guests : List (Guest (JournalState D))) → AreApart roles
+  pub distinct_opened : (roles : List RoleId) (guests : List (Guest (Store D))) → AreApart roles
       → AreOpened seen disk_faults c window events tells held roles guests → AreDistinct (hosted_in guests)
   distinct_opened roles guests apart all i j a b here there same =
       let g = get_map hosted_of guests i a here in
@@ -164,38 +182,41 @@ module _ {D : Type 0} (seen : D → Option (List ℕ)) (disk_faults : D → ℕ)
       ∙ name_is p.0 h.0 p.2 in
       apart i j p.0 (o.1 ∙ ap Some name) p.1
 
-  pub ready_opened : (roles : List RoleId) (guests : List (Guest (JournalState D))) → AreApart roles
+  pub ready_opened : (roles : List RoleId) (guests : List (Guest (Store D))) → AreApart roles
       → ((i : ℕ) (me : RoleId) → slice_get roles i ≡ Some me → IsTrue (names_role c me))
       → AreOpened seen disk_faults c window events tells held roles guests → AreReady c guests
   ready_opened roles guests apart named all = record {
     each = λ i h at. let o = all i h at in record {
       live = subst IsTrue (sym (ap is_live o.2.hosted ∙ live_opened c window events o.0 o.2.records o.0.kind)) refl;
       named = subst (λ me. IsTrue (names_role c me)) (sym (name_is o.0 h o.2)) (named i o.0 o.1);
+      kind =
+          ap kind_at o.2.hosted ∙ kind_opened c window events o.0 o.2.records o.0.kind
+          ∙ ap (λ (a : RoleId). a.kind) (sym (name_is o.0 h o.2));
     };
     distinct = distinct_opened roles guests apart all;
   }
 
   -- a role was opened from these records
-  abbrev pub IsOpenedFrom : List Record → RoleId → Guest (JournalState D) → Type 0
+  abbrev pub IsOpenedFrom : List Record → RoleId → Guest (Store D) → Type 0
   IsOpenedFrom records me guest =
       (o : IsOpened seen disk_faults c window events tells (held me) me guest) × (o.records ≡ records)
 
   -- each role of a list was opened from its records
-  abbrev pub AreOpenedFrom : (RoleId → List Record) → List RoleId → List (Guest (JournalState D)) → Type 0
+  abbrev pub AreOpenedFrom : (RoleId → List Record) → List RoleId → List (Guest (Store D)) → Type 0
   AreOpenedFrom told roles guests =
-      (i : ℕ) (me : RoleId) (guest : Guest (JournalState D)) → slice_get roles i ≡ Some me
+      (i : ℕ) (me : RoleId) (guest : Guest (Store D)) → slice_get roles i ≡ Some me
       → slice_get guests i ≡ Some guest → IsOpenedFrom (told me) me guest
 
   abbrev first_told : RoleId → List Record → (RoleId → List Record) → RoleId → List Record
   first_told r records told me = if same_role me r then records else told me
 
   -- what each role was opened from; where it is known, it is what the depot holds
-  abbrev pub AreTold : List RoleId → List (Guest (JournalState D)) → Type 0
+  abbrev pub AreTold : List RoleId → List (Guest (Store D)) → Type 0
   AreTold roles guests =
       (told : RoleId → List Record) × (tells ≡ true → (me : RoleId) → is_durable me.kind ≡ true
       → told me ≡ told_to held me) × AreOpenedFrom told roles guests
 
-  told_more : (r : RoleId) (rs : List RoleId) (g : Guest (JournalState D)) (gs : List (Guest (JournalState D)))
+  told_more : (r : RoleId) (rs : List RoleId) (g : Guest (Store D)) (gs : List (Guest (Store D)))
       → AreApart (r ∷ rs)
       → IsOpened seen disk_faults c window events tells (held r) r g → AreTold rs gs → AreTold (r ∷ rs) (g ∷ gs)
   told_more r rs g gs apart first rest = (told, is_told, from)
@@ -221,7 +242,7 @@ module _ {D : Type 0} (seen : D → Option (List ℕ)) (disk_faults : D → ℕ)
           let same : told me ≡ rest.0 me = rw other refl in
           subst (λ rs. IsOpenedFrom rs me guest) (sym same) (rest.2 i me guest a b)
 
-  pub told_opened : (roles : List RoleId) (guests : List (Guest (JournalState D))) → AreApart roles
+  pub told_opened : (roles : List RoleId) (guests : List (Guest (Store D))) → AreApart roles
       → AreOpened seen disk_faults c window events tells held roles guests → AreTold roles guests
   told_opened roles [] apart all = (told_to held, (λ t me d. refl), λ i me guest a b. absurd (none-some guest b))
   told_opened [] (g ∷ gs) apart all = let o = all 0 g refl in absurd (none-some o.0 o.1)
@@ -231,7 +252,7 @@ module _ {D : Type 0} (seen : D → Option (List ℕ)) (disk_faults : D → ℕ)
       (sym (same_Some r one.0 one.1)) one.2)
       (told_opened rs gs (λ i j me a b. let e = apart (suc i) (suc j) me a b in omega (arith, e)) (λ i. all (suc i)))
 
-  pub hosts_opened : (told : RoleId → List Record) (roles : List RoleId) (guests : List (Guest (JournalState D)))
+  pub hosts_opened : (told : RoleId → List Record) (roles : List RoleId) (guests : List (Guest (Store D)))
       → length guests ≡ length roles → AreOpenedFrom told roles guests
       → hosted_in guests ≡ hosts c window events told roles
   hosts_opened told [] [] same from = refl

@@ -13,11 +13,11 @@ use Rattle.cx_msg.specs.Letter.{Letter}
 use Rattle.cx_msg.specs.declared.fault.WireFault.{WireFault}
 use Rattle.cx_msg.specs.declared.fault.WireFault.TheVariants as faults
 use Rattle.cx_msg.specs.declared.input.Input.TheVariants as input
-use Rattle.cx_role.specs.Role.{Appending}
+use Rattle.cx_node.specs.Changing.{Changing}
 use Rattle.cx_node.specs.declared.come.Come.{Come}
 use Rattle.cx_node.specs.declared.come.Come.TheVariants as come
 use Rattle.cx_node.specs.declared.doing.Doing.{Doing}
-use Rattle.cx_node.specs.declared.doing.Doing.TheVariants.{Give}
+use Rattle.cx_node.specs.declared.doing.Doing.TheVariants.{Give, Snap}
 use Rattle.cx_node.specs.declared.guest.Guest.{Guest}
 use Rattle.cx_node.specs.declared.node.Stop.{Stop}
 use Rattle.cx_node.specs.declared.node.Stop.TheVariants.{LinkFault, NoMemory, StoreFault, WriteFault}
@@ -26,7 +26,7 @@ use Rattle.cx_node.specs.Doing.{Scene, scene}
 use Rattle.cx_node.specs.Guest.{AreReady, hosted_in}
 use Rattle.cx_node.specs.Hosted.{Hosted}
 use Rattle.cx_node.specs.Run.{Moved, stays, took, all_do, at_place, comes, decoded_come, does_at, first_do, grid_of}
-use Rattle.cx_node.specs.Run.{idle_at, lead_at, ordered, place_of, then_do, ticked, turn}
+use Rattle.cx_node.specs.Run.{idle_at, lead_at, ordered, place_of, prepared, snaps, then_do, ticked, turn}
 use Rattle.cx_node.proofs.Actions.{Done, acts_before, acts_cut, acts_none, acts_nothing, acts_then, acts_took}
 
 -- what comes of what a take gave
@@ -56,7 +56,7 @@ none_read bytes (faults.Length said have) other h = ap read_as h
 none_read bytes (faults.Trailing place) other h = ap read_as h
 none_read bytes (faults.Field k place) other h = ap read_as h
 
-module _ {K : Type 0} (gives : Appending K) (c : Cluster) where
+module _ {K : Type 0} (gives : Changing K) (c : Cluster) where
   pub lead_none : (o : Option ℕ) (a : Scene K) → o ≡ None → AreReady c a.guests
       → Acts gives c [] (lead_at c o (hosted_in a.guests)) (Ok tt) a a
   lead_none o a e ready =
@@ -100,6 +100,31 @@ module _ {K : Type 0} (gives : Appending K) (c : Cluster) where
       let hs = hosted_in a.guests in
       subst (λ (t : Bool). Acts gives c [] (if t then lead_at c (place_of (role kind.Leader 0) hs) hs else stays hs)
       (Ok tt) a a) (sym none) (acts_nothing gives c a ready)
+
+  pub snap_due : (n : ℕ) (r : Done) (a b : Scene K) → (n % 4096 == 0) ≡ true
+      → Acts gives c [] (all_do Snap (hosted_in a.guests)) r a b → Acts gives c [] (snaps n (hosted_in a.guests)) r a b
+  unfolding snaps
+  snap_due n r a b due p =
+      let hs = hosted_in a.guests in
+      subst (λ (t : Bool). Acts gives c [] (if t then all_do Snap hs else stays hs) r a b) (sym due) p
+
+  pub snap_none : (n : ℕ) (a : Scene K) → (n % 4096 == 0) ≡ false → AreReady c a.guests
+      → Acts gives c [] (snaps n (hosted_in a.guests)) (Ok tt) a a
+  unfolding snaps
+  snap_none n a none ready =
+      let hs = hosted_in a.guests in
+      subst (λ (t : Bool). Acts gives c [] (if t then all_do Snap hs else stays hs) (Ok tt) a a) (sym none)
+      (acts_nothing gives c a ready)
+
+  pub prepare_order : (n : ℕ) (e : Stop) (a b : Scene K) → Acts gives c [] (ordered c n (hosted_in a.guests)) (Err e) a b
+      → Acts gives c [] (prepared c n (hosted_in a.guests)) (Err e) a b
+  unfolding prepared
+  prepare_order n e a b p = acts_before gives c [] [] (ordered c n (hosted_in a.guests)) (λ led. snaps n led) e a b p
+
+  pub prepare_snap : (n : ℕ) (r : Done) (a b d : Scene K) → Acts gives c [] (ordered c n (hosted_in a.guests)) (Ok tt) a b
+      → Acts gives c [] (snaps n (hosted_in b.guests)) r b d → Acts gives c [] (prepared c n (hosted_in a.guests)) r a d
+  unfolding prepared
+  prepare_snap n r a b d p q = acts_then gives c [] [] (ordered c n (hosted_in a.guests)) (λ led. snaps n led) r a b d p q
 
   pub tick_due : (n : ℕ) (r : Done) (a b : Scene K) → (n % 64 == 0) ≡ true
       → Acts gives c [] (all_do (Give input.Tick) (hosted_in a.guests)) r a b
@@ -205,30 +230,30 @@ module _ {K : Type 0} (gives : Appending K) (c : Cluster) where
       (acts_then gives c [] [] (first_do n what hs) (λ after. does_at n what after) (Err e) a b d p q)
 
   -- one part of a turn after another
-  pub turn_order : (n : ℕ) (e : Stop) (a b : Scene K) → Acts gives c [] (ordered c n (hosted_in a.guests)) (Err e) a b
+  pub turn_prepare : (n : ℕ) (e : Stop) (a b : Scene K) → Acts gives c [] (prepared c n (hosted_in a.guests)) (Err e) a b
       → ActsOnce gives c (λ what. turn c n what (hosted_in a.guests)) (Err e) a b
   unfolding turn
-  turn_order n e a b p = (
+  turn_prepare n e a b p = (
     None,
-    acts_before gives c [] (None ∷ []) (ordered c n (hosted_in a.guests))
+    acts_before gives c [] (None ∷ []) (prepared c n (hosted_in a.guests))
         (λ after. then_do (comes None after) (λ last. ticked n last)) e a b p,
   )
 
   pub turn_take : (n : ℕ) (e : Stop) (a b d : Scene K)
-      → Acts gives c [] (ordered c n (hosted_in a.guests)) (Ok tt) a b
+      → Acts gives c [] (prepared c n (hosted_in a.guests)) (Ok tt) a b
       → ActsOnce gives c (λ what. comes what (hosted_in b.guests)) (Err e) b d
       → ActsOnce gives c (λ what. turn c n what (hosted_in a.guests)) (Err e) a d
   unfolding turn
   turn_take n e a b d p q =
       let what = q.0 in (
         what,
-        acts_then gives c [] (what ∷ []) (ordered c n (hosted_in a.guests))
+        acts_then gives c [] (what ∷ []) (prepared c n (hosted_in a.guests))
             (λ after. then_do (comes what after) (λ last. ticked n last)) (Err e) a b d p
             (acts_before gives c (what ∷ []) [] (comes what (hosted_in b.guests)) (λ last. ticked n last) e b d q.1),
       )
 
   pub turn_tick : (n : ℕ) (r : Done) (a b d f : Scene K)
-      → Acts gives c [] (ordered c n (hosted_in a.guests)) (Ok tt) a b
+      → Acts gives c [] (prepared c n (hosted_in a.guests)) (Ok tt) a b
       → ActsOnce gives c (λ what. comes what (hosted_in b.guests)) (Ok tt) b d
       → Acts gives c [] (ticked n (hosted_in d.guests)) r d f
       → ActsOnce gives c (λ what. turn c n what (hosted_in a.guests)) r a f
@@ -236,7 +261,7 @@ module _ {K : Type 0} (gives : Appending K) (c : Cluster) where
   turn_tick n r a b d f p q t =
       let what = q.0 in (
         what,
-        acts_then gives c [] (what ∷ []) (ordered c n (hosted_in a.guests))
+        acts_then gives c [] (what ∷ []) (prepared c n (hosted_in a.guests))
             (λ after. then_do (comes what after) (λ last. ticked n last)) r a b f p
             (acts_then gives c (what ∷ []) [] (comes what (hosted_in b.guests)) (λ last. ticked n last) r b d f q.1 t),
       )

@@ -8,6 +8,7 @@ use Rattle.std.proofs.lemmas.Option.{none-some, same_Some, slice_get-map}
 use Rattle.std.specs.Io.KnownBytes.{Appends}
 use Rattle.cx_base.specs.Role.{same_role}
 use Rattle.cx_base.specs.declared.cluster.Cluster.{Cluster}
+use Rattle.cx_base.specs.declared.role.Kind.TheVariants as kind
 use Rattle.cx_base.specs.declared.role.RoleId.{RoleId}
 use Rattle.cx_edge.specs.Link.{LinkHistory}
 use Rattle.cx_edge.specs.Sink.{AppendsPart}
@@ -20,40 +21,46 @@ use Rattle.cx_model.specs.Matchmaker.{matchmaker_rules}
 use Rattle.cx_model.specs.Names.{names_role}
 use Rattle.cx_model.specs.Proxy.{proxy_rules}
 use Rattle.cx_model.specs.Reader.{reader_rules}
-use Rattle.cx_model.specs.Replica.{replica_rules}
-use Rattle.cx_model.specs.Rules.{outcome_of}
+use Rattle.cx_model.specs.Replica.{ReplicaDurable, ReplicaVolatile, replica_renewed, replica_rules}
+use Rattle.cx_model.specs.Rules.{Rules, Running, outcome_of}
 use Rattle.cx_model.specs.Unbatcher.{unbatcher_rules}
-use Rattle.cx_model.specs.World.{kept_by, records_of}
 use Rattle.cx_msg.specs.Letter.{Letter}
+use Rattle.cx_msg.specs.declared.input.Input.{Input}
 use Rattle.cx_msg.specs.declared.input.Input.TheVariants as input
-use Rattle.cx_msg.specs.declared.input.KeptRecord.{KeptRecord}
-use Rattle.cx_msg.specs.declared.input.Written.TheVariants as written
+use Rattle.cx_keeper.specs.Keeper.{Append, Change, Renewal}
 use Rattle.cx_msg.specs.declared.kept.Record.{Record}
-use Rattle.cx_role.specs.Role.{Appending}
 use Rattle.cx_node.specs.declared.doing.Doing.{Doing}
-use Rattle.cx_node.specs.declared.doing.Doing.TheVariants.{Begin, Give}
+use Rattle.cx_node.specs.declared.doing.Doing.TheVariants.{Begin, Give, Snap}
 use Rattle.cx_node.specs.declared.guest.Guest.{Guest}
 use Rattle.cx_node.specs.declared.node.Stop.{Stop}
 use Rattle.cx_node.specs.declared.node.Stop.TheVariants as stop
 use Rattle.cx_node.specs.Action.{Action, Kept, Printed, Sent, step_actions}
 use Rattle.cx_node.specs.Acts.{Acts}
+use Rattle.cx_node.specs.Changing.{Changing, StoreChange, changed_by, changes_of}
 use Rattle.cx_node.specs.Doing.{Asks, AsksPart, Did, DidPart, GuestsGrow, scene}
 use Rattle.cx_node.specs.Guest.{AreDistinct, AreReady, FailsIn, Grows, GuestGrows, IsReady, Rests, hosted_in}
 use Rattle.cx_node.specs.Guest.{hosted_of, keeper_of, who}
 use Rattle.cx_node.specs.Hosted.{Hosted, Step, ClientAt, BatcherAt, LeaderAt, ProxyAt, AcceptorAt, MatchmakerAt}
-use Rattle.cx_node.specs.Hosted.{ReplicaAt, UnbatcherAt, ReaderAt, does, is_live, name_of}
+use Rattle.cx_node.specs.Hosted.{ReplicaAt, UnbatcherAt, ReaderAt, does, is_live, kind_at, name_of, snap_of}
 use Rattle.cx_node.specs.Run.{Moved, does_at, found_does, put_back}
 use Rattle.cx_node.proofs.Asked.{linked_step, step_bound, step_kept, step_printed, step_taken}
 use Rattle.cx_node.proofs.Done.{did_nothing, guests_rest, rests_itself, same_at, stands_at}
 use Rattle.cx_node.proofs.Grown.{before, behind, grows_none}
 
--- what a role keeps is its own
-other_kept : (me who : RoleId) (o : Option Record) → same_role me who ≡ false → records_of me (kept_by who (option_map written.Record o)) ≡ []
+-- what a role changes is its own store
+other_kept : (me who : RoleId) (o : Option Change) → same_role me who ≡ false → changes_of me (changed_by who o) ≡ []
 other_kept me who None e = refl
-other_kept me who (Some r) e = rw e refl
+other_kept me who (Some change) e = rw e refl
+
+-- what a row has a role append, and what a replica's snap has it renew
+abbrev appended : {D V : Type 0} → Rules D V → Running D V → Input → Option Change
+appended rules s i = option_map Append (outcome_of rules s i).kept
+
+abbrev renewed : Running ReplicaDurable ReplicaVolatile → Option Change
+renewed s = option_map (λ b. Renewal (replica_renewed s.durable b)) (snap_of s)
 
 kept_own : (h : Hosted) (what : Doing) (me : RoleId) → same_role me (name_of h) ≡ false
-    → records_of me (does h what).kept ≡ []
+    → changes_of me (does h what).kept ≡ []
 unfolding does
 kept_own (ClientAt s) Begin me e = refl
 kept_own (BatcherAt s) Begin me e = refl
@@ -67,29 +74,38 @@ kept_own (ReaderAt s) Begin me e = refl
 kept_own (ClientAt s) (Give (input.Take d)) me e = refl
 kept_own (ClientAt s) (Give input.Tick) me e = refl
 kept_own (ClientAt s) (Give (input.Order order)) me e = refl
-kept_own (BatcherAt s) (Give i) me e = other_kept me s.me (outcome_of batcher_rules s i).kept e
-kept_own (LeaderAt s) (Give i) me e = other_kept me s.me (outcome_of leader_rules s i).kept e
-kept_own (ProxyAt s) (Give i) me e = other_kept me s.me (outcome_of proxy_rules s i).kept e
-kept_own (AcceptorAt s) (Give i) me e = other_kept me s.me (outcome_of acceptor_rules s i).kept e
-kept_own (MatchmakerAt s) (Give i) me e = other_kept me s.me (outcome_of matchmaker_rules s i).kept e
-kept_own (ReplicaAt s) (Give i) me e = other_kept me s.me (outcome_of replica_rules s i).kept e
-kept_own (UnbatcherAt s) (Give i) me e = other_kept me s.me (outcome_of unbatcher_rules s i).kept e
-kept_own (ReaderAt s) (Give i) me e = other_kept me s.me (outcome_of reader_rules s i).kept e
+kept_own (BatcherAt s) (Give i) me e = other_kept me s.me (appended batcher_rules s i) e
+kept_own (LeaderAt s) (Give i) me e = other_kept me s.me (appended leader_rules s i) e
+kept_own (ProxyAt s) (Give i) me e = other_kept me s.me (appended proxy_rules s i) e
+kept_own (AcceptorAt s) (Give i) me e = other_kept me s.me (appended acceptor_rules s i) e
+kept_own (MatchmakerAt s) (Give i) me e = other_kept me s.me (appended matchmaker_rules s i) e
+kept_own (ReplicaAt s) (Give i) me e = other_kept me s.me (appended replica_rules s i) e
+kept_own (UnbatcherAt s) (Give i) me e = other_kept me s.me (appended unbatcher_rules s i) e
+kept_own (ReaderAt s) (Give i) me e = other_kept me s.me (appended reader_rules s i) e
+kept_own (ClientAt s) Snap me e = refl
+kept_own (BatcherAt s) Snap me e = refl
+kept_own (LeaderAt s) Snap me e = refl
+kept_own (ProxyAt s) Snap me e = refl
+kept_own (AcceptorAt s) Snap me e = refl
+kept_own (MatchmakerAt s) Snap me e = refl
+kept_own (ReplicaAt s) Snap me e = other_kept me s.me (renewed s) e
+kept_own (UnbatcherAt s) Snap me e = refl
+kept_own (ReaderAt s) Snap me e = refl
 
--- the record that a step keeps is its first action
-first_of : (me : RoleId) (o : Option Record) (r : Record) (more : List Action)
-    → slice_get (records_of me (kept_by me (option_map written.Record o))) 0 ≡ Some r
-    → slice_get (map Kept (kept_by me (option_map written.Record o)) ++ more) 0 ≡ Some (Kept (record { role = me; what = written.Record r }))
+-- the change that a step makes is its first action
+first_of : (me : RoleId) (o : Option Change) (r : Change) (more : List Action)
+    → slice_get (changes_of me (changed_by me o)) 0 ≡ Some r
+    → slice_get (map Kept (changed_by me o) ++ more) 0 ≡ Some (Kept (record { role = me; change = r }))
 first_of me None r more e = absurd (none-some r e)
 first_of me (Some x) r more e =
-    ap (λ y. Some (Kept (record { role = me; what = written.Record y }))) (same_Some x r (sym (own (same_role-itself me)) ∙ e))
+    ap (λ y. Some (Kept (record { role = me; change = y }))) (same_Some x r (sym (own (same_role-itself me)) ∙ e))
   where
     own : same_role me me ≡ true → slice_get (if same_role me me then x ∷ [] else []) 0 ≡ Some x
     own is = rw is refl
 
-kept_first : (h : Hosted) (what : Doing) (r : Record) (more : List Action)
-    → slice_get (records_of (name_of h) (does h what).kept) 0 ≡ Some r
-    → slice_get (map Kept (does h what).kept ++ more) 0 ≡ Some (Kept (record { role = name_of h; what = written.Record r }))
+kept_first : (h : Hosted) (what : Doing) (r : Change) (more : List Action)
+    → slice_get (changes_of (name_of h) (does h what).kept) 0 ≡ Some r
+    → slice_get (map Kept (does h what).kept ++ more) 0 ≡ Some (Kept (record { role = name_of h; change = r }))
 unfolding does
 kept_first (ClientAt s) Begin r more e = absurd (none-some r e)
 kept_first (BatcherAt s) Begin r more e = absurd (none-some r e)
@@ -103,32 +119,117 @@ kept_first (ReaderAt s) Begin r more e = absurd (none-some r e)
 kept_first (ClientAt s) (Give (input.Take d)) r more e = absurd (none-some r e)
 kept_first (ClientAt s) (Give input.Tick) r more e = absurd (none-some r e)
 kept_first (ClientAt s) (Give (input.Order order)) r more e = absurd (none-some r e)
-kept_first (BatcherAt s) (Give i) r more e = first_of s.me (outcome_of batcher_rules s i).kept r more e
-kept_first (LeaderAt s) (Give i) r more e = first_of s.me (outcome_of leader_rules s i).kept r more e
-kept_first (ProxyAt s) (Give i) r more e = first_of s.me (outcome_of proxy_rules s i).kept r more e
-kept_first (AcceptorAt s) (Give i) r more e = first_of s.me (outcome_of acceptor_rules s i).kept r more e
-kept_first (MatchmakerAt s) (Give i) r more e = first_of s.me (outcome_of matchmaker_rules s i).kept r more e
-kept_first (ReplicaAt s) (Give i) r more e = first_of s.me (outcome_of replica_rules s i).kept r more e
-kept_first (UnbatcherAt s) (Give i) r more e = first_of s.me (outcome_of unbatcher_rules s i).kept r more e
-kept_first (ReaderAt s) (Give i) r more e = first_of s.me (outcome_of reader_rules s i).kept r more e
+kept_first (BatcherAt s) (Give i) r more e = first_of s.me (appended batcher_rules s i) r more e
+kept_first (LeaderAt s) (Give i) r more e = first_of s.me (appended leader_rules s i) r more e
+kept_first (ProxyAt s) (Give i) r more e = first_of s.me (appended proxy_rules s i) r more e
+kept_first (AcceptorAt s) (Give i) r more e = first_of s.me (appended acceptor_rules s i) r more e
+kept_first (MatchmakerAt s) (Give i) r more e = first_of s.me (appended matchmaker_rules s i) r more e
+kept_first (ReplicaAt s) (Give i) r more e = first_of s.me (appended replica_rules s i) r more e
+kept_first (UnbatcherAt s) (Give i) r more e = first_of s.me (appended unbatcher_rules s i) r more e
+kept_first (ReaderAt s) (Give i) r more e = first_of s.me (appended reader_rules s i) r more e
+kept_first (ClientAt s) Snap r more e = absurd (none-some r e)
+kept_first (BatcherAt s) Snap r more e = absurd (none-some r e)
+kept_first (LeaderAt s) Snap r more e = absurd (none-some r e)
+kept_first (ProxyAt s) Snap r more e = absurd (none-some r e)
+kept_first (AcceptorAt s) Snap r more e = absurd (none-some r e)
+kept_first (MatchmakerAt s) Snap r more e = absurd (none-some r e)
+kept_first (ReplicaAt s) Snap r more e = first_of s.me (renewed s) r more e
+kept_first (UnbatcherAt s) Snap r more e = absurd (none-some r e)
+kept_first (ReaderAt s) Snap r more e = absurd (none-some r e)
 
--- an append that failed was of some record
-fails_some : {K : Type 0} (gives : Appending K) (o : Option Record) (a b : Option K) → FailsIn gives o a b
-    → (r : Record) × (o ≡ Some r) × FailsIn gives (Some r) a b
+-- what a role does leaves it of its kind
+kind_stays : (h : Hosted) (what : Doing) → kind_at (does h what).next ≡ kind_at h
+unfolding does
+kind_stays (ClientAt s) Begin = refl
+kind_stays (BatcherAt s) Begin = refl
+kind_stays (LeaderAt s) Begin = refl
+kind_stays (ProxyAt s) Begin = refl
+kind_stays (AcceptorAt s) Begin = refl
+kind_stays (MatchmakerAt s) Begin = refl
+kind_stays (ReplicaAt s) Begin = refl
+kind_stays (UnbatcherAt s) Begin = refl
+kind_stays (ReaderAt s) Begin = refl
+kind_stays (ClientAt s) (Give (input.Take d)) = refl
+kind_stays (ClientAt s) (Give input.Tick) = refl
+kind_stays (ClientAt s) (Give (input.Order order)) = refl
+kind_stays (BatcherAt s) (Give i) = refl
+kind_stays (LeaderAt s) (Give i) = refl
+kind_stays (ProxyAt s) (Give i) = refl
+kind_stays (AcceptorAt s) (Give i) = refl
+kind_stays (MatchmakerAt s) (Give i) = refl
+kind_stays (ReplicaAt s) (Give i) = refl
+kind_stays (UnbatcherAt s) (Give i) = refl
+kind_stays (ReaderAt s) (Give i) = refl
+kind_stays (ClientAt s) Snap = refl
+kind_stays (BatcherAt s) Snap = refl
+kind_stays (LeaderAt s) Snap = refl
+kind_stays (ProxyAt s) Snap = refl
+kind_stays (AcceptorAt s) Snap = refl
+kind_stays (MatchmakerAt s) Snap = refl
+kind_stays (ReplicaAt s) Snap = refl
+kind_stays (UnbatcherAt s) Snap = refl
+kind_stays (ReaderAt s) Snap = refl
+
+-- only a replica puts its list anew
+no_renewal : (me : RoleId) (o : Option Record) (records : List Record)
+    → slice_get (changes_of me (changed_by me (option_map Append o))) 0 ≡ Some (Renewal records) → ⊥
+no_renewal me None records e = cc
+no_renewal me (Some r) records e = differ (sym (own (same_role-itself me)) ∙ e)
+  where
+    own : same_role me me ≡ true → slice_get (if same_role me me then Append r ∷ [] else []) 0 ≡ Some (Append r)
+    own is = rw is refl
+
+    differ : Some (Append r) ≡ Some (Renewal records) → ⊥
+    differ f = cc
+
+renewed_by : (h : Hosted) (what : Doing) (records : List Record)
+    → slice_get (changes_of (name_of h) (does h what).kept) 0 ≡ Some (Renewal records) → kind_at h ≡ kind.Replica
+unfolding does
+renewed_by (ClientAt s) Begin records e = absurd (none-some (Renewal records) e)
+renewed_by (BatcherAt s) Begin records e = absurd (none-some (Renewal records) e)
+renewed_by (LeaderAt s) Begin records e = absurd (none-some (Renewal records) e)
+renewed_by (ProxyAt s) Begin records e = absurd (none-some (Renewal records) e)
+renewed_by (AcceptorAt s) Begin records e = absurd (none-some (Renewal records) e)
+renewed_by (MatchmakerAt s) Begin records e = absurd (none-some (Renewal records) e)
+renewed_by (UnbatcherAt s) Begin records e = absurd (none-some (Renewal records) e)
+renewed_by (ReaderAt s) Begin records e = absurd (none-some (Renewal records) e)
+renewed_by (ReplicaAt s) what records e = refl
+renewed_by (ClientAt s) (Give (input.Take d)) records e = absurd (none-some (Renewal records) e)
+renewed_by (ClientAt s) (Give input.Tick) records e = absurd (none-some (Renewal records) e)
+renewed_by (ClientAt s) (Give (input.Order order)) records e = absurd (none-some (Renewal records) e)
+renewed_by (BatcherAt s) (Give i) records e = absurd (no_renewal s.me (outcome_of batcher_rules s i).kept records e)
+renewed_by (LeaderAt s) (Give i) records e = absurd (no_renewal s.me (outcome_of leader_rules s i).kept records e)
+renewed_by (ProxyAt s) (Give i) records e = absurd (no_renewal s.me (outcome_of proxy_rules s i).kept records e)
+renewed_by (AcceptorAt s) (Give i) records e = absurd (no_renewal s.me (outcome_of acceptor_rules s i).kept records e)
+renewed_by (MatchmakerAt s) (Give i) records e = absurd (no_renewal s.me (outcome_of matchmaker_rules s i).kept records e)
+renewed_by (UnbatcherAt s) (Give i) records e = absurd (no_renewal s.me (outcome_of unbatcher_rules s i).kept records e)
+renewed_by (ReaderAt s) (Give i) records e = absurd (no_renewal s.me (outcome_of reader_rules s i).kept records e)
+renewed_by (ClientAt s) Snap records e = absurd (none-some (Renewal records) e)
+renewed_by (BatcherAt s) Snap records e = absurd (none-some (Renewal records) e)
+renewed_by (LeaderAt s) Snap records e = absurd (none-some (Renewal records) e)
+renewed_by (ProxyAt s) Snap records e = absurd (none-some (Renewal records) e)
+renewed_by (AcceptorAt s) Snap records e = absurd (none-some (Renewal records) e)
+renewed_by (MatchmakerAt s) Snap records e = absurd (none-some (Renewal records) e)
+renewed_by (UnbatcherAt s) Snap records e = absurd (none-some (Renewal records) e)
+renewed_by (ReaderAt s) Snap records e = absurd (none-some (Renewal records) e)
+
+-- what failed was some change
+fails_some : {K : Type 0} (gives : Changing K) (o : Option Change) (a b : Option K) → FailsIn gives o a b
+    → (r : Change) × (o ≡ Some r) × FailsIn gives (Some r) a b
 fails_some gives None None b f = absurd f
 fails_some gives None (Some a) None f = absurd f
 fails_some gives None (Some a) (Some b) f = absurd f
 fails_some gives (Some r) a b f = (r, refl, f)
 
 -- where the actions of a step end that are done before it stops between its datagrams, or within its text
-cut_sends : (ks : List KeptRecord) (ls : List Letter) (bs : List ℕ) (n : ℕ) → (k : ℕ)
+cut_sends : (ks : List StoreChange) (ls : List Letter) (bs : List ℕ) (n : ℕ) → (k : ℕ)
     × (take k (step_actions ks ls bs) ≡ step_actions ks (take n ls) [])
 cut_sends ks ls bs n =
     let j = before (map Sent ls) (map Printed bs) n in
     let k = behind (map Kept ks) (map Sent ls ++ map Printed bs) j.0 in
     (k.0, k.1 ∙ ap (λ xs. map Kept ks ++ xs) (j.1 ∙ take-map Sent n ls ∙ sym (append-nil (map Sent (take n ls)))))
 
-cut_text : (ks : List KeptRecord) (ls : List Letter) (bs : List ℕ) (n : ℕ) → (k : ℕ)
+cut_text : (ks : List StoreChange) (ls : List Letter) (bs : List ℕ) (n : ℕ) → (k : ℕ)
     × (take k (step_actions ks ls bs) ≡ step_actions ks ls (take n bs))
 cut_text ks ls bs n =
     let j = behind (map Sent ls) (map Printed bs) n in
@@ -162,7 +263,7 @@ names_set [] i h after e same = refl
 names_set (a ∷ gs) zero h after e same = ap (λ w. w ∷ map who gs) (same ∙ ap who (sym (same_Some a h e)))
 names_set (a ∷ gs) (suc i) h after e same = ap (λ l. who a ∷ l) (names_set gs i h after e same)
 
-module _ {K : Type 0} (gives : Appending K) (c : Cluster) (gs : List (Guest K)) (i : ℕ) (what : Doing)
+module _ {K : Type 0} (gives : Changing K) (c : Cluster) (gs : List (Guest K)) (i : ℕ) (what : Doing)
     (h after : Guest K) (here : slice_get gs i ≡ Some h) (ready : AreReady c gs) (same : who after ≡ who h) where
   -- what holds at that place, and of each other role, holds of all
   each_at : (P : Guest K → Guest K → Type 0) → P h after
@@ -191,8 +292,9 @@ module _ {K : Type 0} (gives : Appending K) (c : Cluster) (gs : List (Guest K)) 
   unfolding does_at
   seat_does_at = ap (found_does i (hosted_in gs) what) (hosted_at gs i h here)
 
-  ready_still : IsTrue (is_live (hosted_of after)) → AreReady c (slice_set gs i after)
-  ready_still live =
+  ready_still : IsTrue (is_live (hosted_of after)) → kind_at (hosted_of after) ≡ kind_at (hosted_of h)
+      → AreReady c (slice_set gs i after)
+  ready_still live kept_kind =
       record {
         each = λ j b f.
             let a = stands_at (slice_set gs i after) gs j b (sym (length-set gs i after)) f in
@@ -200,6 +302,7 @@ module _ {K : Type 0} (gives : Appending K) (c : Cluster) (gs : List (Guest K)) 
               live = live;
               named = subst (λ w. IsTrue (names_role c w))
                   (sym same) (ready.each i h here).named;
+              kind = kept_kind ∙ (ready.each i h here).kind ∙ ap (λ (w : RoleId). w.kind) (sym same);
             }) (λ k x differs e. ready.each k x e) j a.0 b a.1 f;
         distinct =
             distinct_still gs (slice_set gs i after) (length-set gs i after)
@@ -242,7 +345,7 @@ module _ {K : Type 0} (gives : Appending K) (c : Cluster) (gs : List (Guest K)) 
               (subst (Appends o p) text_is printed);
         };
         taken = (step_bound step.kept step.sends step.text, step_taken step.kept step.sends step.text);
-        ready = ready_still live;
+        ready = ready_still live (ap kind_at next ∙ kind_stays (hosted_of h) what);
         part = tt;
       })
 
@@ -263,11 +366,11 @@ module _ {K : Type 0} (gives : Appending K) (c : Cluster) (gs : List (Guest K)) 
       }
 
   seated_fails : (l : Option LinkHistory) (o : Option (List ℕ)) (role : RoleId) → who h ≡ role
-      → FailsIn gives (slice_get (records_of (who h) step.kept) 0) (keeper_of h) (keeper_of after)
+      → FailsIn gives (slice_get (changes_of (who h) step.kept) 0) (keeper_of h) (keeper_of after)
       → DidPart gives c (step_actions step.kept step.sends step.text) (stop.StoreFault role) (scene gs l o)
       (scene (slice_set gs i after) l o)
   seated_fails l o role name fails =
-      let f = fails_some gives (slice_get (records_of (who h) step.kept) 0) (keeper_of h) (keeper_of after) fails in
+      let f = fails_some gives (slice_get (changes_of (who h) step.kept) 0) (keeper_of h) (keeper_of after) fails in
       record {
         count = 0;
         mid = gs;
@@ -275,7 +378,7 @@ module _ {K : Type 0} (gives : Appending K) (c : Cluster) (gs : List (Guest K)) 
         stops = (
           f.0,
           subst (λ me. slice_get (step_actions step.kept step.sends step.text) 0 ≡ Some
-              (Kept (record { role = me; what = written.Record f.0 }))) name
+              (Kept (record { role = me; change = f.0 }))) name
               (kept_first (hosted_of h) what f.0 (map Sent step.sends ++ map Printed step.text) f.1),
           record {
             place = i;
@@ -286,6 +389,9 @@ module _ {K : Type 0} (gives : Appending K) (c : Cluster) (gs : List (Guest K)) 
             name = name;
             same = same;
             fails = f.2;
+            renews = λ records is.
+                ap (λ (w : RoleId). w.kind) (sym name) ∙ sym (ready.each i h here).kind
+                ∙ renewed_by (hosted_of h) what records (f.1 ∙ ap Some is);
           },
         );
       }
@@ -303,7 +409,7 @@ module _ {K : Type 0} (gives : Appending K) (c : Cluster) (gs : List (Guest K)) 
   pub acts_unasked : (l : Option LinkHistory) (o : Option (List ℕ)) (e : Stop)
       → (e ≡ stop.NoMemory → Rests gives (keeper_of h) (keeper_of after))
       → ((role : RoleId) → e ≡ stop.StoreFault role → (who h ≡ role)
-      × FailsIn gives (slice_get (records_of (who h) step.kept) 0) (keeper_of h) (keeper_of after))
+      × FailsIn gives (slice_get (changes_of (who h) step.kept) 0) (keeper_of h) (keeper_of after))
       → (e ≡ stop.WriteFault → ⊥) → (e ≡ stop.LinkFault → ⊥)
       → Acts gives c [] (does_at i what (hosted_in gs)) (Err e) (scene gs l o) (scene (slice_set gs i after) l o)
   acts_unasked l o stop.NoMemory rests fails no_write no_link =

@@ -1,15 +1,26 @@
--- What a journal has after appends, and why one failed.
-use Rattle.std.proofs.Common.{◌≡◌, ◌≤◌, ◌⊎◌, ℕ, zero, suc, arith, Bool, true, List, [], ◌∷◌, ◌++◌, take, Option, Some}
-use Rattle.std.proofs.Common.{Result, Ok, Err, refl, sym, ap, ◌∙◌, subst, inl, inr, append_assoc, append-nil, is_some}
+-- What a store has after changes, and why one failed.
+use Rattle.std.proofs.Common.{◌≡◌, ◌≤◌, ◌⊎◌, ℕ, zero, suc, arith, Bool, true, List, [], ◌∷◌, ◌++◌, take, Option, None, Some}
+use Rattle.std.proofs.Common.{Result, Ok, Err, refl, sym, ap, ◌∙◌, subst, inl, inr, is_some}
 use Rattle.std.specs.Prelude.{slice_get}
+use Rattle.std.proofs.lemmas.Option.{none-some, same_Some}
 use Rattle.cx_base.specs.Faults.{Rises}
+use Rattle.cx_base.specs.declared.role.RoleId.{RoleId}
+use Rattle.cx_disk.specs.declared.disk.Disk.{Ghosts as DiskGhosts}
+use Rattle.cx_edge.specs.Shelf.{shelf}
+use Rattle.cx_keeper.specs.Keeper.{Append, Change, IsChange, Renewal, list_after}
 use Rattle.cx_keeper.specs.declared.keeper.KeepFault.{KeepFault}
 use Rattle.cx_keeper.specs.declared.keeper.KeepFault.TheVariants.{Failed, NoMemory}
+use Rattle.cx_journal.specs.Files.{files_records}
+use Rattle.cx_journal.specs.Store.{IsStoreChange, store_faults, store_told, store_whole}
+use Rattle.cx_journal.specs.StoreLaw.{store_change_is}
+use Rattle.cx_journal.specs.declared.store.Store.{Store}
+use Rattle.cx_journal.specs.declared.store.Store.TheVariants.{One, Two}
+use Rattle.cx_journal.proofs.Stores.{store_whole_after}
 use Rattle.cx_msg.specs.declared.kept.Record.{Record}
-use Rattle.cx_journal.specs.Appends.{IsJournalAppend}
-use Rattle.cx_journal.specs.State.{JournalState, told_records}
-use Rattle.cx_role.specs.Role.{Appending, Refuses}
-use Rattle.cx_node.specs.Guest.{Appended, Fails}
+use Rattle.cx_node.specs.Changing.{Changing, Refuses, lists_after}
+use Rattle.cx_node.specs.Guest.{Changed, Fails}
+use Rattle.cx_node.specs.Hosting.{store_gives}
+use Rattle.cx_node.specs.Stores.{Lent, NoneFailed, disks_of, is_two}
 
 pub take_next : {X : Type 0} (xs : List X) (n : ℕ) (x : X) → slice_get xs n ≡ Some x → take (suc n) xs ≡ take n xs
     ++ x ∷ []
@@ -31,64 +42,151 @@ ok_is_no_fault e = cc
 no_memory_is_no_fault : ◌≡◌ {A = Result (Unit {0}) KeepFault} (Err NoMemory) (Err Failed) → ⊥
 no_memory_is_no_fault e = cc
 
-module _ {D : Type 0} (seen : D → Option (List ℕ)) (may_leave : D → List ℕ → Type 0) (moment : D → ℕ)
-    (left_since : D → ℕ → List ℕ → Type 0) (disk_faults : D → ℕ) where
-  abbrev pub gives : Appending (JournalState D)
-  gives = IsJournalAppend seen may_leave moment left_since disk_faults
+-- a disk of a store is its role's, and has not failed where none of them has
+pub role_of_disk : {S : Type 0} (me : RoleId) (o : Option (Store S)) (n : ℕ) (l : Lent S)
+    → slice_get (disks_of me o) n ≡ Some l → l.place.role ≡ me
+role_of_disk me None n l at = absurd (none-some l at)
+role_of_disk me (Some (One j)) zero l at = ap (λ (l : Lent _). l.place.role) (sym (same_Some _ l at))
+role_of_disk me (Some (One j)) (suc n) l at = absurd (none-some l at)
+role_of_disk me (Some (Two t)) zero l at = ap (λ (l : Lent _). l.place.role) (sym (same_Some _ l at))
+role_of_disk me (Some (Two t)) (suc zero) l at = ap (λ (l : Lent _). l.place.role) (sym (same_Some _ l at))
+role_of_disk me (Some (Two t)) (suc (suc n)) l at = absurd (none-some l at)
 
-  abbrev pub kept : JournalState D → List Record
-  kept j = told_records (seen j.disk)
+pub none_failed_at : {S : Type 0} (disk_faults : S → ℕ) (me : RoleId) (s : Store S) (n : ℕ) (l : Lent S)
+    → slice_get (disks_of me (Some s)) n ≡ Some l → NoneFailed disk_faults s → disk_faults l.disk ≡ 0
+none_failed_at faults me (One j) zero l at none = ap (λ (l : Lent _). faults l.disk) (sym (same_Some _ l at)) ∙ none
+none_failed_at faults me (One j) (suc n) l at none = absurd (none-some l at)
+none_failed_at faults me (Two t) zero l at none = ap (λ (l : Lent _). faults l.disk) (sym (same_Some _ l at)) ∙ none.0
+none_failed_at faults me (Two t) (suc zero) l at none =
+    ap (λ (l : Lent _). faults l.disk) (sym (same_Some _ l at)) ∙ none.1
+none_failed_at faults me (Two t) (suc (suc n)) l at none = absurd (none-some l at)
 
-  abbrev pub tells : JournalState D → Bool
-  tells j = is_some (seen j.disk)
+module _ {D : Type 0} (by : DiskGhosts D) where
+  abbrev pub gives : Changing (Store D)
+  gives = store_gives by
 
-  pub appended_whole : (rs : List Record) (a b : JournalState D) → a.whole ≡ true → Appended gives rs a b
-      → b.whole ≡ true
-  appended_whole [] a b whole p = subst (λ (x : JournalState D). x.whole ≡ true) (sym p) whole
-  appended_whole (r ∷ rs) a b whole p = appended_whole rs p.0 b (p.1.whole refl) p.2
+  abbrev pub kept : Store D → List Record
+  kept s = files_records (store_told by.seen s)
 
-  pub appended_tells : (rs : List Record) (a b : JournalState D) → tells a ≡ true → Appended gives rs a b
-      → tells b ≡ true
-  appended_tells [] a b told p = subst (λ (x : JournalState D). tells x ≡ true) (sym p) told
-  appended_tells (r ∷ rs) a b told p = appended_tells rs p.0 b (p.1.appends.told ∙ told) p.2
+  abbrev pub tells : Store D → Bool
+  tells s = is_some (store_told by.seen s)
 
-  pub appended_told : (rs : List Record) (a b : JournalState D) → tells a ≡ true → Appended gives rs a b
-      → kept b ≡ kept a ++ rs
-  appended_told [] a b told p = ap kept p ∙ sym (append-nil (kept a))
-  appended_told (r ∷ rs) a b told p =
-      appended_told rs p.0 b (p.1.appends.told ∙ told) p.2 ∙ ap (λ l. l ++ rs) (p.1.appends.ok refl told)
-      ∙ append_assoc (kept a) (r ∷ []) rs
+  pub change_is : (a : Store D) (change : Change) (answer : Result (Unit {0}) KeepFault) (b : Store D)
+      → gives a change answer b → IsStoreChange by a change answer b
+  change_is a (Append r) answer b p = p
+  change_is a (Renewal records) answer b p = p
 
-  -- the count of the disk stands where no append has failed
-  pub appended_still : (rs : List Record) (a b : JournalState D) → Appended gives rs a b
-      → disk_faults b.disk ≡ disk_faults a.disk
-  appended_still [] a b p = ap (λ (j : JournalState D). disk_faults j.disk) p
-  appended_still (r ∷ rs) a b p = appended_still rs p.0 b p.2 ∙ p.1.disk_still ok_is_no_fault
+  keeps : (a : Store D) (change : Change) (answer : Result (Unit {0}) KeepFault) (b : Store D)
+      → gives a change answer b → IsChange tells kept store_faults a change answer b
+  keeps a change answer b p = store_change_is by a change answer b (change_is a change answer b p)
 
-  -- a journal that keeps nothing more
-  pub refused_tells : (a b : JournalState D) → tells a ≡ true → Refuses gives a b → tells b ≡ true
+  two_stays : (a : Store D) (change : Change) (answer : Result (Unit {0}) KeepFault) (b : Store D)
+      → IsStoreChange by a change answer b → is_two b ≡ is_two a
+  two_stays (One a) change answer (One b) p = refl
+  two_stays (Two a) change answer (Two b) p = refl
+  two_stays (One a) change answer (Two b) p = absurd p
+  two_stays (Two a) change answer (One b) p = absurd p
+
+  pub shape_stays : (a : Store D) (change : Change) (answer : Result (Unit {0}) KeepFault) (b : Store D)
+      → gives a change answer b → is_two b ≡ is_two a
+  shape_stays a change answer b p = two_stays a change answer b (change_is a change answer b p)
+
+  -- a change that doesn't fail raises no count
+  still : (a : Store D) (change : Change) (answer : Result (Unit {0}) KeepFault) (b : Store D)
+      → IsStoreChange by a change answer b → (answer ≡ Err Failed → ⊥) → NoneFailed by.faults a
+      → NoneFailed by.faults b
+  still (One a) (Append r) answer (One b) p ok none = p.disk_still ok ∙ none
+  still (One a) (Renewal records) answer (One b) p ok none = absurd (ok p.failed)
+  still (Two a) change answer (Two b) p ok none =
+      let same = p.disk_still ok in (same.0 ∙ none.0, same.1 ∙ none.1)
+  still (One a) change answer (Two b) p ok none = absurd p
+  still (Two a) change answer (One b) p ok none = absurd p
+
+  pub changed_whole : (cs : List Change) (a b : Store D) → store_whole a ≡ true → Changed gives cs a b
+      → store_whole b ≡ true
+  changed_whole [] a b whole p = subst (λ (x : Store D). store_whole x ≡ true) (sym p) whole
+  changed_whole (c ∷ cs) a b whole p =
+      changed_whole cs p.0 b (store_whole_after by a c p.0 (change_is a c (Ok tt) p.0 p.1)) p.2
+
+  pub changed_tells : (cs : List Change) (a b : Store D) → tells a ≡ true → Changed gives cs a b → tells b ≡ true
+  changed_tells [] a b told p = subst (λ (x : Store D). tells x ≡ true) (sym p) told
+  changed_tells (c ∷ cs) a b told p = changed_tells cs p.0 b ((keeps a c (Ok tt) p.0 p.1).told ∙ told) p.2
+
+  pub changed_told : (cs : List Change) (a b : Store D) → tells a ≡ true → Changed gives cs a b
+      → kept b ≡ lists_after (kept a) cs
+  changed_told [] a b told p = ap kept p
+  changed_told (c ∷ cs) a b told p =
+      let first = keeps a c (Ok tt) p.0 p.1 in
+      changed_told cs p.0 b (first.told ∙ told) p.2 ∙ ap (λ l. lists_after l cs) (first.ok refl told)
+
+  pub changed_two : (cs : List Change) (a b : Store D) → Changed gives cs a b → is_two b ≡ is_two a
+  changed_two [] a b p = ap is_two p
+  changed_two (c ∷ cs) a b p = changed_two cs p.0 b p.2 ∙ two_stays a c (Ok tt) p.0 (change_is a c (Ok tt) p.0 p.1)
+
+  pub changed_still : (cs : List Change) (a b : Store D) → Changed gives cs a b → NoneFailed by.faults a
+      → NoneFailed by.faults b
+  changed_still [] a b p none = subst (NoneFailed by.faults) (sym p) none
+  changed_still (c ∷ cs) a b p none =
+      changed_still cs p.0 b p.2 (still a c (Ok tt) p.0 (change_is a c (Ok tt) p.0 p.1) ok_is_no_fault none)
+
+  -- a store that keeps what it kept
+  pub refused_tells : (a b : Store D) → tells a ≡ true → Refuses gives a b → tells b ≡ true
   refused_tells a b told (inl same) = ap tells same ∙ told
-  refused_tells a b told (inr p) = p.1.appends.told ∙ told
+  refused_tells a b told (inr p) = (keeps a p.0 (Err NoMemory) b p.1).told ∙ told
 
-  pub refused_told : (a b : JournalState D) → Refuses gives a b → kept b ≡ kept a
+  pub refused_told : (a b : Store D) → Refuses gives a b → kept b ≡ kept a
   refused_told a b (inl same) = ap kept same
-  refused_told a b (inr p) = p.1.appends.no_memory refl
+  refused_told a b (inr p) = (keeps a p.0 (Err NoMemory) b p.1).no_memory refl
 
-  pub refused_still : (a b : JournalState D) → Refuses gives a b → disk_faults b.disk ≡ disk_faults a.disk
-  refused_still a b (inl same) = ap (λ (j : JournalState D). disk_faults j.disk) same
-  refused_still a b (inr p) = p.1.disk_still no_memory_is_no_fault
+  pub refused_two : (a b : Store D) → Refuses gives a b → is_two b ≡ is_two a
+  refused_two a b (inl same) = ap is_two same
+  refused_two a b (inr p) = two_stays a p.0 (Err NoMemory) b (change_is a p.0 (Err NoMemory) b p.1)
 
-  -- one whose append failed has the record, or not
-  pub failed_tells : (r : Record) (a b : JournalState D) → tells a ≡ true → Fails gives (Some r) a b → tells b ≡ true
-  failed_tells r a b told fails = fails.appends.told ∙ told
+  pub refused_still : (a b : Store D) → Refuses gives a b → NoneFailed by.faults a → NoneFailed by.faults b
+  refused_still a b (inl same) none = subst (NoneFailed by.faults) (sym same) none
+  refused_still a b (inr p) none =
+      still a p.0 (Err NoMemory) b (change_is a p.0 (Err NoMemory) b p.1) no_memory_is_no_fault none
 
-  pub failed_told : (r : Record) (a b : JournalState D) → Fails gives (Some r) a b → (kept b ≡ kept a)
-      ⊎ (kept b ≡ kept a ++ r ∷ [])
-  failed_told r a b fails = fails.appends.failed refl
+  -- one whose change failed has the list from before it, or after it
+  pub failed_tells : (c : Change) (a b : Store D) → tells a ≡ true → Fails gives (Some c) a b → tells b ≡ true
+  failed_tells c a b told fails = (keeps a c (Err Failed) b fails).told ∙ told
 
-  -- an append fails after whole ones only where the disk has failed
-  pub fails_rises : (rs : List Record) (r : Record) (a mid b : JournalState D) → a.whole ≡ true
-      → Appended gives rs a mid → Fails gives (Some r) mid b → Rises 0 (disk_faults b.disk)
-  fails_rises rs r a mid b whole front fails =
-      rises_later 0 (disk_faults mid.disk) (disk_faults b.disk) (omega arith)
-      (fails.whole_cause refl (appended_whole rs a mid whole front))
+  pub failed_told : (c : Change) (a b : Store D) → Fails gives (Some c) a b → (kept b ≡ kept a)
+      ⊎ (kept b ≡ list_after (kept a) c)
+  failed_told c a b fails = (keeps a c (Err Failed) b fails).failed refl
+
+  pub failed_two : (c : Change) (a b : Store D) → Fails gives (Some c) a b → is_two b ≡ is_two a
+  failed_two c a b fails = two_stays a c (Err Failed) b (change_is a c (Err Failed) b fails)
+
+  -- one of its disks has failed then
+  abbrev HasFailed : RoleId → Store D → Type 0
+  HasFailed me s = (n : ℕ) × (l : Lent D) × (slice_get (disks_of me (Some s)) n ≡ Some l) × Rises 0 (by.faults l.disk)
+
+  from_zero : (a b : ℕ) → Rises a b → Rises 0 b
+  from_zero a b rose = rises_later 0 a b (omega arith) rose
+
+  fails_so : (me : RoleId) (c : Change) (a b : Store D) → store_whole a ≡ true
+      → ((records : List Record) → c ≡ Renewal records → is_two a ≡ true) → IsStoreChange by a c (Err Failed) b
+      → HasFailed me b
+  fails_so me (Append r) (One a) (One b) whole two p =
+      (0, record { place = shelf me 0; disk = b.disk }, refl, from_zero _ _ (p.whole_cause refl whole))
+  fails_so me (Renewal records) (One a) (One b) whole two p =
+      let one : ⊥ = cases (two records refl) in absurd one
+    where
+      cases : ◌≡◌ {A = Bool} (is_two (One a)) true → ⊥
+      cases e = cc
+  fails_so me c (Two a) (Two b) whole two p = go (p.whole_cause refl whole)
+    where
+      go : Rises (by.faults a.first) (by.faults b.first) ⊎ Rises (by.faults a.second) (by.faults b.second)
+          → HasFailed me (Two b)
+      go (inl rose) = (0, record { place = shelf me 0; disk = b.first }, refl, from_zero _ _ rose)
+      go (inr rose) = (1, record { place = shelf me 1; disk = b.second }, refl, from_zero _ _ rose)
+  fails_so me c (One a) (Two b) whole two p = absurd p
+  fails_so me c (Two a) (One b) whole two p = absurd p
+
+  pub fails_rises : (me : RoleId) (cs : List Change) (c : Change) (a mid b : Store D) → store_whole a ≡ true
+      → ((records : List Record) → c ≡ Renewal records → is_two mid ≡ true)
+      → Changed gives cs a mid → Fails gives (Some c) mid b
+      → (n : ℕ) × (l : Lent D) × (slice_get (disks_of me (Some b)) n ≡ Some l) × Rises 0 (by.faults l.disk)
+  fails_rises me cs c a mid b whole two front fails =
+      fails_so me c mid b (changed_whole cs a mid whole front) two (change_is mid c (Err Failed) b fails)

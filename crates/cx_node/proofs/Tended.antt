@@ -20,7 +20,7 @@ use Rattle.cx_msg.specs.Decoding.{decoded}
 use Rattle.cx_msg.specs.Letter.{Letter}
 use Rattle.cx_msg.specs.declared.fault.WireFault.{WireFault}
 use Rattle.cx_msg.specs.declared.input.Input.TheVariants as input
-use Rattle.cx_role.specs.Role.{Appending}
+use Rattle.cx_node.specs.Changing.{Changing}
 use Rattle.cx_node.specs.declared.come.Come.TheVariants as come
 use Rattle.cx_node.specs.declared.doing.Doing.TheVariants.{Give}
 use Rattle.cx_node.specs.declared.guest.Guest.{Guest}
@@ -31,8 +31,8 @@ use Rattle.cx_node.specs.Acts.{Acts, Receives, come_of, read_as}
 use Rattle.cx_node.specs.Doing.{Scene, scene}
 use Rattle.cx_node.specs.Guest.{AreReady, hosted_in, hosted_of}
 use Rattle.cx_node.specs.Hosted.{Hosted}
-use Rattle.cx_node.specs.Run.{Moved, stays, took, at_place, does_at, is_client, ordered, place_of, then_do}
-use Rattle.cx_node.specs.Tending.{Care, Tended, all_completed, asks_again, at_or_none, beat, beat_over, clients_noted, clients_tended, collected, completed, completed_by, counted, decoded_heeded, first_leader, flushed, gets, heeded, held_by, held_of, hosted_as, in_turn, is_beat, is_of, is_overtaken, is_so, kind_ticks, leader_asked, leader_cared, leader_of, leader_tended, next_pass, others_tick, pass_begun, passes, reported, standing_of, tend_comes, tend_ordered, tended_turn, those_tick, ticks_if, turn_ended, with_care, within, without_care}
+use Rattle.cx_node.specs.Run.{Moved, stays, took, at_place, is_client, ordered, place_of, snaps, then_do}
+use Rattle.cx_node.specs.Tending.{Care, Tended, all_completed, asks_again, at_or_none, beat, beat_over, clients_noted, clients_tended, collected, completed, completed_by, counted, decoded_heeded, first_leader, flushed, gets, heeded, held_by, held_of, hosted_as, in_turn, is_beat, is_of, is_overtaken, is_so, kind_ticks, leader_asked, leader_cared, leader_of, leader_tended, next_pass, others_tick, pass_begun, passes, reported, standing_of, tend_comes, tend_ordered, tend_prepared, tended_turn, those_tick, ticks_if, turn_ended, with_care, within, without_care}
 use Rattle.cx_node.specs.Tends.{TendsOnce, is_leader_so, tended}
 use Rattle.cx_node.proofs.Actions.{Done, acts_before, acts_cut, acts_none, acts_nothing, acts_then, acts_took}
 use Rattle.cx_node.proofs.Seated.{hosted_at}
@@ -214,7 +214,7 @@ pub so_at : {K : Type 0} (test : Hosted → Bool) (gs seats : List (Guest K)) (i
 so_at {K} test gs seats i t same is =
     ap (is_so test) (slice_get-map hosted_of gs i) ∙ ap (λ (l : List (Guest K)). is_so test (option_map hosted_of (slice_get l i))) (sym same) ∙ sym is
 
-module _ {K : Type 0} (gives : Appending K) (c : Cluster) where
+module _ {K : Type 0} (gives : Changing K) (c : Cluster) where
   pub act_as : (m n : Moved (List Hosted)) (r : Done) (a b : Scene K) → m ≡ n → Acts gives c [] n r a b → Acts gives c [] m r a b
   act_as m n r a b is p = subst (λ (x : Moved (List Hosted)). Acts gives c [] x r a b) (sym is) p
 
@@ -452,24 +452,34 @@ module _ {K : Type 0} (gives : Appending K) (c : Cluster) where
   abbrev rest_of_turn : ℕ → Option (List ℕ) → Care → List Hosted → Moved (List Hosted)
   rest_of_turn most what k hs = then_do (flushed k (is_some what) hs) (λ last. without_care (turn_ended c most (is_some what) (tended k last)))
 
-  pub turn_order : (most n : ℕ) (k now : Care) (e : Stop) (a b : Scene K) → Acts gives c [] (tend_ordered c n (hosted_in a.guests)) (Err e) a b
+  pub tend_prepare_order : (n : ℕ) (e : Stop) (a b : Scene K) → Acts gives c [] (tend_ordered c n (hosted_in a.guests)) (Err e) a b
+      → Acts gives c [] (tend_prepared c n (hosted_in a.guests)) (Err e) a b
+  unfolding tend_prepared
+  tend_prepare_order n e a b p = acts_before gives c [] [] (tend_ordered c n (hosted_in a.guests)) (λ led. snaps n led) e a b p
+
+  pub tend_prepare_snap : (n : ℕ) (r : Done) (a b d : Scene K) → Acts gives c [] (tend_ordered c n (hosted_in a.guests)) (Ok tt) a b
+      → Acts gives c [] (snaps n (hosted_in b.guests)) r b d → Acts gives c [] (tend_prepared c n (hosted_in a.guests)) r a d
+  unfolding tend_prepared
+  tend_prepare_snap n r a b d p q = acts_then gives c [] [] (tend_ordered c n (hosted_in a.guests)) (λ led. snaps n led) r a b d p q
+
+  pub turn_prepare : (most n : ℕ) (k now : Care) (e : Stop) (a b : Scene K) → Acts gives c [] (tend_prepared c n (hosted_in a.guests)) (Err e) a b
       → TendsOnce gives c (λ what. tended_turn c most n what (tended k (hosted_in a.guests))) (Err e) a b now
   unfolding tended_turn
-  turn_order most n k now e a b p = (None, acts_before gives c [] (None ∷ []) (tend_ordered c n (hosted_in a.guests)) (λ after. then_do (tend_comes None after) (rest_of_turn most None k)) e a b p, tt)
+  turn_prepare most n k now e a b p = (None, acts_before gives c [] (None ∷ []) (tend_prepared c n (hosted_in a.guests)) (λ after. then_do (tend_comes None after) (rest_of_turn most None k)) e a b p, tt)
 
-  pub turn_take : (most n : ℕ) (k now : Care) (e : Stop) (a b d : Scene K) → Acts gives c [] (tend_ordered c n (hosted_in a.guests)) (Ok tt) a b
+  pub turn_take : (most n : ℕ) (k now : Care) (e : Stop) (a b d : Scene K) → Acts gives c [] (tend_prepared c n (hosted_in a.guests)) (Ok tt) a b
       → (q : (what : Option (List ℕ)) × Acts gives c (what ∷ []) (tend_comes what (hosted_in b.guests)) (Err e) b d)
       → TendsOnce gives c (λ what. tended_turn c most n what (tended k (hosted_in a.guests))) (Err e) a d now
   unfolding tended_turn
   turn_take most n k now e a b d p q =
       let what = q.0 in (
         what,
-        acts_then gives c [] (what ∷ []) (tend_ordered c n (hosted_in a.guests)) (λ after. then_do (tend_comes what after) (rest_of_turn most what k)) (Err e) a b d p
+        acts_then gives c [] (what ∷ []) (tend_prepared c n (hosted_in a.guests)) (λ after. then_do (tend_comes what after) (rest_of_turn most what k)) (Err e) a b d p
             (acts_before gives c (what ∷ []) [] (tend_comes what (hosted_in b.guests)) (rest_of_turn most what k) e b d q.1),
         tt,
       )
 
-  pub turn_flush : (most n : ℕ) (k now : Care) (came : Bool) (e : Stop) (a b d f : Scene K) → Acts gives c [] (tend_ordered c n (hosted_in a.guests)) (Ok tt) a b
+  pub turn_flush : (most n : ℕ) (k now : Care) (came : Bool) (e : Stop) (a b d f : Scene K) → Acts gives c [] (tend_prepared c n (hosted_in a.guests)) (Ok tt) a b
       → (q : (what : Option (List ℕ)) × Acts gives c (what ∷ []) (tend_comes what (hosted_in b.guests)) (Ok tt) b d × (came ≡ is_some what))
       → Acts gives c [] (flushed k came (hosted_in d.guests)) (Err e) d f
       → TendsOnce gives c (λ what. tended_turn c most n what (tended k (hosted_in a.guests))) (Err e) a f now
@@ -478,14 +488,14 @@ module _ {K : Type 0} (gives : Appending K) (c : Cluster) where
       let what = q.0 in
       let flushing = subst (λ (x : Bool). Acts gives c [] (flushed k x (hosted_in d.guests)) (Err e) d f) q.2 t in (
         what,
-        acts_then gives c [] (what ∷ []) (tend_ordered c n (hosted_in a.guests)) (λ after. then_do (tend_comes what after) (rest_of_turn most what k)) (Err e) a b f p
+        acts_then gives c [] (what ∷ []) (tend_prepared c n (hosted_in a.guests)) (λ after. then_do (tend_comes what after) (rest_of_turn most what k)) (Err e) a b f p
             (acts_then gives c (what ∷ []) [] (tend_comes what (hosted_in b.guests)) (rest_of_turn most what k) (Err e) b d f q.1
             (acts_before gives c [] [] (flushed k (is_some what) (hosted_in d.guests)) (λ last. without_care (turn_ended c most (is_some what) (tended k last))) e d f flushing)),
         tt,
       )
 
   -- what a turn leaves counted
-  turn_counts : (most n : ℕ) (k now : Care) (what : Option (List ℕ)) (r : Done) (a b d f : Scene K) → Acts gives c [] (tend_ordered c n (hosted_in a.guests)) (Ok tt) a b
+  turn_counts : (most n : ℕ) (k now : Care) (what : Option (List ℕ)) (r : Done) (a b d f : Scene K) → Acts gives c [] (tend_prepared c n (hosted_in a.guests)) (Ok tt) a b
       → Acts gives c (what ∷ []) (tend_comes what (hosted_in b.guests)) (Ok tt) b d → Acts gives c [] (flushed k (is_some what) (hosted_in d.guests)) (Ok tt) d f
       → OnOk r (now ≡ (turn_ended c most (is_some what) (tended k (hosted_in f.guests))).next.care)
       → OnOk r (now ≡ (tended_turn c most n what (tended k (hosted_in a.guests))).next.care)
@@ -495,7 +505,7 @@ module _ {K : Type 0} (gives : Appending K) (c : Cluster) where
       is ∙ ap last t.done.hosted ∙ ap (λ (x : List Hosted). last (flushed k (is_some what) x).next) q.done.hosted ∙ ap (λ (x : List Hosted). last (flushed k (is_some what) (tend_comes what x).next).next) p.done.hosted
   turn_counts most n k now what (Err e) a b d f p q t is = tt
 
-  pub turn_end : (most n : ℕ) (k now : Care) (came : Bool) (r : Done) (a b d f h : Scene K) → Acts gives c [] (tend_ordered c n (hosted_in a.guests)) (Ok tt) a b
+  pub turn_end : (most n : ℕ) (k now : Care) (came : Bool) (r : Done) (a b d f h : Scene K) → Acts gives c [] (tend_prepared c n (hosted_in a.guests)) (Ok tt) a b
       → (q : (what : Option (List ℕ)) × Acts gives c (what ∷ []) (tend_comes what (hosted_in b.guests)) (Ok tt) b d × (came ≡ is_some what))
       → Acts gives c [] (flushed k came (hosted_in d.guests)) (Ok tt) d f
       → Acts gives c [] (without_care (turn_ended c most came (tended k (hosted_in f.guests)))) r f h
@@ -508,7 +518,7 @@ module _ {K : Type 0} (gives : Appending K) (c : Cluster) where
       let ending = subst (λ (x : Bool). Acts gives c [] (without_care (turn_ended c most x (tended k (hosted_in f.guests)))) r f h) q.2 u in
       let counts = subst (λ (x : Bool). OnOk r (now ≡ (turn_ended c most x (tended k (hosted_in f.guests))).next.care)) q.2 is in (
         what,
-        acts_then gives c [] (what ∷ []) (tend_ordered c n (hosted_in a.guests)) (λ after. then_do (tend_comes what after) (rest_of_turn most what k)) r a b h p
+        acts_then gives c [] (what ∷ []) (tend_prepared c n (hosted_in a.guests)) (λ after. then_do (tend_comes what after) (rest_of_turn most what k)) r a b h p
             (acts_then gives c (what ∷ []) [] (tend_comes what (hosted_in b.guests)) (rest_of_turn most what k) r b d h q.1
             (acts_then gives c [] [] (flushed k (is_some what) (hosted_in d.guests)) (λ last. without_care (turn_ended c most (is_some what) (tended k last))) r d f h flushing ending)),
         turn_counts most n k now what r a b d f p q.1 flushing counts,

@@ -5,7 +5,7 @@ use Rattle.std.proofs.Common.{append_assoc, append-nil, add-zero, inl, inr}
 use Rattle.std.proofs.lemmas.List.{take-append-le}
 use Rattle.std.specs.Prelude.{IfErr, OnOk}
 use Rattle.cx_base.specs.declared.cluster.Cluster.{Cluster}
-use Rattle.cx_role.specs.Role.{Appending}
+use Rattle.cx_node.specs.Changing.{Changing}
 use Rattle.cx_node.specs.declared.doing.Doing.TheVariants.{Begin}
 use Rattle.cx_node.specs.declared.node.RunEnd.{RunEnd}
 use Rattle.cx_node.specs.declared.node.Stop.{Stop}
@@ -77,7 +77,7 @@ on_ok (Ok u) k = refl
 on_ok (Err e) k = tt
 
 -- a turn in which nothing is counted
-pub once_untended : {K : Type 0} (gives : Appending K) (c : Cluster) (n : ℕ) (r : Result (Unit {0}) Stop)
+pub once_untended : {K : Type 0} (gives : Changing K) (c : Cluster) (n : ℕ) (r : Result (Unit {0}) Stop)
     (a b : Scene K) (k : Care) → ActsOnce gives c (λ what. turn c n what (hosted_in a.guests)) r a b
     → TendsOnce gives c (λ what. any_turn None c n what (tended k (hosted_in a.guests))) r a b k
 once_untended gives c n r a b k q = (q.0, q.1, on_ok r k)
@@ -130,7 +130,7 @@ ends_more tend c limit hs ts what more not_yet e =
         subst (λ l. all_finished ((node_run tend c l hs).next) ≡ false)
         (sym (take_at ts (what ∷ []) k (sym same))) not_yet
 
-module _ {K : Type 0} (gives : Appending K) (tend : Option ℕ) (c : Cluster) (limit : ℕ) where
+module _ {K : Type 0} (gives : Changing K) (tend : Option ℕ) (c : Cluster) (limit : ℕ) where
   -- a run with this many turns was made, and this is counted after it
   abbrev pub Underway : ℕ → Scene K → Scene K → Care → Type 0
   Underway made a b k =

@@ -9,12 +9,12 @@ use Rattle.cx_edge.specs.Link.{LinkHistory, with_taken}
 use Rattle.cx_msg.specs.Decoding.{decoded}
 use Rattle.cx_msg.specs.Letter.{Letter}
 use Rattle.cx_msg.specs.declared.fault.WireFault.{WireFault}
-use Rattle.cx_role.specs.Role.{Appending}
 use Rattle.cx_node.specs.declared.come.Come.{Come}
 use Rattle.cx_node.specs.declared.come.Come.TheVariants as come
 use Rattle.cx_node.specs.declared.node.Stop.{Stop}
 use Rattle.cx_node.specs.declared.node.Stop.TheVariants.{LinkFault, NoMemory, StoreFault, WriteFault}
 use Rattle.cx_node.specs.Action.{HasTaken}
+use Rattle.cx_node.specs.Changing.{Changing}
 use Rattle.cx_node.specs.Doing.{DidPart, Does, Scene, scene}
 use Rattle.cx_node.specs.Guest.{AreReady, hosted_in}
 use Rattle.cx_node.specs.Hosted.{Hosted}
@@ -50,7 +50,7 @@ failed by_link by_out link out = failures (by_link.faults link) (by_out.faults o
 
 -- What is to be done is done, with these takes, and all roles may go on; or the first of its actions are done, and
 -- then it stopped.
-pub record Acts {K : Type 0} (gives : Appending K) (c : Cluster) (takes : Takes) (m : Moved (List Hosted))
+pub record Acts {K : Type 0} (gives : Changing K) (c : Cluster) (takes : Takes) (m : Moved (List Hosted))
     (result : Result (Unit {0}) Stop) (old new : Scene K) : Type 0 where
   pub done : OnOk result (Does gives c m old new)
   pub taken : OnOk result (HasTaken takes m.actions)
@@ -58,21 +58,21 @@ pub record Acts {K : Type 0} (gives : Appending K) (c : Cluster) (takes : Takes)
   pub part : IfErr result (λ e. DidPart gives c m.actions e old new)
 
 -- the same of a part without a take, by the hosted roles
-abbrev pub ActsPart : {K : Type 0} → Appending K → Cluster → (List Hosted → Moved (List Hosted))
+abbrev pub ActsPart : {K : Type 0} → Changing K → Cluster → (List Hosted → Moved (List Hosted))
     → Result (Unit {0}) Stop → Scene K → Scene K → Type 0
 ActsPart gives c part result old new = Acts gives c [] (part (hosted_in old.guests)) result old new
 
 -- the same with what one take gave
-abbrev pub ActsOnce : {K : Type 0} → Appending K → Cluster → (Option (List ℕ) → Moved (List Hosted))
+abbrev pub ActsOnce : {K : Type 0} → Changing K → Cluster → (Option (List ℕ) → Moved (List Hosted))
     → Result (Unit {0}) Stop → Scene K → Scene K → Type 0
 ActsOnce gives c f result old new = (what : Option (List ℕ)) × Acts gives c (what ∷ []) (f what) result old new
 
-abbrev pub ActsTaking : {K : Type 0} → Appending K → Cluster → (Option (List ℕ) → List Hosted → Moved (List Hosted))
+abbrev pub ActsTaking : {K : Type 0} → Changing K → Cluster → (Option (List ℕ) → List Hosted → Moved (List Hosted))
     → Result (Unit {0}) Stop → Scene K → Scene K → Type 0
 ActsTaking gives c part result old new = ActsOnce gives c (λ what. part what (hosted_in old.guests)) result old new
 
 -- the turns of a run were made to its end, or a part of them
-abbrev pub ActsLong : {K : Type 0} → Appending K → Option ℕ → Cluster → ℕ → Result (Unit {0}) Stop
+abbrev pub ActsLong : {K : Type 0} → Changing K → Option ℕ → Cluster → ℕ → Result (Unit {0}) Stop
     → Scene K → Scene K → Type 0
 ActsLong gives tend c limit result old new =
     (takes : Takes) × Acts gives c takes (node_run tend c takes (hosted_in old.guests)) result old new

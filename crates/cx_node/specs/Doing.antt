@@ -2,17 +2,17 @@
 use Rattle.std.specs.Prelude.{◌≡◌, ℕ, List, ◌++◌, length, map, take, Option, Some, slice_get, slice_set}
 use Rattle.std.specs.Io.KnownBytes.{Appends}
 use Rattle.cx_base.specs.declared.cluster.Cluster.{Cluster}
+use Rattle.cx_base.specs.declared.role.Kind.TheVariants as kind
 use Rattle.cx_base.specs.declared.role.RoleId.{RoleId}
 use Rattle.cx_edge.specs.Link.{LinkHistory}
 use Rattle.cx_msg.specs.Letter.{Letter}
-use Rattle.cx_msg.specs.declared.input.KeptRecord.{KeptRecord}
-use Rattle.cx_msg.specs.declared.input.Written.TheVariants as written
+use Rattle.cx_keeper.specs.Keeper.{Change, Renewal}
 use Rattle.cx_msg.specs.declared.kept.Record.{Record}
-use Rattle.cx_role.specs.Role.{Appending}
 use Rattle.cx_node.specs.declared.guest.Guest.{Guest}
 use Rattle.cx_node.specs.declared.node.Stop.{Stop}
 use Rattle.cx_node.specs.declared.node.Stop.TheVariants as stop
 use Rattle.cx_node.specs.Action.{Action, Kept, Took, kept_in, printed_in, with_actions}
+use Rattle.cx_node.specs.Changing.{Changing, StoreChange}
 use Rattle.cx_node.specs.Guest.{FailsIn, GuestGrows, Rests, hosted_in, keeper_of, who}
 use Rattle.cx_node.specs.Hosted.{Hosted}
 use Rattle.cx_node.specs.Ports.{sendings}
@@ -44,15 +44,15 @@ Linked c actions old new =
     (after : LinkHistory) → new ≡ Some after
     → (before : LinkHistory) × (old ≡ Some before) × (after ≡ with_actions c actions before)
 
-abbrev pub GuestsGrow : {K : Type 0} → Appending K → List KeptRecord → List (Guest K) → List (Guest K) → Type 0
+abbrev pub GuestsGrow : {K : Type 0} → Changing K → List StoreChange → List (Guest K) → List (Guest K) → Type 0
 GuestsGrow {K} gives kept old new =
     (length new ≡ length old)
     × ((i : ℕ) (h after : Guest K) → slice_get old i ≡ Some h → slice_get new i ≡ Some after
     → GuestGrows gives kept h after)
 
--- These actions were done, and no others: the keepers have their roles' records, the link gave and was asked what
+-- These actions were done, and no others: the stores have their roles' changes, the link gave and was asked what
 -- they say, and their bytes were printed. Each role is who it was.
-pub record Did {K : Type 0} (gives : Appending K) (c : Cluster) (actions : List Action)
+pub record Did {K : Type 0} (gives : Changing K) (c : Cluster) (actions : List Action)
     (old new : Scene K) : Type 0 where
   pub names : map who new.guests ≡ map who old.guests
   pub kept : GuestsGrow gives (kept_in actions) old.guests new.guests
@@ -60,20 +60,21 @@ pub record Did {K : Type 0} (gives : Appending K) (c : Cluster) (actions : List 
   pub printed : Appends old.out new.out (printed_in actions)
 
 -- What is to be done was done whole, and each role is as it follows.
-pub record Does {K : Type 0} (gives : Appending K) (c : Cluster) (m : Moved (List Hosted))
+pub record Does {K : Type 0} (gives : Changing K) (c : Cluster) (m : Moved (List Hosted))
     (old new : Scene K) : Type 0 where
   pub hosted : hosted_in new.guests ≡ m.next
   pub did : Did gives c m.actions old new
 
--- each role is who it was, and no keeper keeps anything more
-abbrev pub GuestsRest : {K : Type 0} → Appending K → List (Guest K) → List (Guest K) → Type 0
+-- each role is who it was, and each keeper keeps what it kept
+abbrev pub GuestsRest : {K : Type 0} → Changing K → List (Guest K) → List (Guest K) → Type 0
 GuestsRest {K} gives old new =
     (length new ≡ length old)
     × ((i : ℕ) (h after : Guest K) → slice_get old i ≡ Some h → slice_get new i ≡ Some after
     → (who after ≡ who h) × Rests gives (keeper_of h) (keeper_of after))
 
--- the append of this record failed, of the role of this name; the other roles are as they were
-pub record GuestFails {K : Type 0} (gives : Appending K) (role : RoleId) (r : Record)
+-- this change failed, of the store of the role of this name, and only a replica puts its list anew; the other roles are
+-- as they were
+pub record GuestFails {K : Type 0} (gives : Changing K) (role : RoleId) (change : Change)
     (old new : List (Guest K)) : Type 0 where
   pub place : ℕ
   pub guest : Guest K
@@ -82,20 +83,21 @@ pub record GuestFails {K : Type 0} (gives : Appending K) (role : RoleId) (r : Re
   pub others : new ≡ slice_set old place after
   pub name : who guest ≡ role
   pub same : who after ≡ who guest
-  pub fails : FailsIn gives (Some r) (keeper_of guest) (keeper_of after)
+  pub fails : FailsIn gives (Some change) (keeper_of guest) (keeper_of after)
+  pub renews : (records : List Record) → change ≡ Renewal records → role.kind ≡ kind.Replica
 
--- What stopped a run, by the action that was next: a take of the link failed, or the append of a role's record, which
--- its store may have all the same; or memory ran out, or the output failed.
-abbrev pub StopsAt : {K : Type 0} → Appending K → Stop → Option Action → List (Guest K) → List (Guest K) → Type 0
+-- What stopped a run, by the action that was next: a take of the link failed, or the change of a role's store, which
+-- may have been made all the same; or memory ran out, or the output failed.
+abbrev pub StopsAt : {K : Type 0} → Changing K → Stop → Option Action → List (Guest K) → List (Guest K) → Type 0
 StopsAt gives stop.NoMemory next old new = GuestsRest gives old new
 StopsAt gives stop.WriteFault next old new = GuestsRest gives old new
 StopsAt gives stop.LinkFault next old new =
     ((what : Option (List ℕ)) × (next ≡ Some (Took what))) × GuestsRest gives old new
 StopsAt gives (stop.StoreFault role) next old new =
-    (r : Record) × (next ≡ Some (Kept (record { role = role; what = written.Record r }))) × GuestFails gives role r old new
+    (change : Change) × (next ≡ Some (Kept (record { role = role; change = change }))) × GuestFails gives role change old new
 
 -- The first of these actions were done, and no others, when this stopped the run.
-pub record DidPart {K : Type 0} (gives : Appending K) (c : Cluster) (actions : List Action) (e : Stop)
+pub record DidPart {K : Type 0} (gives : Changing K) (c : Cluster) (actions : List Action) (e : Stop)
     (old new : Scene K) : Type 0 where
   pub count : ℕ
   pub mid : List (Guest K)

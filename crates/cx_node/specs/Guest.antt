@@ -9,16 +9,13 @@ use Rattle.cx_keeper.specs.declared.keeper.KeepFault.TheVariants.{Failed, NoMemo
 use Rattle.cx_model.specs.Names.{names_role}
 use Rattle.cx_model.specs.Outcome.{Outcome}
 use Rattle.cx_model.specs.Rules.{Rules, Running, running_after}
-use Rattle.cx_model.specs.World.{kept_by, records_of}
 use Rattle.cx_msg.specs.Letter.{Letter}
-use Rattle.cx_msg.specs.declared.input.KeptRecord.{KeptRecord}
-use Rattle.cx_msg.specs.declared.input.Written.TheVariants as written
-use Rattle.cx_msg.specs.declared.kept.Record.{Record}
-use Rattle.cx_role.specs.Role.{Appending, Refuses}
+use Rattle.cx_keeper.specs.Keeper.{Append, Change}
+use Rattle.cx_node.specs.Changing.{Changing, Refuses, StoreChange, changed_by, changes_of}
 use Rattle.cx_node.specs.declared.guest.Guest.{Guest}
 use Rattle.cx_node.specs.declared.guest.Guest.TheVariants as guest
 use Rattle.cx_node.specs.Hosted.{Hosted, ClientAt, BatcherAt, LeaderAt, ProxyAt, AcceptorAt, MatchmakerAt, ReplicaAt}
-use Rattle.cx_node.specs.Hosted.{UnbatcherAt, ReaderAt, Step, is_live, name_of}
+use Rattle.cx_node.specs.Hosted.{UnbatcherAt, ReaderAt, Step, is_live, kind_at, name_of}
 
 -- the hosted role
 abbrev pub hosted_of : {K : Type 0} → Guest K → Hosted
@@ -50,10 +47,11 @@ hosted_in guests = map hosted_of guests
 abbrev pub who : {K : Type 0} → Guest K → RoleId
 who h = name_of (hosted_of h)
 
--- a role of the cluster that may take a step
+-- a role of the cluster, of the kind that its name says, that may take a step
 pub record IsReady {K : Type 0} (c : Cluster) (h : Guest K) : Type 0 where
   pub live : IsTrue (is_live (hosted_of h))
   pub named : IsTrue (names_role c (who h))
+  pub kind : kind_at (hosted_of h) ≡ (who h).kind
 
 -- no two have one name
 abbrev pub AreDistinct : List Hosted → Type 0
@@ -67,63 +65,63 @@ pub record AreReady {K : Type 0} (c : Cluster) (guests : List (Guest K)) : Type 
 
 -- ---- what a keeper was given
 
--- these records were appended, one after the other, and each append was answered Ok
-abbrev pub Appended : {K : Type 0} → Appending K → List Record → K → K → Type 0
-Appended gives [] old new = new ≡ old
-Appended {K} gives (r ∷ rs) old new = (mid : K) × gives old r (Ok tt) mid × Appended gives rs mid new
+-- these changes were made, one after the other, and each was answered Ok
+abbrev pub Changed : {K : Type 0} → Changing K → List Change → K → K → Type 0
+Changed gives [] old new = new ≡ old
+Changed {K} gives (change ∷ rest) old new = (mid : K) × gives old change (Ok tt) mid × Changed gives rest mid new
 
-abbrev pub Grows : {K : Type 0} → Appending K → List Record → Option K → Option K → Type 0
-Grows gives records None None = Unit {0}
-Grows gives records None (Some new) = ⊥
-Grows gives records (Some old) None = ⊥
-Grows gives records (Some old) (Some new) = Appended gives records old new
+abbrev pub Grows : {K : Type 0} → Changing K → List Change → Option K → Option K → Type 0
+Grows gives changes None None = Unit {0}
+Grows gives changes None (Some new) = ⊥
+Grows gives changes (Some old) None = ⊥
+Grows gives changes (Some old) (Some new) = Changed gives changes old new
 
--- a role has kept what it has to keep of these
-abbrev pub GuestGrows : {K : Type 0} → Appending K → List KeptRecord → Guest K → Guest K → Type 0
-GuestGrows gives kept old new = Grows gives (records_of (who old) kept) (keeper_of old) (keeper_of new)
+-- a role's store has had the role's changes among these
+abbrev pub GuestGrows : {K : Type 0} → Changing K → List StoreChange → Guest K → Guest K → Type 0
+GuestGrows gives kept old new = Grows gives (changes_of (who old) kept) (keeper_of old) (keeper_of new)
 
--- a keeper, if there is one, keeps nothing more: it is as it was, or ran out of memory in an append
-abbrev pub Rests : {K : Type 0} → Appending K → Option K → Option K → Type 0
+-- a keeper, if there is one, keeps what it kept: it is as it was, or ran out of memory in a change
+abbrev pub Rests : {K : Type 0} → Changing K → Option K → Option K → Type 0
 Rests gives None None = Unit {0}
 Rests gives None (Some new) = ⊥
 Rests gives (Some old) None = ⊥
 Rests gives (Some old) (Some new) = Refuses gives old new
 
--- an append of this record was answered Failed
-abbrev pub Fails : {K : Type 0} → Appending K → Option Record → K → K → Type 0
+-- this change was answered Failed
+abbrev pub Fails : {K : Type 0} → Changing K → Option Change → K → K → Type 0
 Fails gives None old new = ⊥
-Fails gives (Some r) old new = gives old r (Err Failed) new
+Fails gives (Some change) old new = gives old change (Err Failed) new
 
--- there is a keeper, and its append of this record failed
-abbrev pub FailsIn : {K : Type 0} → Appending K → Option Record → Option K → Option K → Type 0
+-- there is a keeper, and this change of it failed
+abbrev pub FailsIn : {K : Type 0} → Changing K → Option Change → Option K → Option K → Type 0
 FailsIn gives next None new = ⊥
 FailsIn gives next (Some old) None = ⊥
 FailsIn gives next (Some old) (Some new) = Fails gives next old new
 
 -- What a role does that is to make a step of this row, in the words of its seat: it makes it; or memory runs out, and
--- its keeper keeps nothing more; or the append of the row's record fails. A role that can take no step any more may
+-- its keeper keeps what it kept; or the append of the row's record fails. A role that can take no step any more may
 -- have another name.
-pub record MakesRow {K D V : Type 0} (gives : Appending K) (rules : Rules D V) (before : Running D V) (row : Outcome V)
+pub record MakesRow {K D V : Type 0} (gives : Changing K) (rules : Rules D V) (before : Running D V) (row : Outcome V)
     (result : Result (Unit {0}) KeepFault) (after : Running D V) (old new : K) (sent : List Letter) : Type 0 where
   pub state : OnOk result (after ≡ running_after rules before row)
-  pub kept : OnOk result (Appended gives (records_of before.me (kept_by before.me (option_map written.Record row.kept))) old new)
+  pub kept : OnOk result (Changed gives (changes_of before.me (changed_by before.me (option_map Append row.kept))) old new)
   pub sends : OnOk result (sent ≡ row.sends)
   pub rests : IsErrOf result NoMemory → Refuses gives old new
   pub failed : IsErrOf result Failed → Fails gives
-      (slice_get (records_of before.me (kept_by before.me (option_map written.Record row.kept))) 0) old new
+      (slice_get (changes_of before.me (changed_by before.me (option_map Append row.kept))) 0) old new
   pub name : OnErr result (after.live ≡ true → after.me ≡ before.me)
 
--- the keeper of a role, if it has one, keeps nothing more
-abbrev pub KeeperRests : {K : Type 0} → Appending K → Guest K → Guest K → Type 0
+-- the keeper of a role, if it has one, keeps what it kept
+abbrev pub KeeperRests : {K : Type 0} → Changing K → Guest K → Guest K → Type 0
 KeeperRests gives old new = Rests gives (keeper_of old) (keeper_of new)
 
--- the append failed of the first of these records that a role has to keep
-abbrev pub KeeperFails : {K : Type 0} → Appending K → List KeptRecord → Guest K → Guest K → Type 0
-KeeperFails gives kept old new = FailsIn gives (slice_get (records_of (who old) kept) 0) (keeper_of old) (keeper_of new)
+-- the first of a role's changes among these failed
+abbrev pub KeeperFails : {K : Type 0} → Changing K → List StoreChange → Guest K → Guest K → Type 0
+KeeperFails gives kept old new = FailsIn gives (slice_get (changes_of (who old) kept) 0) (keeper_of old) (keeper_of new)
 
 -- What a hosted role does that is to make this step: it makes it, and may go on; or memory runs out, and its keeper
--- keeps nothing more; or the append of its record fails.
-pub record Performs {K : Type 0} (gives : Appending K) (step : Step) (result : Result (Unit {0}) KeepFault)
+-- keeps what it kept; or the change of its store fails.
+pub record Performs {K : Type 0} (gives : Changing K) (step : Step) (result : Result (Unit {0}) KeepFault)
     (old new : Guest K) (sent : List Letter) (printed : List ℕ) : Type 0 where
   pub role : OnOk result (hosted_of new ≡ step.next)
   pub kept : OnOk result (GuestGrows gives step.kept old new)

@@ -1,12 +1,13 @@
 -- A hosted role, and what it does with what it is given.
-use Rattle.std.specs.Prelude.{ℕ, Bool, true, false, List, [], if◌then◌else◌}
+use Rattle.std.specs.Prelude.{ℕ, Bool, true, false, List, [], Option, if◌then◌else◌}
 use Rattle.std.specs.Option.{option_map}
+use Rattle.cx_base.specs.declared.role.Kind.{Kind}
+use Rattle.cx_base.specs.declared.role.Kind.TheVariants as kind
 use Rattle.cx_base.specs.declared.role.RoleId.{RoleId}
 use Rattle.cx_msg.specs.Letter.{Letter}
 use Rattle.cx_msg.specs.declared.input.Input.{Input}
 use Rattle.cx_msg.specs.declared.input.Input.TheVariants as input
-use Rattle.cx_msg.specs.declared.input.KeptRecord.{KeptRecord}
-use Rattle.cx_msg.specs.declared.input.Written.TheVariants as written
+use Rattle.cx_keeper.specs.Keeper.{Append, Renewal}
 use Rattle.cx_client.specs.Client.{ClientState, ClientMoved, client_start, client_takes, client_ticks}
 use Rattle.cx_model.specs.Acceptor.{AcceptorDurable, acceptor_rules}
 use Rattle.cx_model.specs.Batcher.{BatcherVolatile, batcher_rules}
@@ -14,13 +15,14 @@ use Rattle.cx_model.specs.Leader.{LeaderDurable, LeaderVolatile, leader_rules, i
 use Rattle.cx_model.specs.Matchmaker.{MatchmakerDurable, matchmaker_rules}
 use Rattle.cx_model.specs.Proxy.{ProxyVolatile, proxy_rules}
 use Rattle.cx_model.specs.Reader.{ReaderVolatile, reader_rules}
-use Rattle.cx_model.specs.Replica.{ReplicaDurable, ReplicaVolatile, replica_rules}
+use Rattle.cx_model.specs.Replica.{ReplicaDurable, ReplicaVolatile, replica_renewed, replica_rules, replica_snap}
 use Rattle.cx_model.specs.Rules.{Rules, Running, outcome_of, running_after}
 use Rattle.cx_model.specs.Unbatcher.{unbatcher_rules}
-use Rattle.cx_model.specs.World.{kept_by}
+use Rattle.cx_role.specs.Snap.{snapped_by}
 use Rattle.cx_trace.specs.Trace.{told_text}
 use Rattle.cx_node.specs.declared.doing.Doing.{Doing}
-use Rattle.cx_node.specs.declared.doing.Doing.TheVariants.{Begin, Give}
+use Rattle.cx_node.specs.declared.doing.Doing.TheVariants.{Begin, Give, Snap}
+use Rattle.cx_node.specs.Changing.{StoreChange, changed_by}
 
 -- a role that a node hosts, by its kind
 pub data Hosted : Type 0 where
@@ -45,11 +47,23 @@ name_of (ReplicaAt s) = s.me
 name_of (UnbatcherAt s) = s.me
 name_of (ReaderAt s) = s.me
 
--- The result of a step of a role: what follows, the records that are kept, the datagrams that are sent, and the text
+-- the kind of role that it is
+abbrev pub kind_at : Hosted → Kind
+kind_at (ClientAt s) = kind.Client
+kind_at (BatcherAt s) = kind.Batcher
+kind_at (LeaderAt s) = kind.Leader
+kind_at (ProxyAt s) = kind.Proxy
+kind_at (AcceptorAt s) = kind.Acceptor
+kind_at (MatchmakerAt s) = kind.Matchmaker
+kind_at (ReplicaAt s) = kind.Replica
+kind_at (UnbatcherAt s) = kind.Unbatcher
+kind_at (ReaderAt s) = kind.Reader
+
+-- The result of a step of a role: what follows, the changes of its store, the datagrams that are sent, and the text
 -- that is printed.
 pub record Step : Type 0 where
   pub next : Hosted
-  pub kept : List KeptRecord
+  pub kept : List StoreChange
   pub sends : List Letter
   pub text : List ℕ
 
@@ -62,7 +76,7 @@ abbrev pub by_row : {D V : Type 0} → Rules D V → (Running D V → Hosted) �
 by_row rules make s i =
     record {
       next = make (running_after rules s (outcome_of rules s i));
-      kept = kept_by s.me (option_map written.Record (outcome_of rules s i).kept);
+      kept = changed_by s.me (option_map Append (outcome_of rules s i).kept);
       sends = (outcome_of rules s i).sends;
       text = [];
     }
@@ -104,10 +118,37 @@ begun (ReplicaAt s) = rests (ReplicaAt s)
 begun (UnbatcherAt s) = rests (UnbatcherAt s)
 begun (ReaderAt s) = rests (ReaderAt s)
 
+-- below which slot a running replica may forget values, if it may
+abbrev pub snap_of : Running ReplicaDurable ReplicaVolatile → Option ℕ
+snap_of s = replica_snap s.cluster s.me s.durable s.volatile
+
+-- a replica forgets the values below a slot, if there is one, and its list is put anew without them
+abbrev pub by_snap : Running ReplicaDurable ReplicaVolatile → Option ℕ → Step
+by_snap s first =
+    record {
+      next = ReplicaAt (snapped_by replica_rules s first);
+      kept = changed_by s.me (option_map (λ b. Renewal (replica_renewed s.durable b)) first);
+      sends = [];
+      text = [];
+    }
+
+-- a replica snaps; another role has nothing to forget
+abbrev pub snapped : Hosted → Step
+snapped (ClientAt s) = rests (ClientAt s)
+snapped (BatcherAt s) = rests (BatcherAt s)
+snapped (LeaderAt s) = rests (LeaderAt s)
+snapped (ProxyAt s) = rests (ProxyAt s)
+snapped (AcceptorAt s) = rests (AcceptorAt s)
+snapped (MatchmakerAt s) = rests (MatchmakerAt s)
+snapped (ReplicaAt s) = by_snap s (snap_of s)
+snapped (UnbatcherAt s) = rests (UnbatcherAt s)
+snapped (ReaderAt s) = rests (ReaderAt s)
+
 -- what a hosted role does
 unfoldable pub does : Hosted → Doing → Step
 does h Begin = begun h
 does h (Give i) = given h i
+does h Snap = snapped h
 
 -- whether it is a leader that doesn't lead, and isn't about to
 abbrev pub is_idle_leader : Hosted → Bool

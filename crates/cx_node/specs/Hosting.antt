@@ -10,10 +10,11 @@ use Rattle.cx_base.specs.Faults.{Rises}
 use Rattle.cx_disk.specs.declared.disk.Disk.{Ghosts as DiskGhosts}
 use Rattle.cx_edge.specs.declared.depot.Depot.{Ghosts as DepotGhosts}
 use Rattle.cx_edge.specs.Link.{Bind, LinkHistory}
-use Rattle.cx_journal.specs.Appends.{IsJournalAppend}
-use Rattle.cx_journal.specs.State.{JournalState}
+use Rattle.cx_edge.specs.declared.shelf.Shelf.{Shelf}
+use Rattle.cx_journal.specs.Store.{IsStoreChange}
+use Rattle.cx_journal.specs.declared.store.Store.{Store}
+use Rattle.cx_keeper.specs.Keeper.{Append, Renewal}
 use Rattle.cx_msg.specs.declared.kept.Record.{Record}
-use Rattle.cx_role.specs.Role.{Appending}
 use Rattle.cx_node.specs.declared.guest.Guest.{Guest}
 use Rattle.cx_node.specs.declared.node.RunEnd.{RunEnd}
 use Rattle.cx_node.specs.declared.node.RunEnd.TheVariants as end
@@ -22,12 +23,13 @@ use Rattle.cx_node.specs.declared.node.Stop.TheVariants as stop
 use Rattle.cx_node.specs.declared.opening.OpenStop.{OpenStop}
 use Rattle.cx_node.specs.declared.opening.OpenStop.TheVariants as open_stop
 use Rattle.cx_node.specs.Acts.{Failures}
+use Rattle.cx_node.specs.Changing.{Changing, changing}
 use Rattle.cx_node.specs.Doing.{Scene}
-use Rattle.cx_node.specs.Guest.{keeper_of, who}
 use Rattle.cx_node.specs.Node.{IsEnd, IsUnderway, NodeState, Runs, RunsPart, Takes}
-use Rattle.cx_node.specs.Opening.{IsBadAs, IsFirstBad}
+use Rattle.cx_node.specs.Opening.{IsBadAs, IsFirstBad, disks_in}
 use Rattle.cx_node.specs.Ports.{bind_of}
 use Rattle.cx_node.specs.Serving.{Outside, Served, ServedPart, hosts}
+use Rattle.cx_node.specs.Stores.{Lent}
 
 -- ---- what is answered
 
@@ -56,41 +58,32 @@ with_binds binds h = record h { binds = h.binds ++ binds }
 abbrev pub with_bound : Cluster → List RoleId → Option LinkHistory → Option LinkHistory
 with_bound c roles told = option_map (with_binds (map (bind_of c) roles)) told
 
--- The stores of these roles were given back: the depot holds what each store holds, for other roles what it held, and
--- each fault of a store, and nothing else, has raised its role's count.
-pub record GivesBack {D : Type 0} (seen : D → Option (List ℕ)) (disk_faults : D → ℕ)
-    (guests : List (Guest (JournalState D))) (tells : Bool) (held held_after : RoleId → List ℕ)
-    (faults faults_after : RoleId → ℕ) : Type 0 where
-  pub holds : tells ≡ true → (i : ℕ) (guest : Guest (JournalState D)) (j : JournalState D) (file : List ℕ)
-      → slice_get guests i ≡ Some guest → keeper_of guest ≡ Some j → seen j.disk ≡ Some file
-      → held_after (who guest) ≡ file
-  pub others : (role : RoleId)
-      → ((i : ℕ) (guest : Guest (JournalState D)) (j : JournalState D)
-      → slice_get guests i ≡ Some guest → keeper_of guest ≡ Some j → who guest ≡ role → ⊥)
-      → held_after role ≡ held role
-  pub failed : (i : ℕ) (guest : Guest (JournalState D)) (j : JournalState D)
-      → slice_get guests i ≡ Some guest → keeper_of guest ≡ Some j → Rises 0 (disk_faults j.disk)
-      → Rises (faults (who guest)) (faults_after (who guest))
-  pub still : (i : ℕ) (guest : Guest (JournalState D)) (j : JournalState D)
-      → slice_get guests i ≡ Some guest → keeper_of guest ≡ Some j → disk_faults j.disk ≡ 0
-      → faults_after (who guest) ≡ faults (who guest)
-  pub others_still : (role : RoleId)
-      → ((i : ℕ) (guest : Guest (JournalState D)) (j : JournalState D)
-      → slice_get guests i ≡ Some guest → keeper_of guest ≡ Some j → who guest ≡ role → ⊥)
+-- These disks were given back: the depot holds at its place what each holds, elsewhere what it held, and each fault of
+-- one, and nothing else, has raised its role's count.
+pub record GivesBack {D : Type 0} (seen : D → Option (List ℕ)) (disk_faults : D → ℕ) (lent : List (Lent D))
+    (tells : Bool) (held held_after : Shelf → List ℕ) (faults faults_after : RoleId → ℕ) : Type 0 where
+  pub holds : tells ≡ true → (i : ℕ) (l : Lent D) (file : List ℕ) → slice_get lent i ≡ Some l
+      → seen l.disk ≡ Some file → held_after l.place ≡ file
+  pub others : (place : Shelf) → ((i : ℕ) (l : Lent D) → slice_get lent i ≡ Some l → l.place ≡ place → ⊥)
+      → held_after place ≡ held place
+  pub failed : (i : ℕ) (l : Lent D) → slice_get lent i ≡ Some l → Rises 0 (disk_faults l.disk)
+      → Rises (faults l.place.role) (faults_after l.place.role)
+  pub still : (role : RoleId)
+      → ((i : ℕ) (l : Lent D) → slice_get lent i ≡ Some l → l.place.role ≡ role → disk_faults l.disk ≡ 0)
       → faults_after role ≡ faults role
   pub later : (role : RoleId) → faults role ≤ faults_after role
 
--- they were given back to this depot
-abbrev pub AreGivenBack : {D S : Type 0} → DepotGhosts D S → DiskGhosts S → List (Guest (JournalState S)) → D → D
-    → Type 0
+-- the disks of these roles were given back to this depot
+abbrev pub AreGivenBack : {D S : Type 0} → DepotGhosts D S → DiskGhosts S → List (Guest (Store S)) → D → D → Type 0
 AreGivenBack by_depot by_disk guests old new =
-    GivesBack by_disk.seen by_disk.faults guests (by_depot.tells old)
+    GivesBack by_disk.seen by_disk.faults (disks_in guests) (by_depot.tells old)
     (by_depot.held old) (by_depot.held new) (by_depot.faults old) (by_depot.faults new)
 
--- what the appends of a journal on such a disk may answer, and leave
-abbrev pub journal_gives : {D : Type 0} → DiskGhosts D → Appending (JournalState D)
-journal_gives by_disk =
-    IsJournalAppend by_disk.seen by_disk.may_leave by_disk.moment by_disk.left_since by_disk.faults
+-- what a change of a store over such disks may answer, and leave
+abbrev pub store_gives : {D : Type 0} → DiskGhosts D → Changing (Store D)
+store_gives by_disk =
+    changing (λ old r answer new. IsStoreChange by_disk old (Append r) answer new)
+    (λ old records answer new. IsStoreChange by_disk old (Renewal records) answer new)
 
 -- these hosted roles in this cluster
 abbrev pub hosting : {K : Type 0} → Cluster → List (Guest K) → NodeState K
@@ -98,7 +91,7 @@ hosting c guests = record { cluster = c; guests = guests }
 
 -- Hosted roles ran to this answer: the whole run was made, or the first of its actions were done, and what failed has
 -- a cause.
-pub record Ran {K : Type 0} (gives : Appending K) (tend : Option ℕ) (c : Cluster) (turns : ℕ)
+pub record Ran {K : Type 0} (gives : Changing K) (tend : Option ℕ) (c : Cluster) (turns : ℕ)
     (answer : Result RunEnd Stop) (old new : Scene K) (before after : Failures) : Type 0 where
   pub done : IfOk answer (λ e. Runs gives tend c turns e old new)
   pub part : IfErr answer (λ e. RunsPart gives e tend c turns old new)

@@ -19,3 +19,5 @@ pub mod Acts
 pub mod Tends
 pub mod TendedParts
 pub mod Orders
+pub mod Changing
+pub mod Stores

@@ -2,12 +2,12 @@
 use Rattle.std.specs.Prelude.{◌≡◌, ◌⊎◌, ◌≤◌, ◌<◌, ℕ, true, false, List, length, take, Option}
 use Rattle.std.specs.List.{list_any}
 use Rattle.cx_base.specs.declared.cluster.Cluster.{Cluster}
-use Rattle.cx_role.specs.Role.{Appending}
 use Rattle.cx_node.specs.declared.guest.Guest.{Guest}
 use Rattle.cx_node.specs.declared.node.RunEnd.{RunEnd}
 use Rattle.cx_node.specs.declared.node.RunEnd.TheVariants.{Done, Turns}
 use Rattle.cx_node.specs.declared.node.Stop.{Stop}
 use Rattle.cx_node.specs.Action.{HasTaken}
+use Rattle.cx_node.specs.Changing.{Changing}
 use Rattle.cx_node.specs.Doing.{DidPart, Does, Scene}
 use Rattle.cx_node.specs.Guest.{hosted_in}
 use Rattle.cx_node.specs.Hosted.{Hosted}
@@ -41,14 +41,14 @@ pub record IsEnd (tend : Option ℕ) (c : Cluster) (limit : ℕ) (hs : List Host
       × (all_finished ((node_run tend c takes hs).next) ≡ false)
 
 -- the whole run was made, with what the takes of the link gave
-abbrev pub Runs : {K : Type 0} → Appending K → Option ℕ → Cluster → ℕ → RunEnd → Scene K → Scene K → Type 0
+abbrev pub Runs : {K : Type 0} → Changing K → Option ℕ → Cluster → ℕ → RunEnd → Scene K → Scene K → Type 0
 Runs gives tend c turns end old new =
     (takes : Takes) × Does gives c (node_run tend c takes (hosted_in old.guests)) old new
     × IsEnd tend c turns (hosted_in old.guests) takes end
     × HasTaken takes (node_run tend c takes (hosted_in old.guests)).actions
 
 -- The first of its actions were done, its takes among them, when this stopped it.
-abbrev pub RunsPart : {K : Type 0} → Appending K → Stop → Option ℕ → Cluster → ℕ → Scene K → Scene K → Type 0
+abbrev pub RunsPart : {K : Type 0} → Changing K → Stop → Option ℕ → Cluster → ℕ → Scene K → Scene K → Type 0
 RunsPart gives e tend c turns old new =
     (takes : Takes) × IsUnderway tend c turns (hosted_in old.guests) takes
     × DidPart gives c (node_run tend c takes (hosted_in old.guests)).actions e old new

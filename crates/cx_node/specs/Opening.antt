@@ -1,6 +1,7 @@
 -- Hosted roles as they are opened, and the stores that are lent to them.
-use Rattle.std.specs.Prelude.{◌≡◌, ◌<◌, ℕ, Bool, true, false, List, [], ◌∷◌, Option, None, Some, Ok, is_some}
-use Rattle.std.specs.Prelude.{if◌then◌else◌, slice_get}
+use Rattle.std.specs.Prelude.{◌≡◌, ◌<◌, ◌≤◌, ◌++◌, ℕ, Bool, true, false, List, [], Option, None, Some, Result, Ok, Err}
+use Rattle.std.specs.Prelude.{IfOk, OnErr, OnOk, is_some, slice_get}
+use Rattle.std.specs.List.{flat_map, list_any}
 use Rattle.cx_base.specs.declared.cluster.Cluster.{Cluster}
 use Rattle.cx_base.specs.declared.event.Event.{Event}
 use Rattle.cx_base.specs.declared.role.Kind.{Kind}
@@ -9,8 +10,11 @@ use Rattle.cx_base.specs.declared.role.RoleId.{RoleId}
 use Rattle.cx_client.specs.Client.{client_opened}
 use Rattle.cx_edge.specs.declared.depot.Depot.{Ghosts as DepotGhosts}
 use Rattle.cx_inv_open.specs.Reopened.{refused_as}
-use Rattle.cx_journal.specs.Image.{image}
-use Rattle.cx_journal.specs.State.{JournalState, told_records}
+use Rattle.cx_edge.specs.declared.shelf.Shelf.{Shelf}
+use Rattle.cx_edge.specs.Shelf.{same_shelf, shelf}
+use Rattle.cx_journal.specs.Files.{Files, files_image, files_records}
+use Rattle.cx_journal.specs.Store.{store_told, store_whole}
+use Rattle.cx_journal.specs.declared.store.Store.{Store}
 use Rattle.cx_model.specs.Acceptor.{acceptor_rules}
 use Rattle.cx_model.specs.Batcher.{batcher_rules}
 use Rattle.cx_model.specs.Leader.{leader_rules}
@@ -23,9 +27,14 @@ use Rattle.cx_model.specs.Unbatcher.{unbatcher_rules}
 use Rattle.cx_msg.specs.declared.kept.Record.{Record}
 use Rattle.cx_script.specs.Requests.{script_of}
 use Rattle.cx_node.specs.declared.guest.Guest.{Guest}
+use Rattle.cx_node.specs.declared.opening.OpenStop.{OpenStop}
+use Rattle.cx_node.specs.declared.opening.OpenStop.TheVariants as open_stop
+use Rattle.cx_node.specs.declared.waking.WakeStop.{WakeStop}
+use Rattle.cx_node.specs.declared.waking.WakeStop.TheVariants as wake_stop
 use Rattle.cx_node.specs.Guest.{hosted_of, keeper_of, who}
 use Rattle.cx_node.specs.Hosted.{Hosted, ClientAt, BatcherAt, LeaderAt, ProxyAt, AcceptorAt, MatchmakerAt, ReplicaAt}
 use Rattle.cx_node.specs.Hosted.{UnbatcherAt, ReaderAt}
+use Rattle.cx_node.specs.Stores.{Lent, NoneFailed, SameRecords, disks_of, files_of, has_second, is_two, places_of}
 use Rattle.cx_node.specs.Wake.{IsBadStore}
 
 -- whether a role of this kind has records, and so a store
@@ -54,15 +63,15 @@ opened_as c window events me records kind.Unbatcher = UnbatcherAt (opened unbatc
 opened_as c window events me records kind.Reader = ReaderAt (opened reader_rules c me [])
 
 -- the bytes are no store of a role of this kind, for the reason at this place
-abbrev pub IsBadAs : Cluster → RoleId → List ℕ → ℕ → Kind → Type 0
-IsBadAs c me file at kind.Leader = IsBadStore leader_rules c me file at
-IsBadAs c me file at kind.Acceptor = IsBadStore acceptor_rules c me file at
-IsBadAs c me file at kind.Matchmaker = IsBadStore matchmaker_rules c me file at
-IsBadAs c me file at kind.Replica = IsBadStore replica_rules c me file at
-IsBadAs c me file at other = ⊥
+abbrev pub IsBadAs : Cluster → RoleId → Files → ℕ → Kind → Type 0
+IsBadAs c me files at kind.Leader = IsBadStore leader_rules c me files at
+IsBadAs c me files at kind.Acceptor = IsBadStore acceptor_rules c me files at
+IsBadAs c me files at kind.Matchmaker = IsBadStore matchmaker_rules c me files at
+IsBadAs c me files at kind.Replica = IsBadStore replica_rules c me files at
+IsBadAs c me files at other = ⊥
 
 -- the first of these roles whose store is not one of its own, and the place of the first fault in it
-pub record IsFirstBad (roles : List RoleId) (c : Cluster) (held : RoleId → List ℕ) (role : RoleId)
+pub record IsFirstBad (roles : List RoleId) (c : Cluster) (held : RoleId → Files) (role : RoleId)
     (at : ℕ) : Type 0 where
   pub place : ℕ
   pub here : slice_get roles place ≡ Some role
@@ -70,42 +79,46 @@ pub record IsFirstBad (roles : List RoleId) (c : Cluster) (held : RoleId → Lis
   pub first : (i : ℕ) (other : RoleId) (fault : ℕ) → i < place → slice_get roles i ≡ Some other
       → IsBadAs c other (held other) fault other.kind → ⊥
 
--- a journal has these records, as far as its disk's bytes are known, and nothing has failed
-pub record HasRecords {D : Type 0} (seen : D → Option (List ℕ)) (disk_faults : D → ℕ) (tells : Bool)
-    (records : List Record) (j : JournalState D) : Type 0 where
-  pub whole : j.whole ≡ true
-  pub told : tells ≡ true → is_some (seen j.disk) ≡ true
-  pub kept : tells ≡ true → told_records (seen j.disk) ≡ records
-  pub faultless : disk_faults j.disk ≡ 0
+-- a store, over two disks or one, has these records, as far as its disks' bytes are known, and nothing has failed
+pub record HasRecords {D : Type 0} (seen : D → Option (List ℕ)) (disk_faults : D → ℕ) (tells second : Bool)
+    (records : List Record) (store : Store D) : Type 0 where
+  pub whole : store_whole store ≡ true
+  pub sides : is_two store ≡ second
+  pub told : tells ≡ true → is_some (store_told seen store) ≡ true
+  pub kept : tells ≡ true → files_records (store_told seen store) ≡ records
+  pub faultless : NoneFailed disk_faults store
 
-abbrev pub HasJournal : {D : Type 0} → (D → Option (List ℕ)) → (D → ℕ) → Bool → List Record → Bool
-    → Option (JournalState D) → Type 0
-HasJournal seen disk_faults tells records true None = ⊥
-HasJournal seen disk_faults tells records true (Some j) = HasRecords seen disk_faults tells records j
-HasJournal seen disk_faults tells records false None = Unit {0}
-HasJournal seen disk_faults tells records false (Some j) = ⊥
+abbrev pub HasStore : {D : Type 0} → (D → Option (List ℕ)) → (D → ℕ) → Bool → Bool → List Record → Bool
+    → Option (Store D) → Type 0
+HasStore seen disk_faults tells second records true None = ⊥
+HasStore seen disk_faults tells second records true (Some s) = HasRecords seen disk_faults tells second records s
+HasStore seen disk_faults tells second records false None = Unit {0}
+HasStore seen disk_faults tells second records false (Some s) = ⊥
 
--- A role was opened from the bytes of its store, if it has one: they are the image of records none of which it
--- refuses, and its journal has them.
+-- A role was opened from the bytes of its store, if it has one: they have records none of which it refuses, and its
+-- store has them.
 pub record IsOpened {D : Type 0} (seen : D → Option (List ℕ)) (disk_faults : D → ℕ) (c : Cluster) (window : ℕ)
-    (events : List Event) (tells : Bool) (file : List ℕ) (me : RoleId) (guest : Guest (JournalState D)) : Type 0 where
+    (events : List Event) (tells : Bool) (files : Files) (me : RoleId) (guest : Guest (Store D)) : Type 0 where
   pub records : List Record
   pub hosted : hosted_of guest ≡ opened_as c window events me records me.kind
   pub accepted : refused_as c me records me.kind ≡ None
-  pub read : tells ≡ true → is_durable me.kind ≡ true → image (Some me.kind) file ≡ Ok records
-  pub journal : HasJournal seen disk_faults tells records (is_durable me.kind) (keeper_of guest)
+  pub read : tells ≡ true → is_durable me.kind ≡ true → files_image (Some me.kind) files ≡ Ok records
+  pub stored : HasStore seen disk_faults tells (has_second me.kind) records (is_durable me.kind) (keeper_of guest)
 
 -- the first roles of a list were opened, each from what its store held
 abbrev pub AreOpened : {D : Type 0} → (D → Option (List ℕ)) → (D → ℕ) → Cluster → ℕ → List Event → Bool
-    → (RoleId → List ℕ) → List RoleId → List (Guest (JournalState D)) → Type 0
+    → (RoleId → Files) → List RoleId → List (Guest (Store D)) → Type 0
 AreOpened {D} seen disk_faults c window events tells held roles guests =
-    (i : ℕ) (guest : Guest (JournalState D)) → slice_get guests i ≡ Some guest
+    (i : ℕ) (guest : Guest (Store D)) → slice_get guests i ≡ Some guest
     → (me : RoleId) × (slice_get roles i ≡ Some me) × IsOpened seen disk_faults c window events tells (held me) me guest
 
--- the names of those that have a store, in their order
-abbrev pub lent_to : {K : Type 0} → List (Guest K) → List RoleId
-lent_to [] = []
-lent_to (g ∷ gs) = if is_some (keeper_of g) then who g ∷ lent_to gs else lent_to gs
+-- the disks of their stores, in their order
+abbrev pub disks_in : {D : Type 0} → List (Guest (Store D)) → List (Lent D)
+disks_in guests = flat_map (λ g. disks_of (who g) (keeper_of g)) guests
+
+-- the places of these
+abbrev pub lent_to : {D : Type 0} → List (Guest (Store D)) → List Shelf
+lent_to guests = places_of (disks_in guests)
 
 -- ---- what opening asks for, and leaves
 
@@ -113,11 +126,33 @@ lent_to (g ∷ gs) = if is_some (keeper_of g) then who g ∷ lent_to gs else len
 abbrev pub AreApart : List RoleId → Type 0
 AreApart roles = (i j : ℕ) (me : RoleId) → slice_get roles i ≡ Some me → slice_get roles j ≡ Some me → i ≡ j
 
--- each store holds the records that it held
-abbrev pub SameRecords : (RoleId → List ℕ) → (RoleId → List ℕ) → Type 0
-SameRecords held held_after = (who : RoleId) → told_records (Some (held_after who)) ≡ told_records (Some (held who))
-
 -- what a depot shows of a role stays
 abbrev pub StaysFor : {D S : Type 0} → DepotGhosts D S → D → D → RoleId → Type 0
 StaysFor by_depot old new who =
-    (by_depot.held new who ≡ by_depot.held old who) × (by_depot.faults new who ≡ by_depot.faults old who)
+    ((side : ℕ) → by_depot.held new (shelf who side) ≡ by_depot.held old (shelf who side))
+    × (by_depot.faults new who ≡ by_depot.faults old who)
+
+-- no store of this role is out
+abbrev pub NoneIsOut : RoleId → List Shelf → Type 0
+NoneIsOut me out = (side : ℕ) → list_any (same_shelf (shelf me side)) out ≡ false
+
+-- why a role wasn't opened, where it could not be woken
+abbrev pub unwoken_stop : RoleId → WakeStop → OpenStop
+unwoken_stop me wake_stop.Failed = open_stop.StoreFault me
+unwoken_stop me (wake_stop.Bad at) = open_stop.BadStore me at
+unwoken_stop me wake_stop.NoMemory = open_stop.NoMemory
+
+-- What the opening of a role leaves of a depot. These places are out besides, and what is held stays; or nothing more is
+-- out, and each store holds the records that it held. A count rises only where the answer names its role, and what the
+-- depot shows of other roles stays.
+pub record LendsFor {D S X : Type 0} (by_depot : DepotGhosts D S) (me : RoleId) (result : Result X OpenStop)
+    (lent : X → List Shelf) (old new : D) : Type 0 where
+  pub out : IfOk result (λ x. by_depot.out new ≡ by_depot.out old ++ lent x)
+  pub given_back : OnErr result (by_depot.out new ≡ by_depot.out old)
+  pub told : by_depot.tells new ≡ by_depot.tells old
+  pub stays : OnOk result ((place : Shelf) → by_depot.held new place ≡ by_depot.held old place)
+  pub held : by_depot.tells old ≡ true → SameRecords (files_of (by_depot.held old)) (files_of (by_depot.held new))
+  pub later : (who : RoleId) → by_depot.faults old who ≤ by_depot.faults new who
+  pub others : (who : RoleId) → (result ≡ Err (open_stop.StoreFault who) → ⊥)
+      → by_depot.faults new who ≡ by_depot.faults old who
+  pub apart : (who : RoleId) → (who ≡ me → ⊥) → StaysFor by_depot old new who

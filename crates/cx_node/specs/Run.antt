@@ -17,7 +17,7 @@ use Rattle.cx_msg.specs.Letter.{Letter}
 use Rattle.cx_msg.specs.declared.fault.WireFault.{WireFault}
 use Rattle.cx_msg.specs.declared.input.Input.TheVariants as input
 use Rattle.cx_node.specs.declared.doing.Doing.{Doing}
-use Rattle.cx_node.specs.declared.doing.Doing.TheVariants.{Begin, Give}
+use Rattle.cx_node.specs.declared.doing.Doing.TheVariants.{Begin, Give, Snap}
 use Rattle.cx_node.specs.Action.{Action, Took, step_actions}
 use Rattle.cx_node.specs.Hosted.{Hosted, ClientAt, Step, does, is_idle_leader, name_of}
 
@@ -93,6 +93,14 @@ lead_at c (Some i) hs =
 unfoldable pub ordered : Cluster → ℕ → List Hosted → Moved (List Hosted)
 ordered c n hs = if (n == 1) || (n % 4096 == 0) then lead_at c (place_of (role kind.Leader 0) hs) hs else stays hs
 
+-- all replicas snap, at each turn that 4,096 divides
+unfoldable pub snaps : ℕ → List Hosted → Moved (List Hosted)
+snaps n hs = if n % 4096 == 0 then all_do Snap hs else stays hs
+
+-- the first part of the n-th turn
+unfoldable pub prepared : Cluster → ℕ → List Hosted → Moved (List Hosted)
+prepared c n hs = then_do (ordered c n hs) (λ led. snaps n led)
+
 -- bytes that are no datagram change nothing, and neither does one to a role that isn't hosted
 abbrev pub decoded_come : Result Letter WireFault → List Hosted → Moved (List Hosted)
 decoded_come (Err fault) hs = stays hs
@@ -109,7 +117,7 @@ ticked n hs = if n % 64 == 0 then all_do (Give input.Tick) hs else stays hs
 
 -- the n-th turn, in which a take of the link gave this
 unfoldable pub turn : Cluster → ℕ → Option (List ℕ) → List Hosted → Moved (List Hosted)
-turn c n what hs = then_do (ordered c n hs) (λ after. then_do (comes what after) (λ last. ticked n last))
+turn c n what hs = then_do (prepared c n hs) (λ after. then_do (comes what after) (λ last. ticked n last))
 
 -- the turns from the n-th on, each of this kind
 abbrev pub turns_from : {S : Type 0} → (ℕ → Option (List ℕ) → S → Moved S) → ℕ → List (Option (List ℕ)) → S → Moved S

@@ -12,9 +12,8 @@ use Rattle.cx_edge.specs.declared.link.Link.{Ghosts as LinkGhosts}
 use Rattle.cx_edge.specs.declared.sink.Sink.{Ghosts as SinkGhosts}
 use Rattle.cx_edge.specs.declared.source.Source.{Ghosts as SourceGhosts}
 use Rattle.cx_edge.specs.Link.{LinkHistory}
-use Rattle.cx_journal.specs.Image.{image}
-use Rattle.cx_journal.specs.State.{records_or_none, told_records}
-use Rattle.cx_model.specs.World.{records_of}
+use Rattle.cx_journal.specs.Files.{Files, files_image, files_records}
+use Rattle.cx_journal.specs.State.{records_or_none}
 use Rattle.cx_msg.specs.declared.kept.Record.{Record}
 use Rattle.cx_node.specs.declared.input.Heard.TheVariants.{Lines}
 use Rattle.cx_node.specs.declared.input.Refusal.{Refusal}
@@ -22,16 +21,18 @@ use Rattle.cx_node.specs.declared.input.Refusal.TheVariants as refusal
 use Rattle.cx_node.specs.declared.node.RunEnd.{RunEnd}
 use Rattle.cx_node.specs.declared.node.RunEnd.TheVariants as end
 use Rattle.cx_node.specs.Action.{Action, Bound, HasTaken, kept_in, printed_in}
+use Rattle.cx_node.specs.Changing.{changes_of, lists_after}
 use Rattle.cx_node.specs.Doing.{Linked}
 use Rattle.cx_node.specs.Hosted.{Hosted}
 use Rattle.cx_node.specs.Input.{FailsRead, input_of, refused_of}
 use Rattle.cx_node.specs.Node.{IsEnd, IsUnderway, Takes}
 use Rattle.cx_node.specs.Opening.{IsBadAs, IsFirstBad, is_durable, opened_as}
 use Rattle.cx_node.specs.Run.{Moved}
+use Rattle.cx_node.specs.Stores.{files_of}
 use Rattle.cx_node.specs.Tending.{node_run}
 
 -- What a node has outside: what its source has left, the history of its link, what its output has taken, what its
--- depot holds for each role and whether that is known, and how often each has failed.
+-- depot holds in the stores of each role and whether that is known, and how often each role's have failed.
 pub record Outside : Type 0 where
   pub left : Option (List ℕ)
   pub reads : ℕ
@@ -40,7 +41,7 @@ pub record Outside : Type 0 where
   pub out : Option (List ℕ)
   pub writes : ℕ
   pub tells : Bool
-  pub held : RoleId → List ℕ
+  pub held : RoleId → Files
   pub stores : RoleId → ℕ
 
 -- what is outside, where so much is left of a source, and so many of its reads have failed
@@ -55,7 +56,7 @@ outside_read by_link by_depot by_out left reads link depot out =
       out = by_out.taken out;
       writes = by_out.faults out;
       tells = by_depot.tells depot;
-      held = by_depot.held depot;
+      held = files_of (by_depot.held depot);
       stores = by_depot.faults depot;
     }
 
@@ -66,8 +67,8 @@ outside by_input by_link by_depot by_out input link depot out =
     outside_read by_link by_depot by_out (by_input.left input) (by_input.faults input) link depot out
 
 -- the records of a store, as a role of its own kind opens it
-abbrev pub told_to : (RoleId → List ℕ) → RoleId → List Record
-told_to held me = records_or_none (image (Some me.kind) (held me))
+abbrev pub told_to : (RoleId → Files) → RoleId → List Record
+told_to held me = records_or_none (files_image (Some me.kind) (held me))
 
 -- the hosted roles as they are opened, each from these records
 abbrev pub hosts : Cluster → ℕ → List Event → (RoleId → List Record) → List RoleId → List Hosted
@@ -94,13 +95,14 @@ whole_run tend c window events told roles takes =
     map Bound roles ++ (run_of tend c window events told roles takes).actions
 
 -- These actions were done, and no others: the link's history has their binds, takes and sends, their bytes are
--- printed, and each hosted role's store has their records of it, after those that it had. Of a role that isn't hosted
--- nothing was touched.
+-- printed, and each hosted role's store has the list that it had, after their changes of it. Of a role that isn't
+-- hosted nothing was touched.
 pub record Did (roles : List RoleId) (c : Cluster) (actions : List Action) (old new : Outside) : Type 0 where
   pub link : Linked c actions old.link new.link
   pub printed : Appends old.out new.out (printed_in actions)
   pub stores : old.tells ≡ true → (i : ℕ) (me : RoleId) → slice_get roles i ≡ Some me → is_durable me.kind ≡ true
-      → told_records (Some (new.held me)) ≡ told_records (Some (old.held me)) ++ records_of me (kept_in actions)
+      → files_records (Some (new.held me))
+      ≡ lists_after (files_records (Some (old.held me))) (changes_of me (kept_in actions))
   pub others : (me : RoleId) → ((i : ℕ) → slice_get roles i ≡ Some me → ⊥)
       → (new.held me ≡ old.held me) × (new.stores me ≡ old.stores me)
   pub tells : new.tells ≡ old.tells
@@ -110,7 +112,7 @@ pub record Served (roles : List RoleId) (tend : Option ℕ) (c : Cluster) (windo
     (told : RoleId → List Record) (takes : Takes) (old new : Outside) : Type 0 where
   pub told_by : IsTold old told
   pub told_whole : old.tells ≡ true → (i : ℕ) (me : RoleId) → slice_get roles i ≡ Some me → is_durable me.kind ≡ true
-      → told_records (Some (old.held me)) ≡ told me
+      → files_records (Some (old.held me)) ≡ told me
   pub taken : HasTaken takes (run_of tend c window events told roles takes).actions
   pub did : Did roles c (whole_run tend c window events told roles takes) old new
 

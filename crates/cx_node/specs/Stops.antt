@@ -1,4 +1,4 @@
--- How the stop of a role within an append is a crash of the model's run.
+-- How the stop of a role within a change of its store is a crash of the model's run.
 use Rattle.std.specs.Prelude.{◌≡◌, ℕ, true, is_some, List, [], ◌∷◌, ◌++◌, Option, Some, Ok}
 use Rattle.cx_base.specs.declared.cluster.Cluster.{Cluster}
 use Rattle.cx_base.specs.declared.event.Cut.{Cut}
@@ -6,15 +6,21 @@ use Rattle.cx_base.specs.declared.event.Cut.TheVariants.{Whole}
 use Rattle.cx_base.specs.declared.event.Event.{Event}
 use Rattle.cx_base.specs.declared.event.Event.TheVariants as event
 use Rattle.cx_base.specs.declared.role.RoleId.{RoleId}
-use Rattle.cx_journal.specs.Image.{image}
-use Rattle.cx_journal.specs.State.{JournalState, told_records}
+use Rattle.cx_journal.specs.Files.{Files, files_image, files_records}
+use Rattle.cx_journal.specs.Store.{store_told, store_whole}
+use Rattle.cx_journal.specs.declared.store.Store.{Store}
+use Rattle.cx_keeper.specs.Keeper.{Change, Append, Renewal}
 use Rattle.cx_inv_open.specs.Reopened.{stored_as}
+use Rattle.cx_model.specs.Replica.{replica_renewed, replica_rules}
+use Rattle.cx_model.specs.Rules.{folded}
 use Rattle.cx_model.specs.World.{change, kept_by, run}
+use Rattle.cx_msg.specs.declared.input.Written.{Written}
 use Rattle.cx_msg.specs.declared.input.Written.TheVariants as written
 use Rattle.cx_msg.specs.declared.kept.Record.{Record}
 use Rattle.cx_promises.specs.Lawful.{IsLawful}
+use Rattle.cx_node.specs.Stores.{has_second, is_two}
 
--- the same event, with its role cut so within its append
+-- the same event, with its role cut so within the change of its store
 abbrev pub with_cut : Cut → Event → Event
 with_cut cut (event.Deliver n other) = event.Deliver n cut
 with_cut cut (event.Order l order other) = event.Order l order cut
@@ -25,28 +31,34 @@ with_cut cut (event.Tick r) = event.Tick r
 with_cut cut (event.Crash r) = event.Crash r
 with_cut cut (event.Restart r) = event.Restart r
 
--- the events in which a role may append a record
-abbrev pub MayAppend : Event → Type 0
-MayAppend (event.Deliver n cut) = Unit {0}
-MayAppend (event.Order l order cut) = Unit {0}
-MayAppend (event.Snap p cut) = ⊥
-MayAppend (event.Write command batcher) = ⊥
-MayAppend (event.Read client seq floor reader replica key) = ⊥
-MayAppend (event.Tick r) = ⊥
-MayAppend (event.Crash r) = ⊥
-MayAppend (event.Restart r) = ⊥
+-- the events in which a role may change its store
+abbrev pub MayChange : Event → Type 0
+MayChange (event.Deliver n cut) = Unit {0}
+MayChange (event.Order l order cut) = Unit {0}
+MayChange (event.Snap p cut) = Unit {0}
+MayChange (event.Write command batcher) = ⊥
+MayChange (event.Read client seq floor reader replica key) = ⊥
+MayChange (event.Tick r) = ⊥
+MayChange (event.Crash r) = ⊥
+MayChange (event.Restart r) = ⊥
 
--- A role's journal has the list that a run leaves in the role's store, and in the next event, if it is whole, the role keeps this record.
-pub record IsNextRecord {D : Type 0} (seen : D → Option (List ℕ)) (c : Cluster) (es : List Event) (e : Event)
-    (me : RoleId) (r : Record) (journal : JournalState D) : Type 0 where
-  pub may_append : MayAppend e
-  pub whole : journal.whole ≡ true
-  pub told : is_some (seen journal.disk) ≡ true
-  pub records : told_records (seen journal.disk) ≡ stored_as me (run c es).kept me.kind
-  pub next : (change (run c es) (with_cut Whole e)).kept ≡ kept_by me (Some (written.Record r))
+-- what the store with this list is asked to do, so that it keeps what the history then has
+abbrev pub change_for : List Record → Written → Change
+change_for list (written.Record r) = Append r
+change_for list (written.Snap first) = Renewal (replica_renewed (folded replica_rules list) first)
 
--- The bytes are the journal, as a role of this kind opens it, of the list that a run with this event cut so leaves in the
--- role's store, and that run is lawful.
-pub record IsOfRun (c : Cluster) (es : List Event) (e : Event) (cut : Cut) (me : RoleId) (bytes : List ℕ) : Type 0 where
-  pub journal : image (Some me.kind) bytes ≡ Ok (stored_as me (run c (es ++ with_cut cut e ∷ [])).kept me.kind)
+-- A role's store has the list that a run leaves in it, and in the next event, if it is whole, the role changes it so.
+pub record IsNextChange {D : Type 0} (seen : D → Option (List ℕ)) (c : Cluster) (es : List Event) (e : Event)
+    (me : RoleId) (what : Written) (store : Store D) : Type 0 where
+  pub may_change : MayChange e
+  pub whole : store_whole store ≡ true
+  pub sides : is_two store ≡ has_second me.kind
+  pub told : is_some (store_told seen store) ≡ true
+  pub records : files_records (store_told seen store) ≡ stored_as me (run c es).kept me.kind
+  pub next : (change (run c es) (with_cut Whole e)).kept ≡ kept_by me (Some what)
+
+-- The bytes are a store, as a role of this kind opens it, of the list that a run with this event cut so leaves in it, and
+-- that run is lawful.
+pub record IsOfRun (c : Cluster) (es : List Event) (e : Event) (cut : Cut) (me : RoleId) (files : Files) : Type 0 where
+  pub stored : files_image (Some me.kind) files ≡ Ok (stored_as me (run c (es ++ with_cut cut e ∷ [])).kept me.kind)
   pub lawful : IsLawful c (es ++ with_cut cut e ∷ [])

@@ -1,9 +1,9 @@
 -- The result of a part of a tended turn: what its roles did, and what is counted.
 use Rattle.std.specs.Prelude.{◌≡◌, ℕ, List, [], Option, Result, OnOk}
 use Rattle.cx_base.specs.declared.cluster.Cluster.{Cluster}
-use Rattle.cx_role.specs.Role.{Appending}
 use Rattle.cx_node.specs.declared.node.Stop.{Stop}
 use Rattle.cx_node.specs.Acts.{Acts}
+use Rattle.cx_node.specs.Changing.{Changing}
 use Rattle.cx_node.specs.Doing.{Scene}
 use Rattle.cx_node.specs.Guest.{hosted_in}
 use Rattle.cx_node.specs.Hosted.{Hosted}
@@ -12,7 +12,7 @@ use Rattle.cx_node.specs.Tending.{Care, Tended, first_leader, leader_tended, wit
 use Rattle.cx_node.specs.Tends.{TendsOnce, tended}
 
 -- what the roles did in a part without a take, by what was counted before it
-abbrev pub ActsTended : {K : Type 0} → Appending K → Cluster → (Tended → Moved Tended) → Result (Unit {0}) Stop → Care
+abbrev pub ActsTended : {K : Type 0} → Changing K → Cluster → (Tended → Moved Tended) → Result (Unit {0}) Stop → Care
     → Scene K → Scene K → Type 0
 ActsTended gives c part result before old new =
     Acts gives c [] (without_care (part (tended before (hosted_in old.guests)))) result old new
@@ -22,7 +22,7 @@ abbrev pub Counts : (Tended → Moved Tended) → Result (Unit {0}) Stop → Car
 Counts part result before after hs = OnOk result (after ≡ (part (tended before hs)).next.care)
 
 -- a turn, by what its take gave: what the roles did, and what is counted after it
-abbrev pub ActsTurn : {K : Type 0} → Appending K → Cluster → (Option (List ℕ) → Tended → Moved Tended)
+abbrev pub ActsTurn : {K : Type 0} → Changing K → Cluster → (Option (List ℕ) → Tended → Moved Tended)
     → Result (Unit {0}) Stop → Care → Care → Scene K → Scene K → Type 0
 ActsTurn gives c turn result before after old new =
     TendsOnce gives c (λ what. turn what (tended before (hosted_in old.guests))) result old new after

@@ -1,6 +1,6 @@
 -- The turns of a node that tends its roles, and the run of a node with and without tending. A tended node has the roles tick, and gives its
 -- leader orders, by what it has counted, and not by the numbers of its turns.
-use Rattle.std.specs.Prelude.{ℕ, ◌+◌, ◌*◌, ◌/◌, ◌%◌, ◌==◌, min, nat_lt, nat_le, Bool, true, false, not, ◌&&◌, ◌||◌, List, [], ◌∷◌, ◌++◌, filter, map, length, sum, count_by, is_some, Option, None, Some, Result, Ok, Err, option_map, slice_get, if◌then◌else◌}
+use Rattle.std.specs.Prelude.{ℕ, ◌+◌, ◌*◌, ◌/◌, ◌%◌, ◌==◌, min, nat_lt, nat_le, Bool, false, not, ◌&&◌, ◌||◌, List, [], ◌∷◌, ◌++◌, filter, map, length, sum, count_by, is_some, Option, None, Some, Result, Ok, Err, slice_get, if◌then◌else◌}
 use Rattle.std.specs.Option.{option_map_or}
 use Rattle.cx_base.specs.declared.cluster.Cluster.{Cluster}
 use Rattle.cx_base.specs.declared.event.Order.{Order}
@@ -18,11 +18,10 @@ use Rattle.cx_msg.specs.Decoding.{decoded}
 use Rattle.cx_msg.specs.Letter.{Letter}
 use Rattle.cx_msg.specs.declared.fault.WireFault.{WireFault}
 use Rattle.cx_msg.specs.declared.input.Input.TheVariants as input
-use Rattle.cx_node.specs.declared.doing.Doing.{Doing}
 use Rattle.cx_node.specs.declared.doing.Doing.TheVariants.{Begin, Give}
 use Rattle.cx_node.specs.declared.standing.Standing.{Standing}
 use Rattle.cx_node.specs.Hosted.{Hosted, ClientAt, LeaderAt, ReplicaAt, name_of}
-use Rattle.cx_node.specs.Run.{Moved, all_do, at_place, does_at, grid_of, is_client, ordered, place_of, stays, then_do, took, turn, turns_from, untended_run}
+use Rattle.cx_node.specs.Run.{Moved, all_do, at_place, does_at, grid_of, is_client, ordered, place_of, snaps, stays, then_do, took, turn, turns_from, untended_run}
 
 -- What a tended node has counted. Counts of turns and beats stop at 2 ^ 32 - 1.
 pub record Care : Type 0 where
@@ -145,6 +144,10 @@ gets (Some o) hs = at_place (place_of (role kind.Leader 0) hs) (Give (input.Orde
 unfoldable pub tend_ordered : Cluster → ℕ → List Hosted → Moved (List Hosted)
 tend_ordered c n hs =
     if (n == 1) && not (option_map_or (λ (l : Running LeaderDurable LeaderVolatile). is_new l.durable) (first_leader hs) false) then stays hs else ordered c n hs
+
+-- the first part of the n-th turn
+unfoldable pub tend_prepared : Cluster → ℕ → List Hosted → Moved (List Hosted)
+tend_prepared c n hs = then_do (tend_ordered c n hs) (λ led. snaps n led)
 
 -- a replica whose log has come to a further multiple of 8 slots ticks
 unfoldable pub reported : RoleId → ℕ → List Hosted → Moved (List Hosted)
@@ -293,7 +296,7 @@ turn_ended c m came t =
 -- the n-th turn of a tended node, in which a take of the link gave this; there are at most m turns from beat to beat
 unfoldable pub tended_turn : Cluster → ℕ → ℕ → Option (List ℕ) → Tended → Moved Tended
 tended_turn c m n what t =
-    then_do (within (tend_ordered c n) t) (λ a.
+    then_do (within (tend_prepared c n) t) (λ a.
     then_do (within (tend_comes what) a) (λ b.
     then_do (within (flushed b.care (is_some what)) b) (λ d.
     turn_ended c m (is_some what) d)))

@@ -1,5 +1,5 @@
 -- Worked parts of a tended turn.
-use Rattle.std.specs.Prelude.{◌≡◌, ℕ, zero, suc, true, false, List, [], ◌∷◌, replicate, None, Some}
+use Rattle.std.specs.Prelude.{◌≡◌, ℕ, zero, suc, true, false, List, [], ◌∷◌, replicate}
 use Rattle.cx_base.specs.declared.command.Value.TheVariants.{Noop}
 use Rattle.cx_base.specs.declared.event.Event.TheVariants as event
 use Rattle.cx_base.specs.declared.role.Kind.TheVariants.{Client, Reader, Replica, Leader}

@@ -4,11 +4,11 @@ use Rattle.std.specs.Option.{option_map_or}
 use Rattle.cx_base.specs.declared.cluster.Cluster.{Cluster}
 use Rattle.cx_model.specs.Leader.{LeaderDurable, LeaderVolatile}
 use Rattle.cx_model.specs.Rules.{Running}
-use Rattle.cx_role.specs.Role.{Appending}
 use Rattle.cx_node.specs.declared.node.Stop.{Stop}
 use Rattle.cx_node.specs.declared.whom.Whom.{Whom}
 use Rattle.cx_node.specs.declared.whom.Whom.TheVariants.{Kind, Others, Overtaken}
 use Rattle.cx_node.specs.Acts.{Acts}
+use Rattle.cx_node.specs.Changing.{Changing}
 use Rattle.cx_node.specs.Doing.{Scene}
 use Rattle.cx_node.specs.Hosted.{Hosted}
 use Rattle.cx_node.specs.Run.{Moved, is_client}
@@ -35,7 +35,7 @@ done_of (Ok x) = Ok tt
 done_of (Err e) = Err e
 
 -- What one take gave, what the roles did with it, and what is counted.
-abbrev pub TendsOnce : {K : Type 0} → Appending K → Cluster → (Option (List ℕ) → Moved Tended)
+abbrev pub TendsOnce : {K : Type 0} → Changing K → Cluster → (Option (List ℕ) → Moved Tended)
     → Result (Unit {0}) Stop → Scene K → Scene K → Care → Type 0
 TendsOnce gives c f result old new care =
     (what : Option (List ℕ)) × Acts gives c (what ∷ []) (without_care (f what)) result old new

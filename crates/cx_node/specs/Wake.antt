@@ -1,29 +1,29 @@
 -- How a role is woken from the bytes of its store.
-use Rattle.std.specs.Prelude.{◌≡◌, ◌⊎◌, ℕ, List, length, take, Option, None, Some, Ok, Err, is_some}
+use Rattle.std.specs.Prelude.{◌≡◌, ◌⊎◌, ◌++◌, ℕ, List, length, take, Option, None, Some, Ok, Err, is_some}
 use Rattle.cx_base.specs.declared.cluster.Cluster.{Cluster}
 use Rattle.cx_base.specs.declared.role.RoleId.{RoleId}
-use Rattle.cx_journal.specs.Image.{image}
+use Rattle.cx_journal.specs.Files.{Files, files_image, files_records, front_in}
 use Rattle.cx_journal.specs.Journal.{frames}
 use Rattle.cx_journal.specs.Payload.{payloads}
-use Rattle.cx_journal.specs.State.{told_records}
 use Rattle.cx_model.specs.Rules.{Rules, Running, opened, refused}
 use Rattle.cx_msg.specs.declared.kept.Record.{Record}
 
--- A role as the records of a store leave it: they are the image of its bytes, each is one that the role could have
--- appended, and its journal has them.
-pub record IsWoken {D V : Type 0} (rules : Rules D V) (c : Cluster) (me : RoleId) (seen seen_after : Option (List ℕ))
+-- A role as the records of a store leave it: they are those of its bytes, each is one that the role could have
+-- appended, and the store has them.
+pub record IsWoken {D V : Type 0} (rules : Rules D V) (c : Cluster) (me : RoleId) (seen seen_after : Option Files)
     (role : Running D V) : Type 0 where
   pub records : List Record
   pub state : role ≡ opened rules c me records
   pub accepted : refused rules c me records ≡ None
-  pub read : (file : List ℕ) → seen ≡ Some file → image (Some me.kind) file ≡ Ok records
-  pub kept : (file : List ℕ) → seen ≡ Some file → told_records seen_after ≡ records
+  pub read : (files : Files) → seen ≡ Some files → files_image (Some me.kind) files ≡ Ok records
+  pub kept : (files : Files) → seen ≡ Some files → files_records seen_after ≡ records
   pub told : is_some seen_after ≡ is_some seen
 
--- The place at which the bytes are no store of this role: their first break, or that of the first record which the
--- role could not have appended, or the end of records that end too early.
-abbrev pub IsBadStore : {D V : Type 0} → Rules D V → Cluster → RoleId → List ℕ → ℕ → Type 0
-IsBadStore rules c me file at =
-    (image (Some me.kind) file ≡ Err at)
-    ⊎ ((records : List Record) × (image (Some me.kind) file ≡ Ok records)
-    × (index : ℕ) × (refused rules c me records ≡ Some index) × (at ≡ length (frames (payloads (take index records)))))
+-- The place, in the only or live file, at which the bytes are no store of this role: their first break, or that of the
+-- first record which the role could not have appended, or the end of records that end too early.
+abbrev pub IsBadStore : {D V : Type 0} → Rules D V → Cluster → RoleId → Files → ℕ → Type 0
+IsBadStore rules c me files at =
+    (files_image (Some me.kind) files ≡ Err at)
+    ⊎ ((records : List Record) × (files_image (Some me.kind) files ≡ Ok records)
+    × (index : ℕ) × (refused rules c me records ≡ Some index)
+    × (at ≡ length (front_in files ++ frames (payloads (take index records)))))

@@ -6,6 +6,7 @@ ghost use Rattle.cx_base.specs.declared.role.RoleId.{RoleId};
 ghost use Rattle.cx_base.specs.Role.{same_role};
 ghost use Rattle.cx_node.specs.declared.node.Stop.TheVariants as stop;
 ghost use Rattle.cx_node.specs.Acts.{ActsPart, Blames, failed, scene_of};
+ghost use Rattle.cx_node.specs.Changing.{changing};
 ghost use Rattle.cx_node.specs.Guest.{AreReady, GuestGrows, KeeperFails, KeeperRests, hosted_in, hosted_of, who};
 ghost use Rattle.cx_node.specs.Hosted.{does, is_live};
 ghost use Rattle.cx_node.specs.Run.{all_do, at_place, does_at, place_of};
@@ -14,11 +15,11 @@ use crate::sending::send_all;
 use crate::{Doing, Node, Seat, Stop};
 use cx_base::RoleId;
 use cx_edge::{Link, Sink, write_all};
-use cx_keeper::Keeper;
+use cx_keeper::Renew;
 use cx_role::{Outbox, StepFault};
 
 // A role does what it is asked. Where its store failed, the stop names it.
-fn ask<K: Keeper>(
+fn ask<K: Renew>(
     seat: &mut Seat<K>,
     what: &Doing,
     outbox: &mut Outbox,
@@ -26,13 +27,15 @@ fn ask<K: Keeper>(
 ) -> Result<(), Stop>
     requires live { IsTrue (is_live (hosted_of seat.old)) }
     ensures role { OnOk result (hosted_of seat.new ≡ (does (hosted_of seat.old) what.now).next) }
-    ensures kept { OnOk result (GuestGrows K.append_gives (does (hosted_of seat.old) what.now).kept seat.old seat.new) }
+    ensures kept { OnOk result (GuestGrows (changing K.append_gives K.renew_gives)
+        (does (hosted_of seat.old) what.now).kept seat.old seat.new) }
     ensures sends { OnOk result (outbox.new.list ≡ (does (hosted_of seat.old) what.now).sends) }
     ensures text { OnOk result (text.new.items ≡ (does (hosted_of seat.old) what.now).text) }
-    ensures rests { result ≡ Err stop.NoMemory → KeeperRests K.append_gives seat.old seat.new }
+    ensures rests { result ≡ Err stop.NoMemory → KeeperRests (changing K.append_gives K.renew_gives) seat.old seat.new }
     ensures failed { (role : RoleId) → result ≡ Err (stop.StoreFault role)
         → (who seat.old ≡ role)
-        × KeeperFails K.append_gives (does (hosted_of seat.old) what.now).kept seat.old seat.new }
+        × KeeperFails (changing K.append_gives K.renew_gives)
+        (does (hosted_of seat.old) what.now).kept seat.old seat.new }
     ensures no_write { result ≡ Err stop.WriteFault → ⊥ }
     ensures no_link { result ≡ Err stop.LinkFault → ⊥ }
     ensures name { who seat.new ≡ who seat.old }
@@ -48,13 +51,13 @@ fn ask<K: Keeper>(
 }
 
 // The place of a role.
-fn place_in<K: Keeper>(seats: &[Seat<K>], role: RoleId) -> Option<usize>
+fn place_in<K: Renew>(seats: &[Seat<K>], role: RoleId) -> Option<usize>
     ensures { result ≡ position (λ guest. same_role role (who guest)) seats.now }
 {
     seats.iter().position(|seat| role.is(seat.name()))
 }
 
-impl<K: Keeper + Drop> Node<K> {
+impl<K: Renew + Drop> Node<K> {
     // The role at a place does what it is asked; what it sends is sent, and what it prints is printed.
     pub fn act<L: Link, W: Sink>(
         &mut self,
@@ -65,7 +68,8 @@ impl<K: Keeper + Drop> Node<K> {
     ) -> Result<(), Stop>
         requires place { place < length self.old.guests }
         requires ready { AreReady self.old.cluster self.old.guests }
-        ensures acts { ActsPart K.append_gives self.old.cluster (does_at place what.now) result
+        ensures acts { ActsPart (changing K.append_gives K.renew_gives) self.old.cluster
+            (does_at place what.now) result
             (scene_of L.Link W.Sink self.old link.old out.old) (scene_of L.Link W.Sink self.new link.new out.new) }
         ensures blames { Blames result (failed L.Link W.Sink link.old out.old) (failed L.Link W.Sink link.new out.new) }
         ensures cluster { self.new.cluster ≡ self.old.cluster }
@@ -97,7 +101,8 @@ impl<K: Keeper + Drop> Node<K> {
         out: &mut W,
     ) -> Result<(), Stop>
         requires ready { AreReady self.old.cluster self.old.guests }
-        ensures acts { ActsPart K.append_gives self.old.cluster (all_do what.now) result
+        ensures acts { ActsPart (changing K.append_gives K.renew_gives) self.old.cluster
+            (all_do what.now) result
             (scene_of L.Link W.Sink self.old link.old out.old) (scene_of L.Link W.Sink self.new link.new out.new) }
         ensures blames { Blames result (failed L.Link W.Sink link.old out.old) (failed L.Link W.Sink link.new out.new) }
         ensures cluster { self.new.cluster ≡ self.old.cluster }
@@ -125,7 +130,8 @@ impl<K: Keeper + Drop> Node<K> {
         out: &mut W,
     ) -> Result<(), Stop>
         requires ready { AreReady self.old.cluster self.old.guests }
-        ensures acts { ActsPart K.append_gives self.old.cluster (λ hs. at_place (place_of role hs) what.now hs) result
+        ensures acts { ActsPart (changing K.append_gives K.renew_gives) self.old.cluster
+            (λ hs. at_place (place_of role hs) what.now hs) result
             (scene_of L.Link W.Sink self.old link.old out.old) (scene_of L.Link W.Sink self.new link.new out.new) }
         ensures blames { Blames result (failed L.Link W.Sink link.old out.old) (failed L.Link W.Sink link.new out.new) }
         ensures cluster { self.new.cluster ≡ self.old.cluster }

@@ -7,11 +7,11 @@ ghost use Rattle.cx_node.specs.Opening.{lent_to};
 
 use crate::Seat;
 use cx_edge::Depot;
-use cx_journal::Journal;
+use cx_journal::Store;
 
-/// Gives the store of each role that has one back to the depot, which then holds what the store holds, and adds its
+/// Gives the stores of each role that has one or two back to the depot, which then holds what they hold, and adds their
 /// faults to the role's count. It takes no memory.
-pub fn close_seats<D: Depot>(depot: &mut D, seats: Vec<Seat<Journal<D::Store>>>)
+pub fn close_seats<D: Depot>(depot: &mut D, seats: Vec<Seat<Store<D::Store>>>)
     requires out { D.out depot.old ≡ lent_to seats.items }
     requires distinct { AreDistinct (hosted_in seats.items) }
     ensures out { D.out depot.new ≡ [] }
@@ -20,8 +20,14 @@ pub fn close_seats<D: Depot>(depot: &mut D, seats: Vec<Seat<Journal<D::Store>>>)
 {
     for seat in seats {
         let me = seat.name();
-        if let Some(journal) = seat.into_keeper() {
-            depot.close(me, journal.into_disk());
+        match seat.into_keeper() {
+            Some(Store::One { journal }) => depot.close(me, 0, journal.into_disk()),
+            Some(Store::Two { twin }) => {
+                let (first, second) = twin.into_disks();
+                depot.close(me, 0, first);
+                depot.close(me, 1, second);
+            }
+            None => {}
         }
     }
 }

@@ -1,8 +1,8 @@
-//! A node: hosted roles that take datagrams from a link and keep their records in journals.
+//! A node: hosted roles that take datagrams from a link and keep their records in journals, a replica over two disks.
 //!
 //! Its theorems are the contract of `serve`: what was bound, sent, kept and printed is exactly the
 //! node's run over what the link gave, or a prefix of each and a status that says why; and
-//! `stops_are_crashes`: a crash at any moment of an append leaves the journal of a run in which that
+//! `stops_are_crashes`: a crash at any moment of an append or a renewal leaves the store of a run in which that
 //! role crashed there.
 #![tactic(auto)]
 
@@ -41,5 +41,5 @@ pub use orders::no_vain_order;
 pub use seat::Seat;
 pub use serving::serve;
 pub use standing::Standing;
-pub use waking::{WakeStop, wake};
+pub use waking::{WakeStop, wake, wake_twin};
 pub use whom::Whom;

@@ -5,6 +5,7 @@ ghost use Rattle.std.specs.List.{list_all, list_any};
 ghost use Rattle.cx_base.specs.Faults.{Rises};
 ghost use Rattle.cx_node.specs.declared.node.Stop.TheVariants as stop;
 ghost use Rattle.cx_node.specs.Acts.{ActsLong, Blames, failed, scene_of};
+ghost use Rattle.cx_node.specs.Changing.{changing};
 ghost use Rattle.cx_node.specs.Guest.{AreReady, hosted_in, hosted_of};
 ghost use Rattle.cx_node.specs.Node.{Runs, RunsPart};
 ghost use Rattle.cx_node.specs.Run.{all_finished, has_finished, is_client};
@@ -14,7 +15,7 @@ use crate::care::Care;
 use crate::{Doing, Seat};
 use cx_base::{Cluster, MAX_DATAGRAM_LENGTH, NoMemory, RoleId};
 use cx_edge::{Link, Sink};
-use cx_keeper::Keeper;
+use cx_keeper::Renew;
 use cx_role::Outbox;
 use std::alloc::Global;
 use std::marker::Model;
@@ -74,7 +75,7 @@ impl<K> Model for Node<K> {
     ghost invariant = { λ node. length node.buffer.items ≡ 32769 };
 }
 
-impl<K: Keeper + Drop> Node<K> {
+impl<K: Renew + Drop> Node<K> {
     /// A node of these roles. The memory of its buffer is taken here.
     pub fn new(
         alloc: Global,
@@ -138,7 +139,7 @@ impl<K: Keeper + Drop> Node<K> {
         out: &mut W,
     ) -> Result<(), Stop>
         requires ready { AreReady self.old.cluster self.old.guests }
-        ensures acts { ActsLong K.append_gives tend self.old.cluster turns result
+        ensures acts { ActsLong (changing K.append_gives K.renew_gives) tend self.old.cluster turns result
             (scene_of L.Link W.Sink self.old link.old out.old) (scene_of L.Link W.Sink self.new link.new out.new) }
         ensures blames { Blames result (failed L.Link W.Sink link.old out.old) (failed L.Link W.Sink link.new out.new) }
         ensures cluster { self.new.cluster ≡ self.old.cluster }
@@ -157,11 +158,11 @@ impl<K: Keeper + Drop> Node<K> {
     }
 
     /// Runs `turns` turns, or until all hosted clients have finished: clients send their first requests, and each
-    /// turn has three parts. An idle leader 0 is ordered to lead (at turn 1 and at each that 4,096 divides), one
-    /// datagram is taken from the link, and all roles tick (at each turn that 64 divides). A node that tends its
-    /// roles has them tick, and orders leader 0, by what it counts, with at most `tend` turns from one beat to the
-    /// next. What is taken, kept, sent and printed are exactly the run's actions, or a prefix of them where something
-    /// failed.
+    /// turn has three parts. An idle leader 0 is ordered to lead (at turn 1 and at each that 4,096 divides) and replicas
+    /// forget values that no other will ask them for (at each turn that 4,096 divides), one datagram is taken from the
+    /// link, and all roles tick (at each turn that 64 divides). A node that tends its roles has them tick, and orders
+    /// leader 0, by what it counts, with at most `tend` turns from one beat to the next. What is taken, kept, sent and
+    /// printed are exactly the run's actions, or a prefix of them where something failed.
     pub fn run<L: Link, W: Sink>(
         &mut self,
         turns: u32,
@@ -170,9 +171,11 @@ impl<K: Keeper + Drop> Node<K> {
         out: &mut W,
     ) -> Result<RunEnd, Stop>
         requires ready { AreReady self.old.cluster self.old.guests }
-        ensures done { IfOk result (λ end. Runs K.append_gives tend self.old.cluster turns end
+        ensures done { IfOk result (λ end. Runs (changing K.append_gives K.renew_gives) tend self.old.cluster
+            turns end
             (scene_of L.Link W.Sink self.old link.old out.old) (scene_of L.Link W.Sink self.new link.new out.new)) }
-        ensures part { IfErr result (λ e. RunsPart K.append_gives e tend self.old.cluster turns
+        ensures part { IfErr result (λ e. RunsPart (changing K.append_gives K.renew_gives) e tend self.old.cluster
+            turns
             (scene_of L.Link W.Sink self.old link.old out.old) (scene_of L.Link W.Sink self.new link.new out.new)) }
         ensures written { result ≡ Err stop.WriteFault → Rises (W.faults out.old) (W.faults out.new) }
         ensures unwritten { (result ≡ Err stop.WriteFault → ⊥) → W.faults out.new ≡ W.faults out.old }
@@ -189,13 +192,13 @@ impl<K: Keeper + Drop> Node<K> {
     }
 }
 
-fn any_client<K: Keeper>(seats: &[Seat<K>]) -> bool
+fn any_client<K: Renew>(seats: &[Seat<K>]) -> bool
     ensures { result ≡ list_any (λ guest. is_client (hosted_of guest)) seats.now }
 {
     seats.iter().any(|seat| seat.is_client())
 }
 
-fn all_finished<K: Keeper>(seats: &[Seat<K>]) -> bool
+fn all_finished<K: Renew>(seats: &[Seat<K>]) -> bool
     ensures { result ≡ list_all (λ guest. has_finished (hosted_of guest)) seats.now }
 {
     seats.iter().all(|seat| seat.has_finished())

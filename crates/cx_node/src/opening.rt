@@ -1,29 +1,29 @@
 //! How hosted roles are opened.
 
-ghost use Rattle.std.specs.Prelude.{◌≡◌, ◌≤◌, ◌++◌, ◌∷◌, [], ℕ, true, false, Some, Err, length};
+ghost use Rattle.std.specs.Prelude.{◌≡◌, ◌≤◌, ◌∷◌, [], ℕ, true, false, Some, Err, length};
 ghost use Rattle.std.specs.Prelude.{IfOk, OnOk, OnErr, IsTrue, slice_get};
-ghost use Rattle.std.specs.List.{list_any};
 ghost use Rattle.cx_base.specs.declared.role.Kind.TheVariants as kind;
 ghost use Rattle.cx_base.specs.declared.role.RoleId.{RoleId};
 ghost use Rattle.cx_base.specs.Faults.{Rises};
-ghost use Rattle.cx_base.specs.Role.{same_role};
 ghost use Rattle.cx_client.specs.Client.{client_opened};
 ghost use Rattle.cx_model.specs.Names.{names_role};
+ghost use Rattle.cx_model.specs.Replica.{replica_rules};
 ghost use Rattle.cx_model.specs.Rules.{opened};
 ghost use Rattle.cx_script.specs.Requests.{IsScript, script_of};
 ghost use Rattle.cx_node.specs.declared.opening.OpenStop.TheVariants as open_stop;
-ghost use Rattle.cx_node.specs.Opening.{AreApart, AreOpened, IsBadAs, IsFirstBad, IsOpened};
-ghost use Rattle.cx_node.specs.Opening.{SameRecords, StaysFor, lent_to};
+ghost use Rattle.cx_node.specs.Opening.{AreApart, AreOpened, IsBadAs, IsFirstBad, IsOpened, LendsFor, NoneIsOut};
+ghost use Rattle.cx_node.specs.Opening.{StaysFor, lent_to, unwoken_stop};
 ghost use Rattle.cx_node.specs.Durable.{IsDurablyOpened};
+ghost use Rattle.cx_node.specs.Stores.{SameRecords, disks_of, files_of, has_second, places_of};
 ghost use Rattle.cx_node.specs.Wake.{IsBadStore};
 
-use crate::{Guest, Seat, WakeStop, wake};
+use crate::{Guest, Seat, WakeStop, wake, wake_twin};
 use cx_acceptor::Acceptor;
 use cx_base::{Cluster, Event, Kind, RoleId};
 use cx_batch::{Batcher, Unbatcher};
 use cx_client::Client;
 use cx_edge::Depot;
-use cx_journal::Journal;
+use cx_journal::Store;
 use cx_leader::Leader;
 use cx_match::Matchmaker;
 use cx_proxy::Proxy;
@@ -43,44 +43,82 @@ pub enum OpenStop {
     BadStore { role: RoleId, at: u64 },
 }
 
+// What a role could not be woken for.
+fn unwoken(me: RoleId, stop: WakeStop) -> OpenStop
+    ensures { result ≡ unwoken_stop me stop }
+{
+    match stop {
+        WakeStop::Failed => OpenStop::StoreFault { role: me },
+        WakeStop::Bad { at } => OpenStop::BadStore { role: me, at },
+        WakeStop::NoMemory => OpenStop::NoMemory,
+    }
+}
+
 // A role is woken from its store. A store from which it could not be woken is given back.
 fn open_durable<D: Depot, R: Role>(
     alloc: Global,
     cluster: &Cluster,
     me: RoleId,
     depot: &mut D,
-) -> Result<(Journal<D::Store>, R), OpenStop>
+) -> Result<(Store<D::Store>, R), OpenStop>
     requires kind { me.kind ≡ R.rules.kind }
+    requires one { has_second me.kind ≡ false }
     requires named { IsTrue (names_role cluster.now me) }
-    requires in_depot { list_any (same_role me) (D.out depot.old) ≡ false }
+    requires in_depot { NoneIsOut me (D.out depot.old) }
     ensures role { IfOk result (λ p. IsDurablyOpened R.rules D.Store.Disk.seen D.Store.Disk.faults cluster.now
-        (D.tells depot.old) (D.held depot.old me) me p.0 (R.state p.1)) }
-    ensures out { OnOk result (D.out depot.new ≡ D.out depot.old ++ me ∷ []) }
-    ensures given_back { OnErr result (D.out depot.new ≡ D.out depot.old) }
-    ensures told { D.tells depot.new ≡ D.tells depot.old }
-    ensures stays { OnOk result ((who : RoleId) → D.held depot.new who ≡ D.held depot.old who) }
-    ensures held { D.tells depot.old ≡ true → SameRecords (D.held depot.old) (D.held depot.new) }
-    ensures later { (who : RoleId) → D.faults depot.old who ≤ D.faults depot.new who }
+        (D.tells depot.old) (files_of (D.held depot.old) me) me p.0 (R.state p.1)) }
+    ensures lends { LendsFor D.Depot me result (λ p. places_of (disks_of me (Some p.0))) depot.old depot.new }
     ensures bad { (role : RoleId) (at : ℕ) → result ≡ Err (open_stop.BadStore role at)
-        → (role ≡ me) × (D.tells depot.old ≡ true → IsBadStore R.rules cluster.now me (D.held depot.old me) at) }
-    ensures others { (who : RoleId) → (result ≡ Err (open_stop.StoreFault who) → ⊥)
-        → D.faults depot.new who ≡ D.faults depot.old who }
+        → (role ≡ me)
+        × (D.tells depot.old ≡ true → IsBadStore R.rules cluster.now me (files_of (D.held depot.old) me) at) }
     ensures failed { (role : RoleId) → result ≡ Err (open_stop.StoreFault role)
         → (role ≡ me) × Rises (D.faults depot.old me) (D.faults depot.new me) }
-    ensures apart { (who : RoleId) → (who ≡ me → ⊥) → StaysFor D.Depot depot.old depot.new who }
 {
-    let Ok(store) = depot.open(me) else {
+    let Ok(store) = depot.open(me, 0) else {
         return Err(OpenStop::StoreFault { role: me });
     };
     match wake(alloc, cluster, me, store) {
-        Ok(woken) => Ok(woken),
+        Ok((journal, role)) => Ok((Store::One { journal }, role)),
         Err((stop, store)) => {
-            depot.close(me, store);
-            Err(match stop {
-                WakeStop::Failed => OpenStop::StoreFault { role: me },
-                WakeStop::Bad { at } => OpenStop::BadStore { role: me, at },
-                WakeStop::NoMemory => OpenStop::NoMemory,
-            })
+            depot.close(me, 0, store);
+            Err(unwoken(me, stop))
+        }
+    }
+}
+
+// A replica is woken from its two stores. Stores from which it could not be woken are given back, and so is the first one
+// where the second one can't be opened.
+fn open_twin<D: Depot>(
+    alloc: Global,
+    cluster: &Cluster,
+    me: RoleId,
+    depot: &mut D,
+) -> Result<(Store<D::Store>, Replica), OpenStop>
+    requires kind { me.kind ≡ kind.Replica }
+    requires named { IsTrue (names_role cluster.now me) }
+    requires in_depot { NoneIsOut me (D.out depot.old) }
+    ensures role { IfOk result (λ p. IsDurablyOpened replica_rules D.Store.Disk.seen D.Store.Disk.faults cluster.now
+        (D.tells depot.old) (files_of (D.held depot.old) me) me p.0 p.1) }
+    ensures lends { LendsFor D.Depot me result (λ p. places_of (disks_of me (Some p.0))) depot.old depot.new }
+    ensures bad { (role : RoleId) (at : ℕ) → result ≡ Err (open_stop.BadStore role at)
+        → (role ≡ me)
+        × (D.tells depot.old ≡ true → IsBadStore replica_rules cluster.now me (files_of (D.held depot.old) me) at) }
+    ensures failed { (role : RoleId) → result ≡ Err (open_stop.StoreFault role)
+        → (role ≡ me) × Rises (D.faults depot.old me) (D.faults depot.new me) }
+{
+    let Ok(first) = depot.open(me, 0) else {
+        return Err(OpenStop::StoreFault { role: me });
+    };
+    let Ok(second) = depot.open(me, 1) else {
+        depot.close(me, 0, first);
+        return Err(OpenStop::StoreFault { role: me });
+    };
+    match wake_twin(alloc, cluster, me, first, second) {
+        Ok((twin, role)) => Ok((Store::Two { twin }, role)),
+        Err((stop, first, second)) => {
+            depot.close(me, 0, first);
+            depot.close(me, 1, second);
+            Err(unwoken(me, stop))
         }
     }
 }
@@ -128,28 +166,20 @@ fn open_guest<D: Depot>(
     window: u8,
     events: &[Event],
     depot: &mut D,
-) -> Result<Guest<Journal<D::Store>>, OpenStop>
+) -> Result<Guest<Store<D::Store>>, OpenStop>
     requires named { IsTrue (names_role cluster.now me) }
     requires scripts { (client : ℕ) → IsScript cluster.now client (script_of client events.now) }
     requires some_window { 1 ≤ window }
     requires window { window ≤ 64 }
-    requires in_depot { list_any (same_role me) (D.out depot.old) ≡ false }
+    requires in_depot { NoneIsOut me (D.out depot.old) }
     ensures opened { IfOk result (λ guest. IsOpened D.Store.Disk.seen D.Store.Disk.faults cluster.now window events.now
-        (D.tells depot.old) (D.held depot.old me) me guest) }
-    ensures out { IfOk result (λ guest. D.out depot.new ≡ D.out depot.old ++ lent_to (guest ∷ [])) }
-    ensures given_back { OnErr result (D.out depot.new ≡ D.out depot.old) }
-    ensures told { D.tells depot.new ≡ D.tells depot.old }
-    ensures stays { OnOk result ((who : RoleId) → D.held depot.new who ≡ D.held depot.old who) }
-    ensures held { D.tells depot.old ≡ true → SameRecords (D.held depot.old) (D.held depot.new) }
-    ensures later { (who : RoleId) → D.faults depot.old who ≤ D.faults depot.new who }
+        (D.tells depot.old) (files_of (D.held depot.old) me) me guest) }
+    ensures lends { LendsFor D.Depot me result (λ guest. lent_to (guest ∷ [])) depot.old depot.new }
     ensures bad { (role : RoleId) (at : ℕ) → result ≡ Err (open_stop.BadStore role at) → D.tells depot.old ≡ true
-        → IsBadAs cluster.now role (D.held depot.old role) at role.kind }
+        → IsBadAs cluster.now role (files_of (D.held depot.old) role) at role.kind }
     ensures own { (role : RoleId) (at : ℕ) → result ≡ Err (open_stop.BadStore role at) → role ≡ me }
-    ensures others { (who : RoleId) → (result ≡ Err (open_stop.StoreFault who) → ⊥)
-        → D.faults depot.new who ≡ D.faults depot.old who }
     ensures failed { (role : RoleId) → result ≡ Err (open_stop.StoreFault role)
         → Rises (D.faults depot.old role) (D.faults depot.new role) }
-    ensures apart { (who : RoleId) → (who ≡ me → ⊥) → StaysFor D.Depot depot.old depot.new who }
 {
     match me.kind {
         Kind::Client => {
@@ -177,7 +207,7 @@ fn open_guest<D: Depot>(
             Ok(Guest::Matchmaker { role, keeper })
         }
         Kind::Replica => {
-            let (keeper, role) = open_durable::<D, Replica>(alloc, cluster, me, depot)?;
+            let (keeper, role) = open_twin(alloc, cluster, me, depot)?;
             Ok(Guest::Replica { role, keeper })
         }
         Kind::Unbatcher => {
@@ -201,7 +231,7 @@ pub fn open_seats<D: Depot>(
     window: u8,
     events: &[Event],
     depot: &mut D,
-    seats: &mut Vec<Seat<Journal<D::Store>>>,
+    seats: &mut Vec<Seat<Store<D::Store>>>,
 ) -> Result<(), OpenStop>
     requires named { (i : ℕ) (me : RoleId) → slice_get roles.now i ≡ Some me → IsTrue (names_role cluster.now me) }
     requires distinct { AreApart roles.now }
@@ -211,15 +241,15 @@ pub fn open_seats<D: Depot>(
     requires empty { seats.old.items ≡ [] }
     requires not_out { D.out depot.old ≡ [] }
     ensures opened { AreOpened D.Store.Disk.seen D.Store.Disk.faults cluster.now window events.now
-        (D.tells depot.old) (D.held depot.old) roles.now seats.new.items }
+        (D.tells depot.old) (files_of (D.held depot.old)) roles.now seats.new.items }
     ensures all { OnOk result (length seats.new.items ≡ length roles.now) }
     ensures out { D.out depot.new ≡ lent_to seats.new.items }
     ensures told { D.tells depot.new ≡ D.tells depot.old }
 
     // The records of a store stay, also where it could not be opened.
-    ensures held { D.tells depot.old ≡ true → SameRecords (D.held depot.old) (D.held depot.new) }
+    ensures held { D.tells depot.old ≡ true → SameRecords (files_of (D.held depot.old)) (files_of (D.held depot.new)) }
     ensures bad { (role : RoleId) (at : ℕ) → result ≡ Err (open_stop.BadStore role at) → D.tells depot.old ≡ true
-        → IsFirstBad roles.now cluster.now (D.held depot.old) role at }
+        → IsFirstBad roles.now cluster.now (files_of (D.held depot.old)) role at }
     ensures later { (role : RoleId) → D.faults depot.old role ≤ D.faults depot.new role }
 
     // A count rises only where the answer names its role.

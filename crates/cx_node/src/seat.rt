@@ -4,8 +4,9 @@ ghost use Rattle.std.specs.Prelude.{◌≡◌, [], true, IsTrue, OnOk, OnErr};
 ghost use Rattle.std.specs.Option.{option_map};
 ghost use Rattle.cx_leader.specs.Tending.{can_collect, is_new};
 ghost use Rattle.cx_model.specs.Rules.{outcome_of, running_after};
+ghost use Rattle.cx_node.specs.Changing.{changing};
 ghost use Rattle.cx_node.specs.Guest.{MakesRow, Performs, hosted_of, keeper_of, who};
-ghost use Rattle.cx_node.specs.Hosted.{ClientAt, begun, client_given, does, given, is_idle_leader, is_live};
+ghost use Rattle.cx_node.specs.Hosted.{ClientAt, begun, client_given, does, given, is_idle_leader, is_live, snapped};
 ghost use Rattle.cx_node.specs.Run.{has_finished, is_client};
 ghost use Rattle.cx_node.specs.Tending.{completed, held_of, is_of, leader_of, standing_of};
 ghost use Rattle.cx_node.specs.Tends.{is_leader_so};
@@ -13,7 +14,7 @@ ghost use Rattle.cx_node.specs.Tends.{is_leader_so};
 use crate::{Doing, Guest, Standing};
 use cx_base::{Kind, NoMemory, RoleId};
 use cx_client::Client;
-use cx_keeper::{Keeper, MemKeeper};
+use cx_keeper::{MemKeeper, Renew};
 use cx_leader::Leader;
 use cx_msg::Input;
 use cx_role::{Outbox, Role, StepFault};
@@ -41,7 +42,7 @@ impl<K> Model for Seat<K> {
 }
 
 // One step of a role, whatever it is given.
-fn step<R: Role, K: Keeper>(
+fn step<R: Role, K: Renew>(
     role: &mut R,
     keeper: &mut K,
     input: &Input,
@@ -49,7 +50,8 @@ fn step<R: Role, K: Keeper>(
 ) -> Result<(), StepFault>
     requires live { (R.state role.old).live ≡ true }
     requires empty { out.old.list ≡ [] }
-    ensures { MakesRow K.append_gives R.rules (R.state role.old) (outcome_of R.rules (R.state role.old) input.now)
+    ensures { MakesRow (changing K.append_gives K.renew_gives)
+        R.rules (R.state role.old) (outcome_of R.rules (R.state role.old) input.now)
         result (R.state role.new) keeper.old keeper.new out.new.list }
 {
     match input {
@@ -133,7 +135,7 @@ fn begin<K>(guest: &mut Guest<K>, out: &mut Outbox) -> Result<(), NoMemory>
 }
 
 // A hosted role takes an input.
-fn give<K: Keeper>(
+fn give<K: Renew>(
     alloc: Global,
     guest: &mut Guest<K>,
     index: u16,
@@ -145,7 +147,7 @@ fn give<K: Keeper>(
     requires live { IsTrue (is_live (hosted_of guest.old)) }
     requires empty { out.old.list ≡ [] }
     requires no_text { text.old.items ≡ [] }
-    ensures step { Performs K.append_gives (given (hosted_of guest.old) input.now)
+    ensures step { Performs (changing K.append_gives K.renew_gives) (given (hosted_of guest.old) input.now)
         result guest.old guest.new out.new.list text.new.items }
     ensures name { OnOk result (who guest.new ≡ who guest.old) }
     ensures no_name { OnErr result (IsTrue (is_live (hosted_of guest.new)) → who guest.new ≡ who guest.old) }
@@ -160,6 +162,21 @@ fn give<K: Keeper>(
         Guest::Replica { role, keeper } => step(role, keeper, input, out)?,
         Guest::Unbatcher { role } => step_alone(alloc, role, input, out)?,
         Guest::Reader { role } => step_alone(alloc, role, input, out)?,
+    }
+    Ok(())
+}
+
+// A replica forgets values; another role has none to forget.
+fn snap<K: Renew>(guest: &mut Guest<K>, out: &mut Outbox) -> Result<(), StepFault>
+    requires live { IsTrue (is_live (hosted_of guest.old)) }
+    requires empty { out.old.list ≡ [] }
+    ensures step { Performs (changing K.append_gives K.renew_gives) (snapped (hosted_of guest.old))
+        result guest.old guest.new out.new.list [] }
+    ensures name { OnOk result (who guest.new ≡ who guest.old) }
+    ensures no_name { OnErr result (IsTrue (is_live (hosted_of guest.new)) → who guest.new ≡ who guest.old) }
+{
+    if let Guest::Replica { role, keeper } = guest {
+        role.snap(keeper, out)?;
     }
     Ok(())
 }
@@ -190,7 +207,7 @@ fn keeper_in<K>(guest: Guest<K>) -> Option<K>
     }
 }
 
-impl<K: Keeper> Seat<K> {
+impl<K: Renew> Seat<K> {
     /// The seat of a role of this name. It takes no memory.
     pub fn new(alloc: Global, me: RoleId, guest: Guest<K>) -> Self
         requires { me ≡ who guest }
@@ -297,8 +314,8 @@ impl<K: Keeper> Seat<K> {
         keeper_in(self.guest)
     }
 
-    /// The role does what it is asked: its state, its record, what it sends and the line that it prints are exactly
-    /// those of the definition. `Failed` comes only where its keeper's append of that record failed; then, and out of
+    /// The role does what it is asked: its state, the change of its list, what it sends and the line that it prints are exactly
+    /// those of the definition. `Failed` comes only where the change of its keeper's list failed; then, and out of
     /// memory, nothing may be sent.
     #[tactic(auto, unfolding(crate::specs::Hosted::does))]
     pub fn act(
@@ -310,7 +327,7 @@ impl<K: Keeper> Seat<K> {
         requires live { IsTrue (is_live (hosted_of self.old)) }
         requires empty { out.old.list ≡ [] }
         requires no_text { text.old.items ≡ [] }
-        ensures step { Performs K.append_gives (does (hosted_of self.old) what.now)
+        ensures step { Performs (changing K.append_gives K.renew_gives) (does (hosted_of self.old) what.now)
             result self.old self.new out.new.list text.new.items }
         ensures name { who self.new ≡ who self.old }
     {
@@ -324,6 +341,7 @@ impl<K: Keeper> Seat<K> {
                 out,
                 text,
             )?,
+            Doing::Snap => snap(&mut self.guest, out)?,
         }
         Ok(())
     }

@@ -3,7 +3,7 @@
 ghost use Rattle.std.specs.Prelude.{◌≡◌, ◌≤◌, [], ℕ, List, Option, Result, IsTrue};
 ghost use Rattle.std.specs.List.{list_all};
 ghost use Rattle.cx_base.specs.declared.role.RoleId.{RoleId};
-ghost use Rattle.cx_journal.specs.State.{JournalState};
+ghost use Rattle.cx_journal.specs.declared.store.Store.{Store};
 ghost use Rattle.cx_model.specs.Names.{names_role};
 ghost use Rattle.cx_script.specs.Requests.{IsScript, script_of};
 ghost use Rattle.cx_node.specs.declared.guest.Guest.{Guest};
@@ -11,7 +11,7 @@ ghost use Rattle.cx_node.specs.declared.node.RunEnd.{RunEnd};
 ghost use Rattle.cx_node.specs.declared.node.Stop.{Stop};
 ghost use Rattle.cx_node.specs.Acts.{failed, scene_of};
 ghost use Rattle.cx_node.specs.Guest.{AreReady};
-ghost use Rattle.cx_node.specs.Hosting.{AreGivenBack, HostAnswered, Ran, ended_status, hosting, journal_gives};
+ghost use Rattle.cx_node.specs.Hosting.{AreGivenBack, HostAnswered, Ran, ended_status, hosting, store_gives};
 ghost use Rattle.cx_node.specs.Hosting.{unopened_status};
 ghost use Rattle.cx_node.specs.Opening.{AreApart, lent_to};
 ghost use Rattle.cx_node.specs.Serving.{Answered, Completes, TellsBad, outside, outside_read, refused_status};
@@ -24,7 +24,7 @@ use crate::node::{Node, RunEnd, Stop};
 use crate::opening::{OpenStop, open_seats};
 use cx_base::{Cluster, Event, NoMemory, RoleId, Status};
 use cx_edge::{Depot, Link, Sink, Source};
-use cx_journal::Journal;
+use cx_journal::Store;
 use std::alloc::Global;
 
 // What an input that is refused is answered.
@@ -68,7 +68,7 @@ fn ended(end: Result<RunEnd, Stop>) -> Status
 fn run_seats<L: Link, D: Depot, W: Sink>(
     alloc: Global,
     cluster: &Cluster,
-    seats: Vec<Seat<Journal<D::Store>>>,
+    seats: Vec<Seat<Store<D::Store>>>,
     turns: u32,
     tend: Option<u32>,
     link: &mut L,
@@ -77,9 +77,9 @@ fn run_seats<L: Link, D: Depot, W: Sink>(
 ) -> Status
     requires ready { AreReady cluster.now seats.items }
     requires lent { D.out depot.old ≡ lent_to seats.items }
-    ensures ran { (after : List (Guest (JournalState D.Store))) × (answer : Result RunEnd Stop)
+    ensures ran { (after : List (Guest (Store D.Store))) × (answer : Result RunEnd Stop)
         × (result ≡ ended_status answer)
-        × Ran (journal_gives D.Store.Disk) tend cluster.now turns answer
+        × Ran (store_gives D.Store.Disk) tend cluster.now turns answer
         (scene_of L.Link W.Sink (hosting cluster.now seats.items) link.old out.old)
         (scene_of L.Link W.Sink (hosting cluster.now after) link.new out.new)
         (failed L.Link W.Sink link.old out.old) (failed L.Link W.Sink link.new out.new)

@@ -7,11 +7,12 @@ ghost use Rattle.cx_base.specs.Role.{role, same_role};
 ghost use Rattle.cx_base.specs.declared.role.Kind.TheVariants as kind;
 ghost use Rattle.cx_leader.specs.Tending.{can_collect, is_new};
 ghost use Rattle.cx_node.specs.Acts.{Acts, ActsPart, Blames, failed, scene_of};
+ghost use Rattle.cx_node.specs.Changing.{changing};
 ghost use Rattle.cx_node.specs.Guest.{AreReady, hosted_in, hosted_of};
 ghost use Rattle.cx_node.specs.Run.{is_client, stays};
 ghost use Rattle.cx_node.specs.Tending.{beat, clients_tended, collected, completed, first_leader, flushed, gets};
 ghost use Rattle.cx_node.specs.Tending.{heeded, held_by, in_turn, is_so, leader_asked, leader_cared, next_pass, reported, standing_of};
-ghost use Rattle.cx_node.specs.Tending.{tend_comes, tend_ordered, tended_turn, those_tick, ticks_if, turn_ended};
+ghost use Rattle.cx_node.specs.Tending.{tend_comes, tend_ordered, tend_prepared, tended_turn, those_tick, ticks_if, turn_ended};
 ghost use Rattle.cx_node.specs.TendedParts.{ActsTended, ActsTurn, Counts, leader_part};
 ghost use Rattle.cx_node.specs.Tends.{done_of, is_leader_so, is_meant};
 
@@ -20,7 +21,7 @@ use crate::turning::{first_grid, receive};
 use crate::{Come, Doing, Node, Seat, Standing, Stop, Whom};
 use cx_base::{Cluster, Kind, NoMemory, Order, RoleId};
 use cx_edge::{Link, Sink};
-use cx_keeper::Keeper;
+use cx_keeper::Renew;
 use cx_msg::{Datagram, Input};
 use std::alloc::Global;
 
@@ -35,7 +36,7 @@ fn first_name() -> RoleId
 }
 
 // Whether the role at a place is meant to tick.
-fn is_meant<K: Keeper>(whom: Whom, care: &Care, place: usize, seat: &Seat<K>) -> bool
+fn is_meant<K: Renew>(whom: Whom, care: &Care, place: usize, seat: &Seat<K>) -> bool
     ensures { result ≡ is_meant whom care.now.marks place (hosted_of seat.now) }
 {
     match whom {
@@ -46,7 +47,7 @@ fn is_meant<K: Keeper>(whom: Whom, care: &Care, place: usize, seat: &Seat<K>) ->
 }
 
 // Whether there is a role at this place, and it is meant to tick.
-fn is_meant_at<K: Keeper>(whom: Whom, care: &Care, place: usize, seats: &[Seat<K>]) -> bool
+fn is_meant_at<K: Renew>(whom: Whom, care: &Care, place: usize, seats: &[Seat<K>]) -> bool
     ensures { result
         ≡ is_so (is_meant whom care.now.marks place) (option_map hosted_of (slice_get seats.now place)) }
 {
@@ -57,14 +58,14 @@ fn is_meant_at<K: Keeper>(whom: Whom, care: &Care, place: usize, seats: &[Seat<K
 }
 
 // How many clients there are.
-fn count_clients<K: Keeper>(seats: &[Seat<K>]) -> usize
+fn count_clients<K: Renew>(seats: &[Seat<K>]) -> usize
     ensures { result ≡ length (filter (λ guest. is_client (hosted_of guest)) seats.now) }
 {
     seats.iter().filter(|seat| seat.is_client()).count()
 }
 
 // How many requests the clients have completed, as far as the number fits.
-fn all_completed<K: Keeper>(seats: &[Seat<K>]) -> u64
+fn all_completed<K: Renew>(seats: &[Seat<K>]) -> u64
     ensures { result ≡ min (sum_by (λ guest. completed (hosted_of guest)) seats.now) 18446744073709551615 }
 {
     let mut total = 0u64;
@@ -75,7 +76,7 @@ fn all_completed<K: Keeper>(seats: &[Seat<K>]) -> u64
 }
 
 // How many requests each role has completed.
-fn completed_by<K: Keeper>(alloc: Global, seats: &[Seat<K>]) -> Result<Vec<u64>, NoMemory>
+fn completed_by<K: Renew>(alloc: Global, seats: &[Seat<K>]) -> Result<Vec<u64>, NoMemory>
     ensures { IfOk result (λ marks. marks.items ≡ map (λ guest. completed (hosted_of guest)) seats.now) }
 {
     let marks = seats
@@ -104,7 +105,7 @@ fn leader_order(cluster: &Cluster, standing: Standing, care: &mut Care) -> Optio
     None
 }
 
-impl<K: Keeper + Drop> Node<K> {
+impl<K: Renew + Drop> Node<K> {
     // How many slots a replica of this name holds.
     fn held_by(&self, role: RoleId) -> u64
         ensures { result ≡ held_by role (hosted_in self.now.guests) }
@@ -168,7 +169,7 @@ impl<K: Keeper + Drop> Node<K> {
         out: &mut W,
     ) -> Result<(), Stop>
         requires ready { AreReady self.old.cluster self.old.guests }
-        ensures acts { ActsPart K.append_gives self.old.cluster (gets order) result
+        ensures acts { ActsPart (changing K.append_gives K.renew_gives) self.old.cluster (gets order) result
             (scene_of L.Link W.Sink self.old link.old out.old) (scene_of L.Link W.Sink self.new link.new out.new) }
         ensures blames { Blames result (failed L.Link W.Sink link.old out.old) (failed L.Link W.Sink link.new out.new) }
         ensures cluster { self.new.cluster ≡ self.old.cluster }
@@ -196,7 +197,8 @@ impl<K: Keeper + Drop> Node<K> {
         out: &mut W,
     ) -> Result<(), Stop>
         requires ready { AreReady self.old.cluster self.old.guests }
-        ensures acts { ActsPart K.append_gives self.old.cluster (ticks_if (is_meant whom care.now.marks) place) result
+        ensures acts { ActsPart (changing K.append_gives K.renew_gives) self.old.cluster
+            (ticks_if (is_meant whom care.now.marks) place) result
             (scene_of L.Link W.Sink self.old link.old out.old) (scene_of L.Link W.Sink self.new link.new out.new) }
         ensures blames { Blames result (failed L.Link W.Sink link.old out.old) (failed L.Link W.Sink link.new out.new) }
         ensures cluster { self.new.cluster ≡ self.old.cluster }
@@ -217,7 +219,8 @@ impl<K: Keeper + Drop> Node<K> {
         out: &mut W,
     ) -> Result<(), Stop>
         requires ready { AreReady self.old.cluster self.old.guests }
-        ensures acts { ActsPart K.append_gives self.old.cluster (in_turn (is_meant whom care.now.marks) places.now) result
+        ensures acts { ActsPart (changing K.append_gives K.renew_gives) self.old.cluster
+            (in_turn (is_meant whom care.now.marks) places.now) result
             (scene_of L.Link W.Sink self.old link.old out.old) (scene_of L.Link W.Sink self.new link.new out.new) }
         ensures blames { Blames result (failed L.Link W.Sink link.old out.old) (failed L.Link W.Sink link.new out.new) }
         ensures cluster { self.new.cluster ≡ self.old.cluster }
@@ -237,7 +240,8 @@ impl<K: Keeper + Drop> Node<K> {
         out: &mut W,
     ) -> Result<(), Stop>
         requires ready { AreReady self.old.cluster self.old.guests }
-        ensures acts { ActsPart K.append_gives self.old.cluster (those_tick (is_meant whom care.now.marks)) result
+        ensures acts { ActsPart (changing K.append_gives K.renew_gives) self.old.cluster
+            (those_tick (is_meant whom care.now.marks)) result
             (scene_of L.Link W.Sink self.old link.old out.old) (scene_of L.Link W.Sink self.new link.new out.new) }
         ensures blames { Blames result (failed L.Link W.Sink link.old out.old) (failed L.Link W.Sink link.new out.new) }
         ensures cluster { self.new.cluster ≡ self.old.cluster }
@@ -249,7 +253,7 @@ impl<K: Keeper + Drop> Node<K> {
         Ok(())
     }
 
-    // The order part of the n-th turn.
+    // Leader 0 is ordered to lead, unless it is turn 1 and it has had a round.
     fn tend_order<L: Link, W: Sink>(
         &mut self,
         n: u32,
@@ -257,7 +261,8 @@ impl<K: Keeper + Drop> Node<K> {
         out: &mut W,
     ) -> Result<(), Stop>
         requires ready { AreReady self.old.cluster self.old.guests }
-        ensures acts { ActsPart K.append_gives self.old.cluster (tend_ordered self.old.cluster n) result
+        ensures acts { ActsPart (changing K.append_gives K.renew_gives) self.old.cluster
+            (tend_ordered self.old.cluster n) result
             (scene_of L.Link W.Sink self.old link.old out.old) (scene_of L.Link W.Sink self.new link.new out.new) }
         ensures blames { Blames result (failed L.Link W.Sink link.old out.old) (failed L.Link W.Sink link.new out.new) }
         ensures cluster { self.new.cluster ≡ self.old.cluster }
@@ -266,6 +271,24 @@ impl<K: Keeper + Drop> Node<K> {
             return Ok(());
         }
         self.order(n, link, out)
+    }
+
+    // The first part of the n-th turn.
+    fn tend_prepare<L: Link, W: Sink>(
+        &mut self,
+        n: u32,
+        link: &mut L,
+        out: &mut W,
+    ) -> Result<(), Stop>
+        requires ready { AreReady self.old.cluster self.old.guests }
+        ensures acts { ActsPart (changing K.append_gives K.renew_gives) self.old.cluster
+            (tend_prepared self.old.cluster n) result
+            (scene_of L.Link W.Sink self.old link.old out.old) (scene_of L.Link W.Sink self.new link.new out.new) }
+        ensures blames { Blames result (failed L.Link W.Sink link.old out.old) (failed L.Link W.Sink link.new out.new) }
+        ensures cluster { self.new.cluster ≡ self.old.cluster }
+    {
+        self.tend_order(n, link, out)?;
+        self.snap(n, link, out)
     }
 
     // A role ticks, if its log has come to a further multiple of 8 slots.
@@ -277,7 +300,8 @@ impl<K: Keeper + Drop> Node<K> {
         out: &mut W,
     ) -> Result<(), Stop>
         requires ready { AreReady self.old.cluster self.old.guests }
-        ensures acts { ActsPart K.append_gives self.old.cluster (reported role before) result
+        ensures acts { ActsPart (changing K.append_gives K.renew_gives) self.old.cluster
+            (reported role before) result
             (scene_of L.Link W.Sink self.old link.old out.old) (scene_of L.Link W.Sink self.new link.new out.new) }
         ensures blames { Blames result (failed L.Link W.Sink link.old out.old) (failed L.Link W.Sink link.new out.new) }
         ensures cluster { self.new.cluster ≡ self.old.cluster }
@@ -291,7 +315,7 @@ impl<K: Keeper + Drop> Node<K> {
     // Leader 0 is ordered to collect, where that would begin.
     fn collect<L: Link, W: Sink>(&mut self, link: &mut L, out: &mut W) -> Result<(), Stop>
         requires ready { AreReady self.old.cluster self.old.guests }
-        ensures acts { ActsPart K.append_gives self.old.cluster collected result
+        ensures acts { ActsPart (changing K.append_gives K.renew_gives) self.old.cluster collected result
             (scene_of L.Link W.Sink self.old link.old out.old) (scene_of L.Link W.Sink self.new link.new out.new) }
         ensures blames { Blames result (failed L.Link W.Sink link.old out.old) (failed L.Link W.Sink link.new out.new) }
         ensures cluster { self.new.cluster ≡ self.old.cluster }
@@ -310,7 +334,7 @@ impl<K: Keeper + Drop> Node<K> {
         out: &mut W,
     ) -> Result<(), Stop>
         requires ready { AreReady self.old.cluster self.old.guests }
-        ensures acts { ActsPart K.append_gives self.old.cluster
+        ensures acts { ActsPart (changing K.append_gives K.renew_gives) self.old.cluster
             (λ hs. if same_role to (role kind.Leader 0) then collected hs else stays hs) result
             (scene_of L.Link W.Sink self.old link.old out.old) (scene_of L.Link W.Sink self.new link.new out.new) }
         ensures blames { Blames result (failed L.Link W.Sink link.old out.old) (failed L.Link W.Sink link.new out.new) }
@@ -330,7 +354,8 @@ impl<K: Keeper + Drop> Node<K> {
         out: &mut W,
     ) -> Result<(), Stop>
         requires ready { AreReady self.old.cluster self.old.guests }
-        ensures acts { ActsPart K.append_gives self.old.cluster (heeded datagram) result
+        ensures acts { ActsPart (changing K.append_gives K.renew_gives) self.old.cluster
+            (heeded datagram) result
             (scene_of L.Link W.Sink self.old link.old out.old) (scene_of L.Link W.Sink self.new link.new out.new) }
         ensures blames { Blames result (failed L.Link W.Sink link.old out.old) (failed L.Link W.Sink link.new out.new) }
         ensures cluster { self.new.cluster ≡ self.old.cluster }
@@ -353,7 +378,7 @@ impl<K: Keeper + Drop> Node<K> {
     fn tend_take<L: Link, W: Sink>(&mut self, link: &mut L, out: &mut W) -> Result<bool, Stop>
         requires ready { AreReady self.old.cluster self.old.guests }
         ensures acts { (what : Option (List ℕ))
-            × Acts K.append_gives self.old.cluster (what ∷ [])
+            × Acts (changing K.append_gives K.renew_gives) self.old.cluster (what ∷ [])
             (tend_comes what (hosted_in self.old.guests)) (done_of result)
             (scene_of L.Link W.Sink self.old link.old out.old) (scene_of L.Link W.Sink self.new link.new out.new)
             × IfOk result (λ came. came ≡ is_some what) }
@@ -381,7 +406,8 @@ impl<K: Keeper + Drop> Node<K> {
         out: &mut W,
     ) -> Result<(), Stop>
         requires ready { AreReady self.old.cluster self.old.guests }
-        ensures acts { ActsPart K.append_gives self.old.cluster (flushed care.now came) result
+        ensures acts { ActsPart (changing K.append_gives K.renew_gives) self.old.cluster
+            (flushed care.now came) result
             (scene_of L.Link W.Sink self.old link.old out.old) (scene_of L.Link W.Sink self.new link.new out.new) }
         ensures blames { Blames result (failed L.Link W.Sink link.old out.old) (failed L.Link W.Sink link.new out.new) }
         ensures cluster { self.new.cluster ≡ self.old.cluster }
@@ -407,7 +433,8 @@ impl<K: Keeper + Drop> Node<K> {
         out: &mut W,
     ) -> Result<(), Stop>
         requires ready { AreReady self.old.cluster self.old.guests }
-        ensures acts { ActsTended K.append_gives self.old.cluster (leader_part self.old.cluster) result care.old
+        ensures acts { ActsTended (changing K.append_gives K.renew_gives) self.old.cluster
+            (leader_part self.old.cluster) result care.old
             (scene_of L.Link W.Sink self.old link.old out.old) (scene_of L.Link W.Sink self.new link.new out.new) }
         ensures care { Counts (leader_part self.old.cluster) result care.old care.new (hosted_in self.old.guests) }
         ensures blames { Blames result (failed L.Link W.Sink link.old out.old) (failed L.Link W.Sink link.new out.new) }
@@ -430,7 +457,8 @@ impl<K: Keeper + Drop> Node<K> {
         out: &mut W,
     ) -> Result<(), Stop>
         requires ready { AreReady self.old.cluster self.old.guests }
-        ensures acts { ActsTended K.append_gives self.old.cluster next_pass result care.old
+        ensures acts { ActsTended (changing K.append_gives K.renew_gives) self.old.cluster
+            next_pass result care.old
             (scene_of L.Link W.Sink self.old link.old out.old) (scene_of L.Link W.Sink self.new link.new out.new) }
         ensures care { Counts next_pass result care.old care.new (hosted_in self.old.guests) }
         ensures blames { Blames result (failed L.Link W.Sink link.old out.old) (failed L.Link W.Sink link.new out.new) }
@@ -450,7 +478,8 @@ impl<K: Keeper + Drop> Node<K> {
         out: &mut W,
     ) -> Result<(), Stop>
         requires ready { AreReady self.old.cluster self.old.guests }
-        ensures acts { ActsTended K.append_gives self.old.cluster clients_tended result care.old
+        ensures acts { ActsTended (changing K.append_gives K.renew_gives) self.old.cluster
+            clients_tended result care.old
             (scene_of L.Link W.Sink self.old link.old out.old) (scene_of L.Link W.Sink self.new link.new out.new) }
         ensures care { Counts clients_tended result care.old care.new (hosted_in self.old.guests) }
         ensures blames { Blames result (failed L.Link W.Sink link.old out.old) (failed L.Link W.Sink link.new out.new) }
@@ -476,7 +505,8 @@ impl<K: Keeper + Drop> Node<K> {
         out: &mut W,
     ) -> Result<(), Stop>
         requires ready { AreReady self.old.cluster self.old.guests }
-        ensures acts { ActsTended K.append_gives self.old.cluster (beat self.old.cluster) result care.old
+        ensures acts { ActsTended (changing K.append_gives K.renew_gives) self.old.cluster
+            (beat self.old.cluster) result care.old
             (scene_of L.Link W.Sink self.old link.old out.old) (scene_of L.Link W.Sink self.new link.new out.new) }
         ensures care { Counts (beat self.old.cluster) result care.old care.new (hosted_in self.old.guests) }
         ensures blames { Blames result (failed L.Link W.Sink link.old out.old) (failed L.Link W.Sink link.new out.new) }
@@ -497,7 +527,7 @@ impl<K: Keeper + Drop> Node<K> {
         out: &mut W,
     ) -> Result<(), Stop>
         requires ready { AreReady self.old.cluster self.old.guests }
-        ensures acts { ActsTended K.append_gives self.old.cluster
+        ensures acts { ActsTended (changing K.append_gives K.renew_gives) self.old.cluster
             (turn_ended self.old.cluster most came) result care.old
             (scene_of L.Link W.Sink self.old link.old out.old) (scene_of L.Link W.Sink self.new link.new out.new) }
         ensures care { Counts
@@ -523,13 +553,13 @@ impl<K: Keeper + Drop> Node<K> {
         out: &mut W,
     ) -> Result<(), Stop>
         requires ready { AreReady self.old.cluster self.old.guests }
-        ensures acts { ActsTurn K.append_gives self.old.cluster
+        ensures acts { ActsTurn (changing K.append_gives K.renew_gives) self.old.cluster
             (tended_turn self.old.cluster most n) result care.old care.new
             (scene_of L.Link W.Sink self.old link.old out.old) (scene_of L.Link W.Sink self.new link.new out.new) }
         ensures blames { Blames result (failed L.Link W.Sink link.old out.old) (failed L.Link W.Sink link.new out.new) }
         ensures cluster { self.new.cluster ≡ self.old.cluster }
     {
-        self.tend_order(n, link, out)?;
+        self.tend_prepare(n, link, out)?;
         let came = self.tend_take(link, out)?;
         self.flush(care, came, link, out)?;
         self.end_turn(care, most, came, link, out)

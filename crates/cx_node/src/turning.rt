@@ -5,10 +5,11 @@ ghost use Rattle.cx_base.specs.Faults.{Rises};
 ghost use Rattle.cx_base.specs.declared.role.RoleId.{RoleId};
 ghost use Rattle.cx_node.specs.declared.node.Stop.TheVariants as stop;
 ghost use Rattle.cx_node.specs.Acts.{ActsPart, ActsTaking, Blames, Receives, failed, scene_of};
+ghost use Rattle.cx_node.specs.Changing.{changing};
 ghost use Rattle.cx_node.specs.Guest.{AreReady};
 ghost use Rattle.cx_base.specs.Role.{role};
 ghost use Rattle.cx_base.specs.declared.role.Kind.TheVariants as kind;
-ghost use Rattle.cx_node.specs.Run.{comes, grid_of, lead_at, ordered, place_of, ticked, turn};
+ghost use Rattle.cx_node.specs.Run.{comes, grid_of, lead_at, ordered, place_of, prepared, snaps, ticked, turn};
 ghost use Rattle.cx_node.specs.TendedParts.{ActsTurn};
 ghost use Rattle.cx_node.specs.Tending.{any_turn};
 
@@ -16,7 +17,7 @@ use crate::care::Care;
 use crate::{Come, Doing, Node, Stop};
 use cx_base::{Cluster, Grid, Kind, Order, RoleId};
 use cx_edge::{Link, Sink, TakeEnd};
-use cx_keeper::Keeper;
+use cx_keeper::Renew;
 use cx_msg::{Input, WireFault, decode};
 use std::alloc::Global;
 
@@ -37,11 +38,17 @@ pub fn first_grid(cluster: &Cluster) -> Grid
     Grid::from_parts(1, count as u8, members)
 }
 
-// Whether leader 0 is ordered to lead at this turn, and whether roles tick.
+// Whether leader 0 is ordered to lead at this turn, whether replicas snap, and whether roles tick.
 fn is_order_turn(n: u32) -> bool
     ensures { result ≡ ((n == 1) || (n % 4096 == 0)) }
 {
     n == 1 || n % 4096 == 0
+}
+
+fn is_snap_turn(n: u32) -> bool
+    ensures { result ≡ (n % 4096 == 0) }
+{
+    n % 4096 == 0
 }
 
 fn is_tick_turn(n: u32) -> bool
@@ -71,11 +78,11 @@ pub fn receive<L: Link>(alloc: Global, buffer: &mut [u8], link: &mut L) -> Resul
     }
 }
 
-impl<K: Keeper + Drop> Node<K> {
+impl<K: Renew + Drop> Node<K> {
     // Orders leader 0 to lead, if it is hosted and idle.
     fn lead<L: Link, W: Sink>(&mut self, link: &mut L, out: &mut W) -> Result<(), Stop>
         requires ready { AreReady self.old.cluster self.old.guests }
-        ensures acts { ActsPart K.append_gives self.old.cluster
+        ensures acts { ActsPart (changing K.append_gives K.renew_gives) self.old.cluster
             (λ hs. lead_at self.old.cluster (place_of (role kind.Leader 0) hs) hs) result
             (scene_of L.Link W.Sink self.old link.old out.old) (scene_of L.Link W.Sink self.new link.new out.new) }
         ensures blames { Blames result (failed L.Link W.Sink link.old out.old) (failed L.Link W.Sink link.new out.new) }
@@ -98,10 +105,11 @@ impl<K: Keeper + Drop> Node<K> {
         )
     }
 
-    // The first part of the n-th turn.
+    // An idle leader 0 is ordered to lead.
     pub fn order<L: Link, W: Sink>(&mut self, n: u32, link: &mut L, out: &mut W) -> Result<(), Stop>
         requires ready { AreReady self.old.cluster self.old.guests }
-        ensures acts { ActsPart K.append_gives self.old.cluster (ordered self.old.cluster n) result
+        ensures acts { ActsPart (changing K.append_gives K.renew_gives) self.old.cluster
+            (ordered self.old.cluster n) result
             (scene_of L.Link W.Sink self.old link.old out.old) (scene_of L.Link W.Sink self.new link.new out.new) }
         ensures blames { Blames result (failed L.Link W.Sink link.old out.old) (failed L.Link W.Sink link.new out.new) }
         ensures cluster { self.new.cluster ≡ self.old.cluster }
@@ -112,10 +120,37 @@ impl<K: Keeper + Drop> Node<K> {
         Ok(())
     }
 
+    // Replicas forget values that no other will ask them for.
+    pub fn snap<L: Link, W: Sink>(&mut self, n: u32, link: &mut L, out: &mut W) -> Result<(), Stop>
+        requires ready { AreReady self.old.cluster self.old.guests }
+        ensures acts { ActsPart (changing K.append_gives K.renew_gives) self.old.cluster (snaps n) result
+            (scene_of L.Link W.Sink self.old link.old out.old) (scene_of L.Link W.Sink self.new link.new out.new) }
+        ensures blames { Blames result (failed L.Link W.Sink link.old out.old) (failed L.Link W.Sink link.new out.new) }
+        ensures cluster { self.new.cluster ≡ self.old.cluster }
+    {
+        if is_snap_turn(n) {
+            return self.all_act(&Doing::Snap, link, out);
+        }
+        Ok(())
+    }
+
+    // The first part of the n-th turn.
+    fn prepare<L: Link, W: Sink>(&mut self, n: u32, link: &mut L, out: &mut W) -> Result<(), Stop>
+        requires ready { AreReady self.old.cluster self.old.guests }
+        ensures acts { ActsPart (changing K.append_gives K.renew_gives) self.old.cluster
+            (prepared self.old.cluster n) result
+            (scene_of L.Link W.Sink self.old link.old out.old) (scene_of L.Link W.Sink self.new link.new out.new) }
+        ensures blames { Blames result (failed L.Link W.Sink link.old out.old) (failed L.Link W.Sink link.new out.new) }
+        ensures cluster { self.new.cluster ≡ self.old.cluster }
+    {
+        self.order(n, link, out)?;
+        self.snap(n, link, out)
+    }
+
     // The second part of a turn: one take of the link.
     fn take<L: Link, W: Sink>(&mut self, link: &mut L, out: &mut W) -> Result<(), Stop>
         requires ready { AreReady self.old.cluster self.old.guests }
-        ensures acts { ActsTaking K.append_gives self.old.cluster comes result
+        ensures acts { ActsTaking (changing K.append_gives K.renew_gives) self.old.cluster comes result
             (scene_of L.Link W.Sink self.old link.old out.old) (scene_of L.Link W.Sink self.new link.new out.new) }
         ensures blames { Blames result (failed L.Link W.Sink link.old out.old) (failed L.Link W.Sink link.new out.new) }
         ensures cluster { self.new.cluster ≡ self.old.cluster }
@@ -141,7 +176,7 @@ impl<K: Keeper + Drop> Node<K> {
     // The third part of the n-th turn.
     fn tick<L: Link, W: Sink>(&mut self, n: u32, link: &mut L, out: &mut W) -> Result<(), Stop>
         requires ready { AreReady self.old.cluster self.old.guests }
-        ensures acts { ActsPart K.append_gives self.old.cluster (ticked n) result
+        ensures acts { ActsPart (changing K.append_gives K.renew_gives) self.old.cluster (ticked n) result
             (scene_of L.Link W.Sink self.old link.old out.old) (scene_of L.Link W.Sink self.new link.new out.new) }
         ensures blames { Blames result (failed L.Link W.Sink link.old out.old) (failed L.Link W.Sink link.new out.new) }
         ensures cluster { self.new.cluster ≡ self.old.cluster }
@@ -160,12 +195,13 @@ impl<K: Keeper + Drop> Node<K> {
         out: &mut W,
     ) -> Result<(), Stop>
         requires ready { AreReady self.old.cluster self.old.guests }
-        ensures acts { ActsTaking K.append_gives self.old.cluster (turn self.old.cluster n) result
+        ensures acts { ActsTaking (changing K.append_gives K.renew_gives) self.old.cluster
+            (turn self.old.cluster n) result
             (scene_of L.Link W.Sink self.old link.old out.old) (scene_of L.Link W.Sink self.new link.new out.new) }
         ensures blames { Blames result (failed L.Link W.Sink link.old out.old) (failed L.Link W.Sink link.new out.new) }
         ensures cluster { self.new.cluster ≡ self.old.cluster }
     {
-        self.order(n, link, out)?;
+        self.prepare(n, link, out)?;
         self.take(link, out)?;
         self.tick(n, link, out)
     }
@@ -180,7 +216,7 @@ impl<K: Keeper + Drop> Node<K> {
         out: &mut W,
     ) -> Result<(), Stop>
         requires ready { AreReady self.old.cluster self.old.guests }
-        ensures acts { ActsTurn K.append_gives self.old.cluster
+        ensures acts { ActsTurn (changing K.append_gives K.renew_gives) self.old.cluster
             (any_turn tend self.old.cluster n) result care.old care.new
             (scene_of L.Link W.Sink self.old link.old out.old) (scene_of L.Link W.Sink self.new link.new out.new) }
         ensures blames { Blames result (failed L.Link W.Sink link.old out.old) (failed L.Link W.Sink link.new out.new) }

@@ -1,16 +1,22 @@
-use Rattle.std.proofs.Common.{◌∙◌}
-use Rattle.cx_node.proofs.Lent.{told_stay, without_last}
+use Rattle.std.proofs.Common.{◌∙◌, ap}
+use Rattle.cx_edge.proofs.ShelfLaws.{without_last}
+use Rattle.cx_edge.specs.Shelf.{shelf}
+use Rattle.cx_node.specs.Opening.{unwoken_stop}
+use Rattle.cx_node.proofs.Lending.{apart_closed, apart_opened, apart_then, lends_none}
+use Rattle.cx_node.proofs.Lent.{one_stays}
 use Rattle.cx_node.proofs.opening.open_durable.Goals as goal
 
-pub returns-after-stop-clause-given_back : goal.returns-after-stop-clause-given_back
-returns-after-stop-clause-given_back g c =
-    rw (c.close.ensures.out, c.in-Ok.ensures.out)
-    (without_last c.args.me (g.D.Depot.out c.args.depot.now) c.requires.in_depot)
-
-pub returns-after-stop-clause-held : goal.returns-after-stop-clause-held
-returns-after-stop-clause-held g c =
-    λ tells. told_stay g.D.Store.Disk.seen c.in-Ok.store c.in-Err.store c.args.me (g.D.Depot.held c.args.depot.now)
-    (g.D.Depot.held c.close.new.self)
-    (c.in-Ok.ensures.seen tells) c.in-Err.ensures.tells c.in-Err.ensures.same
-    (c.close.ensures.held (c.in-Ok.ensures.told ∙ tells))
-    (λ who other. c.close.ensures.others_held who other ∙ c.in-Ok.ensures.held who)
+pub returns-in-Err-clause-lends : goal.returns-in-Err-clause-lends
+returns-in-Err-clause-lends g c =
+    let lent = c.in-Ok.ensures in
+    let back = c.close.ensures in
+    lends_none g.D.Depot c.args.me _ c.unwoken.result c.args.depot.now c.close.new.self
+    (apart_then g.D.Depot c.args.me c.args.depot.now c.open.new.self c.close.new.self
+    (apart_opened g.D.Depot c.args.me _ _ lent.told lent.held lent.later lent.others)
+    (apart_closed g.D.Depot c.args.me 0 _ _ back.told back.others_held back.later back.others))
+    (rw (back.out, lent.out) (without_last (shelf c.args.me 0) (g.D.Depot.out c.args.depot.now) (c.requires.in_depot 0)))
+    (λ t. one_stays g.D.Store.Disk.seen c.args.me (g.D.Depot.held c.args.depot.now) (g.D.Depot.held c.close.new.self)
+    c.in-Ok.store c.in-Err.store c.requires.one (lent.seen t) c.in-Err.ensures.tells c.in-Err.ensures.same
+    (back.held (lent.told ∙ t)))
+    (λ none. back.still (c.in-Err.ensures.still (λ failed. none (c.unwoken.ensures ∙ ap (unwoken_stop c.args.me) failed))
+    ∙ lent.fresh) ∙ lent.still c.args.me)

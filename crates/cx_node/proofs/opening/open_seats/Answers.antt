@@ -1,15 +1,18 @@
-use Rattle.std.proofs.Common.{◌≡◌, ◌∙◌, ℕ, List, length, length-append, slice_get, slice_index_or, Some, Result, Err}
+use Rattle.std.proofs.Common.{◌≡◌, ◌∙◌, length, length-append, slice_get, slice_index_or, Some, Result, Err}
 use Rattle.std.proofs.Common.{sym, ap, subst, refl}
 use Rattle.std.proofs.lemmas.Option.{slice_get-get_or}
 use Rattle.std.proofs.lemmas.Result.{err_from_is_err_and}
 use Rattle.cx_base.specs.declared.role.Kind.TheVariants as kind
 use Rattle.cx_base.specs.declared.role.RoleId.{RoleId}
 use Rattle.cx_base.specs.Role.{role as a_role}
+use Rattle.cx_edge.specs.Shelf.{shelf}
+use Rattle.cx_journal.specs.Files.{Files}
 use Rattle.cx_node.proofs.FirstBad.{first_bad}
-use Rattle.cx_node.proofs.Lent.{lent_append, next_in_depot, ok_is_err, opened_more}
+use Rattle.cx_node.proofs.Lent.{files_same, lent_append, next_in_depot, ok_is_err, opened_more, same_records}
 use Rattle.cx_node.specs.declared.opening.OpenStop.{OpenStop}
 use Rattle.cx_node.specs.declared.opening.OpenStop.TheVariants as open_stop
-use Rattle.cx_node.specs.Opening.{IsBadAs}
+use Rattle.cx_node.specs.Opening.{IsBadAs, NoneIsOut}
+use Rattle.cx_node.specs.Stores.{files_of}
 use Rattle.cx_node.proofs.opening.open_seats.Goals as goal
 
 same_stop : {T : Type 0} (a b : OpenStop) → ◌≡◌ {A = Result T OpenStop} (Err a) (Err b) → a ≡ b
@@ -22,10 +25,10 @@ open_guest-requires-clause-in_depot g c =
     let next : slice_get c.args.roles.now (length c.loop-role.seats.items) ≡ Some me =
     subst (λ n. slice_get c.args.roles.now n ≡ Some me) (sym before.size)
     (slice_get-get_or c.args.roles.now c.loop-role.role-index (a_role kind.Client 0) c.loop-role-test.true) in
-    rw before.out
+    subst (NoneIsOut me) (sym before.out)
     (next_in_depot g.D.Store.Disk.seen g.D.Store.Disk.faults c.args.cluster.now c.args.window c.args.events.now
     (g.D.Depot.tells c.args.depot.now)
-    (g.D.Depot.held c.args.depot.now) c.args.roles.now c.loop-role.seats.items me
+    (files_of (g.D.Depot.held c.args.depot.now)) c.args.roles.now c.loop-role.seats.items me
     next before.opened c.requires.distinct)
 
 pub loop-role-preserved : goal.loop-role-preserved
@@ -35,24 +38,28 @@ loop-role-preserved g c =
     let next : slice_get c.args.roles.now (length c.loop-role.seats.items) ≡ Some me =
     subst (λ n. slice_get c.args.roles.now n ≡ Some me) (sym before.size)
     (slice_get-get_or c.args.roles.now c.loop-role.role-index (a_role kind.Client 0) c.loop-role-test.true) in
-    let opened = rw (before.told, before.held me) at c.in_ok-guest.ensures.opened in
+    let opened = rw (before.told, before.held (shelf me 0), before.held (shelf me 1)) at c.in_ok-guest.ensures.opened in
+    let lends = c.in_ok-guest.ensures.lends in
     record {
       opened = rw (c.push_reserved.ensures.items, c.reserve.ensures.items, c.new.ensures)
           (opened_more g.D.Store.Disk.seen g.D.Store.Disk.faults c.args.cluster.now c.args.window c.args.events.now
           (g.D.Depot.tells c.args.depot.now)
-          (g.D.Depot.held c.args.depot.now) c.args.roles.now c.loop-role.seats.items me
+          (files_of (g.D.Depot.held c.args.depot.now)) c.args.roles.now c.loop-role.seats.items me
           next before.opened c.in_ok-guest.guest opened);
       size = rw (c.push_reserved.ensures.items, c.reserve.ensures.items, length-append, before.size) refl;
       out =
-          c.in_ok-guest.ensures.out
+          lends.out
           ∙ rw (before.out, c.push_reserved.ensures.items, c.reserve.ensures.items, c.new.ensures, lent_append)
           refl;
-      told = c.open_guest.ensures.told ∙ before.told;
-      held = λ who. c.in_ok-guest.ensures.stays who ∙ before.held who;
-      still =
-          λ who. c.in_ok-guest.ensures.others who (ok_is_err c.in_ok-guest.guest (open_stop.StoreFault who))
-          ∙ before.still who;
+      told = lends.told ∙ before.told;
+      held = λ place. lends.stays place ∙ before.held place;
+      still = λ who. lends.others who (ok_is_err c.in_ok-guest.guest (open_stop.StoreFault who)) ∙ before.still who;
     }
+
+pub returns-in_err-guest-clause-held : goal.returns-in_err-guest-clause-held
+returns-in_err-guest-clause-held g c = λ tells who.
+    let before = c.loop-role.invariant in
+    c.open_guest.ensures.lends.held (before.told ∙ tells) who ∙ same_records _ _ before.held who
 
 pub returns-in_err-guest-clause-bad : goal.returns-in_err-guest-clause-bad
 returns-in_err-guest-clause-bad g c = λ role at e tells.
@@ -67,9 +74,12 @@ returns-in_err-guest-clause-bad g c = λ role at e tells.
     (slice_get-get_or c.args.roles.now c.loop-role.role-index (a_role kind.Client 0) c.loop-role-test.true
     ∙ ap Some (sym own)) in
     first_bad g.D.Store.Disk.seen g.D.Store.Disk.faults c.args.cluster.now c.args.window c.args.events.now
-    (g.D.Depot.tells c.args.depot.now) (g.D.Depot.held c.args.depot.now) c.args.roles.now c.loop-role.seats.items
+    (g.D.Depot.tells c.args.depot.now) (files_of (g.D.Depot.held c.args.depot.now)) c.args.roles.now
+    c.loop-role.seats.items
     before.opened tells role at next
-    (subst (λ (file : List ℕ). IsBadAs c.args.cluster.now role file at role.kind) (before.held role)
+    (subst (λ (files : Files). IsBadAs c.args.cluster.now role files at role.kind)
+    (files_same (g.D.Depot.held c.args.depot.now) (g.D.Depot.held c.loop-role.depot) role
+    (λ side. before.held (shelf role side)))
     (c.in_err-guest.ensures.bad role at (ap Err is) (before.told ∙ tells)))
 
 pub returns-in_err-guest-clause-apart : goal.returns-in_err-guest-clause-apart
@@ -78,5 +88,5 @@ returns-in_err-guest-clause-apart g c = λ who none.
     let me : RoleId = slice_index_or c.args.roles.now c.loop-role.role-index (a_role kind.Client 0) in
     let here : slice_get c.args.roles.now c.loop-role.role-index ≡ Some me = slice_get-get_or c.args.roles.now
     c.loop-role.role-index (a_role kind.Client 0) c.loop-role-test.true in
-    let stays = c.open_guest.ensures.apart who (λ e. none c.loop-role.role-index (here ∙ ap Some (sym e))) in
-    (stays.0 ∙ before.held who, stays.1 ∙ before.still who)
+    let stays = c.open_guest.ensures.lends.apart who (λ e. none c.loop-role.role-index (here ∙ ap Some (sym e))) in
+    (λ side. stays.0 side ∙ before.held (shelf who side), stays.1 ∙ before.still who)

@@ -1,11 +1,13 @@
 use Rattle.std.proofs.Common.{◌≡◌, ◌∙◌, Result, Err, refl, sym, ap, subst}
 use Rattle.cx_model.specs.Names.{names_role}
 use Rattle.cx_node.specs.Hosting.{GivesBack, HostAnswered}
+use Rattle.cx_node.specs.Opening.{disks_in}
 use Rattle.cx_node.specs.Serving.{outside_read}
+use Rattle.cx_node.specs.Stores.{files_of}
 use Rattle.cx_node.specs.declared.opening.OpenStop.{OpenStop}
 use Rattle.cx_node.specs.declared.opening.OpenStop.TheVariants as open_stop
 use Rattle.cx_node.proofs.ClosedStores.{opened_stays, opened_still, opened_unhosted}
-use Rattle.cx_node.proofs.Lent.{ok_is_err}
+use Rattle.cx_node.proofs.Lent.{files_same, ok_is_err}
 use Rattle.cx_node.proofs.HostedRuns.{host_early, host_ran, host_unopened}
 use Rattle.cx_node.proofs.OpenedRoles.{all_named, distinct_opened, ready_opened}
 use Rattle.cx_node.proofs.StoredRecords.{rises_still}
@@ -40,7 +42,7 @@ pub run_seats-requires-clause-ready : goal.run_seats-requires-clause-ready
 run_seats-requires-clause-ready g c =
     ready_opened g.D.Store.Disk.seen g.D.Store.Disk.faults c.args.cluster.now c.args.window c.args.events.now
     (g.D.Depot.tells c.args.depot.now)
-    (g.D.Depot.held c.args.depot.now) c.args.roles.now c.open_seats.new.seats.items
+    (files_of (g.D.Depot.held c.args.depot.now)) c.args.roles.now c.open_seats.new.seats.items
     c.requires.distinct (all_named
     (λ r. names_role c.args.cluster.now r) c.args.roles.now c.requires.named) c.open_seats.ensures.opened
 
@@ -48,7 +50,7 @@ pub close_seats-requires-clause-distinct : goal.close_seats-requires-clause-dist
 close_seats-requires-clause-distinct g c =
     distinct_opened g.D.Store.Disk.seen g.D.Store.Disk.faults c.args.cluster.now c.args.window c.args.events.now
     (g.D.Depot.tells c.args.depot.now)
-    (g.D.Depot.held c.args.depot.now) c.args.roles.now c.open_seats.new.seats.items
+    (files_of (g.D.Depot.held c.args.depot.now)) c.args.roles.now c.open_seats.new.seats.items
     c.requires.distinct c.open_seats.ensures.opened
 
 pub returns-in-Ok-clause-answered : goal.returns-in-Ok-clause-answered
@@ -61,15 +63,16 @@ returns-in-Ok-clause-answered g c = λ left left_after reads reads_after.
     let run = c.run_seats.ensures.ran in
     subst (λ s. HostAnswered c.args.roles.now c.args.tend c.args.cluster.now c.args.window c.args.events.now
     c.args.turns old new s) (sym run.2)
-    (host_ran disk.seen disk.may_leave disk.moment disk.left_since disk.faults c.args.tend c.args.cluster.now
+    (host_ran disk c.args.tend c.args.cluster.now
     c.args.window c.args.events.now c.args.turns c.args.roles.now old new
     (g.L.Link.told c.bind_all.new.link) (g.L.Link.faults c.bind_all.new.link) (depot.held c.open_seats.new.depot)
-    (depot.faults c.open_seats.new.depot) c.open_seats.new.seats.items run.0 run.1
+    (depot.held c.run_seats.new.depot) (depot.faults c.open_seats.new.depot) c.open_seats.new.seats.items run.0 run.1
     c.requires.distinct c.open_seats.ensures.opened c.in-Ok.ensures.all
     (c.bind_all.ensures.all c.if-not-bind_all.false) (c.bind_all.ensures.still c.if-not-bind_all.false)
     (λ role. c.in-Ok.ensures.others role (ok_is_err tt (open_stop.StoreFault role)))
-    (λ me none. (c.open_seats.ensures.apart me none).0) (c.run_seats.ensures.told ∙ c.open_seats.ensures.told) run.3
-    (subst (λ t. GivesBack disk.seen disk.faults run.0 t (depot.held c.open_seats.new.depot)
+    (λ me none. files_same (depot.held c.args.depot.now) (depot.held c.open_seats.new.depot) me
+    (c.open_seats.ensures.apart me none).0) (λ me. refl) (c.run_seats.ensures.told ∙ c.open_seats.ensures.told) run.3
+    (subst (λ t. GivesBack disk.seen disk.faults (disks_in run.0) t (depot.held c.open_seats.new.depot)
     (depot.held c.run_seats.new.depot) (depot.faults c.open_seats.new.depot) (depot.faults c.run_seats.new.depot))
     c.open_seats.ensures.told run.4))
 
@@ -82,27 +85,31 @@ returns-in-Err-clause-answered g c = λ left left_after reads reads_after.
     c.close_seats.new.depot c.args.out.now in
     let opening = c.open_seats.ensures in
     let close = c.close_seats.ensures in
-    let back = subst (λ t. GivesBack disk.seen disk.faults c.open_seats.new.seats.items t
+    let back = subst (λ t. GivesBack disk.seen disk.faults (disks_in c.open_seats.new.seats.items) t
     (depot.held c.open_seats.new.depot) (depot.held c.close_seats.new.depot) (depot.faults c.open_seats.new.depot)
     (depot.faults c.close_seats.new.depot))
     opening.told close.back in
-    let stays = opened_stays disk.seen disk.may_leave disk.moment disk.left_since disk.faults c.args.cluster.now
-    c.args.window c.args.events.now (depot.tells c.args.depot.now) (depot.held c.args.depot.now)
+    let stays = opened_stays disk c.args.cluster.now
+    c.args.window c.args.events.now (depot.tells c.args.depot.now) (files_of (depot.held c.args.depot.now))
     (depot.held c.open_seats.new.depot) (depot.held c.close_seats.new.depot) (depot.faults c.open_seats.new.depot)
     (depot.faults c.close_seats.new.depot) c.args.roles.now c.open_seats.new.seats.items
     c.requires.distinct opening.opened back opening.held in
-    let stands = opened_still disk.seen disk.may_leave disk.moment disk.left_since disk.faults c.args.cluster.now
-    c.args.window c.args.events.now (depot.tells c.args.depot.now) (depot.held c.args.depot.now)
+    let stands = opened_still disk c.args.cluster.now
+    c.args.window c.args.events.now (depot.tells c.args.depot.now) (files_of (depot.held c.args.depot.now))
     (depot.held c.open_seats.new.depot) (depot.held c.close_seats.new.depot) (depot.faults c.open_seats.new.depot)
     (depot.faults c.close_seats.new.depot) c.args.roles.now c.open_seats.new.seats.items
     opening.opened back in
-    let apart = opened_unhosted disk.seen disk.may_leave disk.moment disk.left_since disk.faults c.args.cluster.now
-    c.args.window c.args.events.now (depot.tells c.args.depot.now) (depot.held c.args.depot.now)
+    let apart = opened_unhosted disk c.args.cluster.now
+    c.args.window c.args.events.now (depot.tells c.args.depot.now) (files_of (depot.held c.args.depot.now))
     (depot.held c.open_seats.new.depot) (depot.held c.close_seats.new.depot) (depot.faults c.open_seats.new.depot)
     (depot.faults c.close_seats.new.depot) c.args.roles.now c.open_seats.new.seats.items opening.opened back in
     let early = host_early c.args.tend c.args.cluster.now c.args.window c.args.events.now c.args.turns
     c.args.roles.now old new c.bind_all.ensures.part.0 c.bind_all.ensures.part.1 refl stays
-    (λ me none. ((apart me none).0 ∙ (opening.apart me none).0, (apart me none).1 ∙ (opening.apart me none).1))
+    (λ me none. (
+      (apart me none).0 ∙ files_same (depot.held c.args.depot.now) (depot.held c.open_seats.new.depot) me
+          (opening.apart me none).0,
+      (apart me none).1 ∙ (opening.apart me none).1,
+    ))
     (close.told ∙ opening.told) in
     subst (λ s. HostAnswered c.args.roles.now c.args.tend c.args.cluster.now c.args.window c.args.events.now
     c.args.turns old new s) (sym c.unopened.ensures)

@@ -2,16 +2,18 @@ use Rattle.std.proofs.Common.{◌∙◌, Err, refl, sym, ap, subst}
 use Rattle.cx_node.specs.declared.node.Stop.TheVariants as stop
 use Rattle.cx_node.specs.Acts.{failed, scene_of}
 use Rattle.cx_node.specs.Guest.{AreDistinct, hosted_in}
-use Rattle.cx_node.specs.Hosting.{AreGivenBack, Ran, hosting, journal_gives}
+use Rattle.cx_node.specs.Hosting.{AreGivenBack, Ran, hosting, store_gives}
 use Rattle.cx_node.specs.Opening.{lent_to}
+use Rattle.cx_node.specs.Stores.{is_two}
 use Rattle.cx_node.proofs.SteadySeats.{distinct_steady, lent_steady, runs_none, steady_run}
+use Rattle.cx_node.proofs.StoredRecords.{shape_stays}
 use Rattle.cx_node.proofs.serving.run_seats.Goals as goal
 
 pub close_seats-requires-clause-out : goal.close_seats-requires-clause-out
 close_seats-requires-clause-out g c =
     let run = c.run-end.ensures in
     let node = c.in-Ok.node in
-    let steady = steady_run (journal_gives g.D.Store.Disk) c.args.tend node.cluster c.args.turns c.run-end.result
+    let steady = steady_run (store_gives g.D.Store.Disk) is_two (shape_stays g.D.Store.Disk) c.args.tend node.cluster c.args.turns c.run-end.result
     (scene_of g.L.Link g.W.Sink node c.args.link.now c.args.out.now)
     (scene_of g.L.Link g.W.Sink c.run-end.new.self c.run-end.new.link c.run-end.new.out) run.done run.part in
     c.requires.lent ∙ ap (λ n. lent_to n.guests) (sym c.in-Ok.ensures.node)
@@ -21,11 +23,11 @@ pub close_seats-requires-clause-distinct : goal.close_seats-requires-clause-dist
 close_seats-requires-clause-distinct g c =
     let run = c.run-end.ensures in
     let node = c.in-Ok.node in
-    let steady = steady_run (journal_gives g.D.Store.Disk) c.args.tend node.cluster c.args.turns c.run-end.result
+    let steady = steady_run (store_gives g.D.Store.Disk) is_two (shape_stays g.D.Store.Disk) c.args.tend node.cluster c.args.turns c.run-end.result
     (scene_of g.L.Link g.W.Sink node c.args.link.now c.args.out.now)
     (scene_of g.L.Link g.W.Sink c.run-end.new.self c.run-end.new.link c.run-end.new.out) run.done run.part in
     subst (λ hs. AreDistinct (hosted_in hs)) (sym c.into_seats.ensures)
-    (distinct_steady node.guests c.run-end.new.self.guests steady
+    (distinct_steady is_two node.guests c.run-end.new.self.guests steady
     (subst (λ n. AreDistinct (hosted_in n.guests)) (sym c.in-Ok.ensures.node) c.requires.ready.distinct))
 
 pub close_seats-requires-in-Err-clause-distinct : goal.close_seats-requires-in-Err-clause-distinct
@@ -34,7 +36,7 @@ close_seats-requires-in-Err-clause-distinct g c =
 
 pub returns-in-Ok-clause-ran : goal.returns-in-Ok-clause-ran
 returns-in-Ok-clause-ran g c =
-    let gives = journal_gives g.D.Store.Disk in
+    let gives = store_gives g.D.Store.Disk in
     let run = c.run-end.ensures in
     let link = c.run-end.new.link in
     let out = c.run-end.new.out in
@@ -67,7 +69,7 @@ returns-in-Err-clause-ran g c = (
   refl,
   record {
     done = tt;
-    part = runs_none (journal_gives g.D.Store.Disk) c.args.tend c.args.cluster.now c.args.turns
+    part = runs_none (store_gives g.D.Store.Disk) c.args.tend c.args.cluster.now c.args.turns
         (scene_of g.L.Link g.W.Sink (hosting c.args.cluster.now c.args.seats.items) c.args.link.now c.args.out.now);
     written = λ e. cc;
     unwritten = λ e. refl;

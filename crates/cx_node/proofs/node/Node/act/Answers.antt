@@ -2,6 +2,7 @@ use Rattle.std.proofs.Common.{◌≡◌, length, get_or, Some, Err, slice_get, r
 use Rattle.std.proofs.lemmas.Option.{slice_get_read}
 use Rattle.std.proofs.lemmas.Result.{err_from_is_err_and}
 use Rattle.cx_node.specs.declared.node.Stop.TheVariants as stop
+use Rattle.cx_node.specs.Changing.{changing}
 use Rattle.cx_node.specs.Node.{NodeState}
 use Rattle.cx_node.proofs.Seated.{acts_seated, acts_unasked, acts_unsent, acts_unwritten}
 use Rattle.cx_node.proofs.node.Node.act.Goals as goal
@@ -19,7 +20,7 @@ returns-in_err-ask-clause-acts g c =
     let link = g.L.Link.told c.args.link.now in
     let out = g.W.Sink.taken c.args.out.now in
     rw (is, same)
-    (acts_unasked g.K.Keeper.append_gives c.args.self.now.cluster gs i c.args.what.now h c.ask.new.seat here
+    (acts_unasked (changing g.K.Keeper.append_gives g.K.Renew.renew_gives) c.args.self.now.cluster gs i c.args.what.now h c.ask.new.seat here
     c.requires.ready c.in_err-ask.ensures.name
     link out c.in_err-ask.field-0.0 (λ e. c.in_err-ask.ensures.rests (ap Err e))
     (λ role e. c.in_err-ask.ensures.failed role (ap Err e))
@@ -39,7 +40,7 @@ returns-in_err-send_all-clause-acts g c =
     let is : c.from_residual-in_err-send_all.result ≡ Err stop.NoMemory = p.1 ∙ ap Err p.2 in
     let out = g.W.Sink.taken c.args.out.now in
     rw (is, same)
-    (acts_unsent g.K.Keeper.append_gives cl gs i c.args.what.now h c.ask.new.seat here c.requires.ready
+    (acts_unsent (changing g.K.Keeper.append_gives g.K.Renew.renew_gives) cl gs i c.args.what.now h c.ask.new.seat here c.requires.ready
     c.in_ok-ask.ensures.name
     (g.L.Link.told c.args.link.now) (g.L.Link.told c.send_all.new.link) out c.in_ok-ask.ensures.kept
     (rw (same_cluster, c.as_slice.ensures, c.in_ok-ask.ensures.sends) at c.in_err-send_all.ensures.part))
@@ -55,7 +56,7 @@ returns-then-not-write_all-clause-acts g c =
     let here : slice_get gs i ≡ Some h = slice_get_read gs (length gs) i h refl c.requires.place
     (c.index_mut.ensures.value ∙ ap (λ xs. get_or xs i h) same) in
     rw same
-    (acts_unwritten g.K.Keeper.append_gives cl gs i c.args.what.now h c.ask.new.seat here c.requires.ready
+    (acts_unwritten (changing g.K.Keeper.append_gives g.K.Renew.renew_gives) cl gs i c.args.what.now h c.ask.new.seat here c.requires.ready
     c.in_ok-ask.ensures.name
     (g.L.Link.told c.args.link.now) (g.L.Link.told c.send_all.new.link) (g.W.Sink.taken c.args.out.now)
     (g.W.Sink.taken c.write_all.new.sink) c.in_ok-ask.ensures.kept
@@ -73,7 +74,7 @@ returns-clause-acts g c =
     let here : slice_get gs i ≡ Some h = slice_get_read gs (length gs) i h refl c.requires.place
     (c.index_mut.ensures.value ∙ ap (λ xs. get_or xs i h) same) in
     rw same
-    (acts_seated g.K.Keeper.append_gives cl gs i c.args.what.now h c.ask.new.seat here c.requires.ready
+    (acts_seated (changing g.K.Keeper.append_gives g.K.Renew.renew_gives) cl gs i c.args.what.now h c.ask.new.seat here c.requires.ready
     c.in_ok-ask.ensures.name
     (g.L.Link.told c.args.link.now) (g.L.Link.told c.send_all.new.link) (g.W.Sink.taken c.args.out.now)
     (g.W.Sink.taken c.write_all.new.sink) c.ask.new.outbox.list c.deref.result.now

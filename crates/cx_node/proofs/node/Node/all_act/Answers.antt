@@ -3,6 +3,7 @@ use Rattle.std.proofs.lemmas.List.{length-map}
 use Rattle.std.proofs.lemmas.Result.{err_from_is_err_and}
 use Rattle.cx_base.specs.declared.cluster.Cluster.{Cluster}
 use Rattle.cx_node.specs.Acts.{Acts, failed, scene_of}
+use Rattle.cx_node.specs.Changing.{changing}
 use Rattle.cx_node.specs.Guest.{hosted_in, hosted_of}
 use Rattle.cx_node.specs.Run.{does_at, first_do}
 use Rattle.cx_node.proofs.Actions.{acts_nothing, blames_then, no_blame}
@@ -13,7 +14,7 @@ pub loop-place-init : goal.loop-place-init
 loop-place-init g c =
     record {
       acts =
-          acts_nothing g.K.Keeper.append_gives c.args.self.now.cluster
+          acts_nothing (changing g.K.Keeper.append_gives g.K.Renew.renew_gives) c.args.self.now.cluster
           (scene_of g.L.Link g.W.Sink c.args.self.now c.args.link.now c.args.out.now) c.requires.ready;
       blames = no_blame (failed g.L.Link g.W.Sink c.args.link.now c.args.out.now);
       cluster = refl;
@@ -28,9 +29,9 @@ loop-place-preserved g c =
     let now = scene_of g.L.Link g.W.Sink c.act.new.self c.act.new.link c.act.new.out in
     record {
       acts =
-          next_done g.K.Keeper.append_gives c.args.self.now.cluster c.args.what.now hs l.place
+          next_done (changing g.K.Keeper.append_gives g.K.Renew.renew_gives) c.args.self.now.cluster c.args.what.now hs l.place
           (scene_of g.L.Link g.W.Sink c.args.self.now c.args.link.now c.args.out.now) before now l.invariant.acts
-          (subst (λ (cl : Cluster). Acts g.K.Keeper.append_gives cl []
+          (subst (λ (cl : Cluster). Acts (changing g.K.Keeper.append_gives g.K.Renew.renew_gives) cl []
           (does_at l.place c.args.what.now (hosted_in l.self.guests))
           (Ok tt) before now) l.invariant.cluster c.in_ok-act.ensures.acts);
       blames = blames_then (Ok tt) _ _ _ l.invariant.blames c.in_ok-act.ensures.blames;
@@ -54,9 +55,9 @@ returns-in_err-act-clause-acts g c =
           (hosted_of {K = g.row.K.Denot}),
     ) in
     rw is
-    (next_stopped g.K.Keeper.append_gives c.args.self.now.cluster c.args.what.now hs l.place c.in_err-act.field-0.0
+    (next_stopped (changing g.K.Keeper.append_gives g.K.Renew.renew_gives) c.args.self.now.cluster c.args.what.now hs l.place c.in_err-act.field-0.0
     (scene_of g.L.Link g.W.Sink c.args.self.now c.args.link.now c.args.out.now) before now more l.invariant.acts
-    (subst (λ (cl : Cluster). Acts g.K.Keeper.append_gives cl []
+    (subst (λ (cl : Cluster). Acts (changing g.K.Keeper.append_gives g.K.Renew.renew_gives) cl []
     (does_at l.place c.args.what.now (hosted_in l.self.guests))
     (Err c.in_err-act.field-0.0) before now) l.invariant.cluster c.in_err-act.ensures.acts))
 
@@ -72,6 +73,6 @@ returns-clause-acts g c =
       length-map c.args.self.now.guests
           (hosted_of {K = g.row.K.Denot}),
     ) in
-    subst (λ k. Acts g.K.Keeper.append_gives c.args.self.now.cluster [] (first_do k c.args.what.now hs) (Ok tt)
+    subst (λ k. Acts (changing g.K.Keeper.append_gives g.K.Renew.renew_gives) c.args.self.now.cluster [] (first_do k c.args.what.now hs) (Ok tt)
     (scene_of g.L.Link g.W.Sink c.args.self.now c.args.link.now c.args.out.now)
     (scene_of g.L.Link g.W.Sink l.self l.link l.out)) all l.invariant.acts

@@ -1,6 +1,7 @@
 use Rattle.std.proofs.Common.{◌≡◌, [], List, map, ℕ, Ok, Err, ap, ◌∙◌, subst}
 use Rattle.std.proofs.lemmas.Result.{err_from_is_err_and}
 use Rattle.cx_node.specs.Acts.{Acts, scene_of}
+use Rattle.cx_node.specs.Changing.{changing}
 use Rattle.cx_node.specs.Guest.{hosted_in, hosted_of}
 use Rattle.cx_node.specs.Node.{NodeState}
 use Rattle.cx_node.specs.Tending.{completed, in_turn, is_overtaken}
@@ -18,8 +19,8 @@ returns-in_err-marks-clause-acts g c =
     let p = err_from_is_err_and c.from_residual-in_err-marks.result c.from_residual-in_err-marks.ensures.1 in
     let is : c.from_residual-in_err-marks.result ≡ Err NoMemory = p.1 ∙ ap Err p.2 in
     rw is
-    (then_stops g.K.Keeper.append_gives c.args.self.now.cluster (in_turn (is_overtaken k.marks) k.queue hs) before now
-    (subst (λ (l : List ℕ). Acts g.K.Keeper.append_gives c.args.self.now.cluster []
+    (then_stops (changing g.K.Keeper.append_gives g.K.Renew.renew_gives) c.args.self.now.cluster (in_turn (is_overtaken k.marks) k.queue hs) before now
+    (subst (λ (l : List ℕ). Acts (changing g.K.Keeper.append_gives g.K.Renew.renew_gives) c.args.self.now.cluster []
     (in_turn (is_overtaken k.marks) l hs) (Ok tt) before now) c.queue.ensures c.in_ok-tick_in_turn.ensures.acts))
 
 pub returns-in_err-begin_pass-clause-acts : goal.returns-in_err-begin_pass-clause-acts
@@ -31,8 +32,8 @@ returns-in_err-begin_pass-clause-acts g c =
     let p = err_from_is_err_and c.from_residual-in_err-begin_pass.result c.from_residual-in_err-begin_pass.ensures.1 in
     let is : c.from_residual-in_err-begin_pass.result ≡ Err NoMemory = p.1 ∙ ap Err p.2 in
     rw is
-    (then_stops g.K.Keeper.append_gives c.args.self.now.cluster (in_turn (is_overtaken k.marks) k.queue hs) before now
-    (subst (λ (l : List ℕ). Acts g.K.Keeper.append_gives c.args.self.now.cluster []
+    (then_stops (changing g.K.Keeper.append_gives g.K.Renew.renew_gives) c.args.self.now.cluster (in_turn (is_overtaken k.marks) k.queue hs) before now
+    (subst (λ (l : List ℕ). Acts (changing g.K.Keeper.append_gives g.K.Renew.renew_gives) c.args.self.now.cluster []
     (in_turn (is_overtaken k.marks) l hs) (Ok tt) before now) c.queue.ensures c.in_ok-tick_in_turn.ensures.acts))
 
 pub returns-clause-care : goal.returns-clause-care

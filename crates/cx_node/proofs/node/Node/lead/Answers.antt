@@ -7,6 +7,7 @@ use Rattle.cx_base.specs.declared.role.Kind.TheVariants as kind
 use Rattle.cx_msg.specs.declared.input.Input.TheVariants as input
 use Rattle.cx_node.specs.declared.doing.Doing.TheVariants.{Give}
 use Rattle.cx_node.specs.Acts.{Acts, scene_of}
+use Rattle.cx_node.specs.Changing.{changing}
 use Rattle.cx_node.specs.Guest.{hosted_in}
 use Rattle.cx_node.specs.Node.{NodeState}
 use Rattle.cx_node.specs.Run.{does_at, grid_of, idle_at, place_of}
@@ -20,7 +21,7 @@ returns-in_default-clause-acts g c =
     let hs = hosted_in c.args.self.now.guests in
     let found : place_of (role kind.Leader 0) hs ≡ None = ap (λ r. place_of r hs) (sym c.new.ensures)
     ∙ sym c.find.ensures ∙ c.in_default.is in
-    lead_none g.K.Keeper.append_gives c.args.self.now.cluster (place_of (role kind.Leader 0) hs)
+    lead_none (changing g.K.Keeper.append_gives g.K.Renew.renew_gives) c.args.self.now.cluster (place_of (role kind.Leader 0) hs)
     (scene_of g.L.Link g.W.Sink c.args.self.now c.args.link.now c.args.out.now) found c.requires.ready
 
 pub index-requires : goal.index-requires
@@ -42,7 +43,7 @@ returns-then-not-is_idle_leader-clause-acts g c =
     let inside : i < length gs = place_within (role kind.Leader 0) gs i found in
     let here : slice_get gs i ≡ Some h = slice_get_read gs (length gs) i h refl inside
     (c.index.ensures ∙ ap (λ xs. get_or xs i h) same) in
-    lead_busy g.K.Keeper.append_gives c.args.self.now.cluster (place_of (role kind.Leader 0) hs) i
+    lead_busy (changing g.K.Keeper.append_gives g.K.Renew.renew_gives) c.args.self.now.cluster (place_of (role kind.Leader 0) hs) i
     (scene_of g.L.Link g.W.Sink c.args.self.now c.args.link.now c.args.out.now) found
     (ap idle_at (hosted_at gs i h here) ∙ sym c.is_idle_leader.ensures
     ∙ c.if-not-is_idle_leader.true) c.requires.ready
@@ -64,11 +65,11 @@ returns-clause-acts g c =
     let inside : i < length gs = place_within (role kind.Leader 0) gs i found in
     let here : slice_get gs i ≡ Some h = slice_get_read gs (length gs) i h refl inside
     (c.index.ensures ∙ ap (λ xs. get_or xs i h) same) in
-    lead_idle g.K.Keeper.append_gives c.args.self.now.cluster (place_of (role kind.Leader 0) hs) i c.act.result
+    lead_idle (changing g.K.Keeper.append_gives g.K.Renew.renew_gives) c.args.self.now.cluster (place_of (role kind.Leader 0) hs) i c.act.result
     (scene_of g.L.Link g.W.Sink c.args.self.now c.args.link.now c.args.out.now)
     (scene_of g.L.Link g.W.Sink c.act.new.self c.act.new.link c.act.new.out) found
     (ap idle_at (hosted_at gs i h here) ∙ sym c.is_idle_leader.ensures ∙ c.if-not-is_idle_leader.false)
-    (subst (λ (s : Shape). Acts g.K.Keeper.append_gives c.args.self.now.cluster []
+    (subst (λ (s : Shape). Acts (changing g.K.Keeper.append_gives g.K.Renew.renew_gives) c.args.self.now.cluster []
     (does_at i (Give (input.Order (order.Lead s))) hs) c.act.result
     (scene_of g.L.Link g.W.Sink c.args.self.now c.args.link.now c.args.out.now)
     (scene_of g.L.Link g.W.Sink c.act.new.self c.act.new.link c.act.new.out))

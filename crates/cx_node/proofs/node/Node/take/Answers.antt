@@ -3,6 +3,7 @@ use Rattle.std.proofs.lemmas.Result.{err_from_is_err_and}
 use Rattle.cx_node.specs.declared.come.Come.{Come}
 use Rattle.cx_node.specs.declared.come.Come.TheVariants as come
 use Rattle.cx_node.specs.Acts.{Receives, scene_of}
+use Rattle.cx_node.specs.Changing.{changing}
 use Rattle.cx_node.specs.Node.{NodeState}
 use Rattle.cx_node.proofs.Parts.{take_none, take_some, take_stops}
 use Rattle.cx_node.proofs.node.Node.take.Goals as goal
@@ -17,7 +18,7 @@ returns-in_err-come-clause-acts g c =
     let p = err_from_is_err_and c.from_residual.result c.from_residual.ensures.1 in
     let is : c.from_residual.result ≡ Err c.in_err-come.field-0.0 = p.1 ∙ ap Err p.2 in
     rw (is, same)
-    (take_stops g.K.Keeper.append_gives c.args.self.now.cluster gs link mid out c.in_err-come.field-0.0 c.requires.ready c.in_err-come.ensures.told)
+    (take_stops (changing g.K.Keeper.append_gives g.K.Renew.renew_gives) c.args.self.now.cluster gs link mid out c.in_err-come.field-0.0 c.requires.ready c.in_err-come.ensures.told)
 
 pub returns-in-Letter-clause-acts : goal.returns-in-Letter-clause-acts
 returns-in-Letter-clause-acts g c =
@@ -30,7 +31,7 @@ returns-in-Letter-clause-acts g c =
     (λ (s : NodeState g.row.K.Denot). s.cluster) c.self.view_is in
     let got : Receives link mid (Ok (come.Letter c.in-Letter.datagram)) = subst
     (λ (o : Come). Receives link mid (Ok o)) c.in-Letter.is c.in_ok-come.ensures.told in
-    take_some g.K.Keeper.append_gives c.args.self.now.cluster c.in-Letter.datagram gs link mid out c.act_named.result
+    take_some (changing g.K.Keeper.append_gives g.K.Renew.renew_gives) c.args.self.now.cluster c.in-Letter.datagram gs link mid out c.act_named.result
     (scene_of g.L.Link g.W.Sink c.act_named.new.self c.act_named.new.link c.act_named.new.out) c.requires.ready got
     (rw (same, same_cluster, c.to-to.ensures.to) at c.act_named.ensures.acts)
 
@@ -41,7 +42,7 @@ returns-in-Nothing-clause-acts g c =
     let link = g.L.Link.told c.args.link.now in
     let mid = g.L.Link.told c.receive.new.link in
     let out = g.W.Sink.taken c.args.out.now in
-    rw same (take_none g.K.Keeper.append_gives c.args.self.now.cluster come.Nothing gs link mid out refl
+    rw same (take_none (changing g.K.Keeper.append_gives g.K.Renew.renew_gives) c.args.self.now.cluster come.Nothing gs link mid out refl
     c.requires.ready (subst (λ (o : Come). Receives link mid (Ok o)) c.in-Nothing.is c.in_ok-come.ensures.told))
 
 pub returns-in-Foreign-clause-acts : goal.returns-in-Foreign-clause-acts
@@ -51,5 +52,5 @@ returns-in-Foreign-clause-acts g c =
     let link = g.L.Link.told c.args.link.now in
     let mid = g.L.Link.told c.receive.new.link in
     let out = g.W.Sink.taken c.args.out.now in
-    rw same (take_none g.K.Keeper.append_gives c.args.self.now.cluster come.Foreign gs link mid out refl
+    rw same (take_none (changing g.K.Keeper.append_gives g.K.Renew.renew_gives) c.args.self.now.cluster come.Foreign gs link mid out refl
     c.requires.ready (subst (λ (o : Come). Receives link mid (Ok o)) c.in-Foreign.is c.in_ok-come.ensures.told))

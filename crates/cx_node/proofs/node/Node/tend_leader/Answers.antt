@@ -1,6 +1,7 @@
 use Rattle.std.proofs.Common.{◌≡◌, [], Ok, refl, sym, ap, ◌∙◌, subst, Option}
 use Rattle.cx_base.specs.declared.cluster.Cluster.{Cluster}
 use Rattle.cx_base.specs.declared.event.Order.{Order}
+use Rattle.cx_node.specs.Changing.{changing}
 use Rattle.cx_node.specs.Run.{stays}
 use Rattle.cx_node.specs.Acts.{Acts}
 use Rattle.cx_node.specs.Doing.{scene}
@@ -19,8 +20,8 @@ returns-in-Some-clause-acts g c =
     let same_guests = ap (λ (s : NodeState g.row.K.Denot). s.guests) c.self.view_is in
     let same_cluster : c.self.inside.cluster ≡ c.args.self.now.cluster = ap (λ (s : NodeState g.row.K.Denot). s.cluster) c.self.view_is in
     let asked : c.leader_order-order.result ≡ leader_asked c.args.self.now.cluster c.in-Some.standing now = c.leader_order-order.ensures.order ∙ ap (λ (cl : Cluster). leader_asked cl c.in-Some.standing now) same_cluster in
-    moved_as g.K.Keeper.append_gives c.args.self.now.cluster (leader_tended c.args.self.now.cluster (first_leader (hosted_in c.args.self.now.guests)) (tended c.args.care.now (hosted_in c.args.self.now.guests))) (with_care now (gets (leader_asked c.args.self.now.cluster c.in-Some.standing now) hs)) c.command.result (scene c.args.self.now.guests (g.L.Link.told c.args.link.now) (g.W.Sink.taken c.args.out.now)) (scene c.command.new.self.guests (g.L.Link.told c.command.new.link) (g.W.Sink.taken c.command.new.out)) (leader_some c.args.self.now.cluster (first_leader (hosted_in c.args.self.now.guests)) c.in-Some.standing c.args.care.now (hosted_in c.args.self.now.guests) (sym c.in-Some.is ∙ c.standing.ensures))
-    (subst (λ (o : Option Order). Acts g.K.Keeper.append_gives c.args.self.now.cluster [] (gets o hs) c.command.result (scene c.args.self.now.guests (g.L.Link.told c.args.link.now) (g.W.Sink.taken c.args.out.now)) (scene c.command.new.self.guests (g.L.Link.told c.command.new.link) (g.W.Sink.taken c.command.new.out))) asked c.command.ensures.acts)
+    moved_as (changing g.K.Keeper.append_gives g.K.Renew.renew_gives) c.args.self.now.cluster (leader_tended c.args.self.now.cluster (first_leader (hosted_in c.args.self.now.guests)) (tended c.args.care.now (hosted_in c.args.self.now.guests))) (with_care now (gets (leader_asked c.args.self.now.cluster c.in-Some.standing now) hs)) c.command.result (scene c.args.self.now.guests (g.L.Link.told c.args.link.now) (g.W.Sink.taken c.args.out.now)) (scene c.command.new.self.guests (g.L.Link.told c.command.new.link) (g.W.Sink.taken c.command.new.out)) (leader_some c.args.self.now.cluster (first_leader (hosted_in c.args.self.now.guests)) c.in-Some.standing c.args.care.now (hosted_in c.args.self.now.guests) (sym c.in-Some.is ∙ c.standing.ensures))
+    (subst (λ (o : Option Order). Acts (changing g.K.Keeper.append_gives g.K.Renew.renew_gives) c.args.self.now.cluster [] (gets o hs) c.command.result (scene c.args.self.now.guests (g.L.Link.told c.args.link.now) (g.W.Sink.taken c.args.out.now)) (scene c.command.new.self.guests (g.L.Link.told c.command.new.link) (g.W.Sink.taken c.command.new.out))) asked c.command.ensures.acts)
 
 pub returns-in-Some-clause-care : goal.returns-in-Some-clause-care
 returns-in-Some-clause-care g c =
@@ -31,7 +32,7 @@ returns-in-Some-clause-care g c =
 
 pub returns-in-None-clause-acts : goal.returns-in-None-clause-acts
 returns-in-None-clause-acts g c =
-    moved_as g.K.Keeper.append_gives c.args.self.now.cluster (leader_tended c.args.self.now.cluster (first_leader (hosted_in c.args.self.now.guests)) (tended c.args.care.now (hosted_in c.args.self.now.guests))) (stays (tended c.args.care.now (hosted_in c.args.self.now.guests))) (Ok tt) (scene c.args.self.now.guests (g.L.Link.told c.args.link.now) (g.W.Sink.taken c.args.out.now)) (scene c.args.self.now.guests (g.L.Link.told c.args.link.now) (g.W.Sink.taken c.args.out.now)) (leader_none c.args.self.now.cluster (first_leader (hosted_in c.args.self.now.guests)) c.args.care.now (hosted_in c.args.self.now.guests) (sym c.in-None.is ∙ c.standing.ensures)) (acts_nothing g.K.Keeper.append_gives c.args.self.now.cluster (scene c.args.self.now.guests (g.L.Link.told c.args.link.now) (g.W.Sink.taken c.args.out.now)) c.requires.ready)
+    moved_as (changing g.K.Keeper.append_gives g.K.Renew.renew_gives) c.args.self.now.cluster (leader_tended c.args.self.now.cluster (first_leader (hosted_in c.args.self.now.guests)) (tended c.args.care.now (hosted_in c.args.self.now.guests))) (stays (tended c.args.care.now (hosted_in c.args.self.now.guests))) (Ok tt) (scene c.args.self.now.guests (g.L.Link.told c.args.link.now) (g.W.Sink.taken c.args.out.now)) (scene c.args.self.now.guests (g.L.Link.told c.args.link.now) (g.W.Sink.taken c.args.out.now)) (leader_none c.args.self.now.cluster (first_leader (hosted_in c.args.self.now.guests)) c.args.care.now (hosted_in c.args.self.now.guests) (sym c.in-None.is ∙ c.standing.ensures)) (acts_nothing (changing g.K.Keeper.append_gives g.K.Renew.renew_gives) c.args.self.now.cluster (scene c.args.self.now.guests (g.L.Link.told c.args.link.now) (g.W.Sink.taken c.args.out.now)) c.requires.ready)
 
 pub returns-in-None-clause-care : goal.returns-in-None-clause-care
 returns-in-None-clause-care g c = counts_as (leader_tended c.args.self.now.cluster (first_leader (hosted_in c.args.self.now.guests)) (tended c.args.care.now (hosted_in c.args.self.now.guests))) (stays (tended c.args.care.now (hosted_in c.args.self.now.guests))) (Ok tt) c.args.care.now (leader_none c.args.self.now.cluster (first_leader (hosted_in c.args.self.now.guests)) c.args.care.now (hosted_in c.args.self.now.guests) (sym c.in-None.is ∙ c.standing.ensures)) refl

@@ -1,17 +1,18 @@
 use Rattle.std.proofs.Common.{sym, ◌∙◌}
+use Rattle.cx_node.specs.Changing.{changing}
 use Rattle.cx_node.specs.Acts.{scene_of}
 use Rattle.cx_node.proofs.Parts.{tick_due, tick_none}
 use Rattle.cx_node.proofs.node.Node.tick.Goals as goal
 
 pub returns-then-is_tick_turn-clause-acts : goal.returns-then-is_tick_turn-clause-acts
 returns-then-is_tick_turn-clause-acts g c =
-    tick_due g.K.Keeper.append_gives c.args.self.now.cluster c.args.n c.all_act.result
+    tick_due (changing g.K.Keeper.append_gives g.K.Renew.renew_gives) c.args.self.now.cluster c.args.n c.all_act.result
     (scene_of g.L.Link g.W.Sink c.args.self.now c.args.link.now c.args.out.now)
     (scene_of g.L.Link g.W.Sink c.all_act.new.self c.all_act.new.link c.all_act.new.out)
     (sym c.is_tick_turn.ensures ∙ c.if-is_tick_turn.true) c.all_act.ensures.acts
 
 pub returns-clause-acts : goal.returns-clause-acts
 returns-clause-acts g c =
-    tick_none g.K.Keeper.append_gives c.args.self.now.cluster c.args.n
+    tick_none (changing g.K.Keeper.append_gives g.K.Renew.renew_gives) c.args.self.now.cluster c.args.n
     (scene_of g.L.Link g.W.Sink c.args.self.now c.args.link.now c.args.out.now)
     (sym c.is_tick_turn.ensures ∙ c.if-is_tick_turn.false) c.requires.ready

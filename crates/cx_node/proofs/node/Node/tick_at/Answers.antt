@@ -1,7 +1,8 @@
-use Rattle.std.proofs.Common.{length, slice_get, arith, ap, ◌∙◌}
+use Rattle.std.proofs.Common.{slice_get, arith, ap, ◌∙◌}
 use Rattle.std.proofs.lemmas.List.{length-map}
 use Rattle.cx_msg.specs.declared.input.Input.TheVariants as input
 use Rattle.cx_node.specs.Acts.{scene_of}
+use Rattle.cx_node.specs.Changing.{changing}
 use Rattle.cx_node.specs.Guest.{hosted_in, hosted_of}
 use Rattle.cx_node.specs.Node.{NodeState}
 use Rattle.cx_node.specs.Run.{does_at}
@@ -27,7 +28,7 @@ returns-then-is_meant_at-clause-acts g c =
     let same = ap (λ (s : NodeState g.row.K.Denot). s.guests) c.self.view_is in
     let i = c.args.place in
     let test = is_meant c.args.whom c.args.care.now.marks i in
-    due g.K.Keeper.append_gives c.args.self.now.cluster (is_so test (slice_get hs i)) (does_at i (Give input.Tick) hs)
+    due (changing g.K.Keeper.append_gives g.K.Renew.renew_gives) c.args.self.now.cluster (is_so test (slice_get hs i)) (does_at i (Give input.Tick) hs)
     c.act.result (scene_of g.L.Link g.W.Sink c.args.self.now c.args.link.now c.args.out.now)
     (scene_of g.L.Link g.W.Sink c.act.new.self c.act.new.link c.act.new.out)
     (so_at test gs _ i c.is_meant_at.result (c.deref.ensures.value ∙ same) c.is_meant_at.ensures ∙ c.if-is_meant_at.true)
@@ -40,7 +41,7 @@ returns-clause-acts g c =
     let same = ap (λ (s : NodeState g.row.K.Denot). s.guests) c.self.view_is in
     let i = c.args.place in
     let test = is_meant c.args.whom c.args.care.now.marks i in
-    not_due g.K.Keeper.append_gives c.args.self.now.cluster (is_so test (slice_get hs i)) (does_at i (Give input.Tick) hs)
+    not_due (changing g.K.Keeper.append_gives g.K.Renew.renew_gives) c.args.self.now.cluster (is_so test (slice_get hs i)) (does_at i (Give input.Tick) hs)
     (scene_of g.L.Link g.W.Sink c.args.self.now c.args.link.now c.args.out.now)
     (so_at test gs _ i c.is_meant_at.result (c.deref.ensures.value ∙ same) c.is_meant_at.ensures ∙ c.if-is_meant_at.false)
     c.requires.ready

@@ -3,6 +3,7 @@ use Rattle.std.proofs.lemmas.List.{drop_all, drop_more}
 use Rattle.std.proofs.lemmas.Result.{err_from_is_err_and}
 use Rattle.cx_base.specs.declared.cluster.Cluster.{Cluster}
 use Rattle.cx_node.specs.Acts.{Acts, failed, scene_of}
+use Rattle.cx_node.specs.Changing.{changing}
 use Rattle.cx_node.specs.Guest.{AreReady, hosted_in}
 use Rattle.cx_node.specs.Tending.{ticks_if}
 use Rattle.cx_node.specs.Tends.{is_meant}
@@ -14,7 +15,7 @@ pub loop-place-init : goal.loop-place-init
 loop-place-init g c =
     record {
       acts =
-          none_asked g.K.Keeper.append_gives c.args.self.now.cluster (is_meant c.args.whom c.args.care.now.marks)
+          none_asked (changing g.K.Keeper.append_gives g.K.Renew.renew_gives) c.args.self.now.cluster (is_meant c.args.whom c.args.care.now.marks)
           c.args.places.now c.args.places.now
           (scene_of g.L.Link g.W.Sink c.args.self.now c.args.link.now c.args.out.now) refl;
       ready = c.requires.ready;
@@ -32,11 +33,11 @@ loop-place-preserved g c =
     let now = scene_of g.L.Link g.W.Sink c.tick_at.new.self c.tick_at.new.link c.tick_at.new.out in
     record {
       acts =
-          one_asked g.K.Keeper.append_gives c.args.self.now.cluster test all (drop l.place-index all)
+          one_asked (changing g.K.Keeper.append_gives g.K.Renew.renew_gives) c.args.self.now.cluster test all (drop l.place-index all)
           (drop (l.place-index + 1) all) place
           (scene_of g.L.Link g.W.Sink c.args.self.now c.args.link.now c.args.out.now) before now
           (drop_more all l.place-index 0 c.loop-place-test.true) l.invariant.acts
-          (subst (λ (cl : Cluster). Acts g.K.Keeper.append_gives cl []
+          (subst (λ (cl : Cluster). Acts (changing g.K.Keeper.append_gives g.K.Renew.renew_gives) cl []
           (ticks_if test place (hosted_in l.self.guests)) (Ok tt) before now)
           l.invariant.cluster c.in_ok-tick_at.ensures.acts);
       ready = subst (λ (cl : Cluster). AreReady cl c.tick_at.new.self.guests) l.invariant.cluster c.in_ok-tick_at.ensures.acts.ready;
@@ -55,11 +56,11 @@ returns-in_err-tick_at-clause-acts g c =
     let p = err_from_is_err_and c.from_residual.result c.from_residual.ensures.1 in
     let is : c.from_residual.result ≡ Err c.in_err-tick_at.field-0.0 = p.1 ∙ ap Err p.2 in
     rw is
-    (one_stopped g.K.Keeper.append_gives c.args.self.now.cluster test all (drop l.place-index all)
+    (one_stopped (changing g.K.Keeper.append_gives g.K.Renew.renew_gives) c.args.self.now.cluster test all (drop l.place-index all)
     (drop (l.place-index + 1) all) place c.in_err-tick_at.field-0.0
     (scene_of g.L.Link g.W.Sink c.args.self.now c.args.link.now c.args.out.now) before now
     (drop_more all l.place-index 0 c.loop-place-test.true) l.invariant.acts
-    (subst (λ (cl : Cluster). Acts g.K.Keeper.append_gives cl []
+    (subst (λ (cl : Cluster). Acts (changing g.K.Keeper.append_gives g.K.Renew.renew_gives) cl []
     (ticks_if test place (hosted_in l.self.guests)) (Err c.in_err-tick_at.field-0.0) before now)
     l.invariant.cluster c.in_err-tick_at.ensures.acts))
 
@@ -67,7 +68,7 @@ pub returns-clause-acts : goal.returns-clause-acts
 returns-clause-acts g c =
     let l = c.loop-place in
     let all = c.args.places.now in
-    all_asked g.K.Keeper.append_gives c.args.self.now.cluster (is_meant c.args.whom c.args.care.now.marks) all
+    all_asked (changing g.K.Keeper.append_gives g.K.Renew.renew_gives) c.args.self.now.cluster (is_meant c.args.whom c.args.care.now.marks) all
     (drop l.place-index all) (scene_of g.L.Link g.W.Sink c.args.self.now c.args.link.now c.args.out.now)
     (scene_of g.L.Link g.W.Sink l.self l.link l.out) (drop_all l.place-index all c.loop-place-test.false)
     l.invariant.acts l.invariant.ready

@@ -5,6 +5,7 @@ use Rattle.cx_base.specs.Lists.{below, numbers}
 use Rattle.cx_base.specs.declared.cluster.Cluster.{Cluster}
 use Rattle.cx_grid.proofs.Crossing.{numbers_more}
 use Rattle.cx_node.specs.Acts.{Acts, failed, scene_of}
+use Rattle.cx_node.specs.Changing.{changing}
 use Rattle.cx_node.specs.Guest.{AreReady, hosted_in, hosted_of}
 use Rattle.cx_node.specs.Tending.{ticks_if}
 use Rattle.cx_node.specs.Tends.{is_meant}
@@ -18,7 +19,7 @@ loop-place-init g c =
     let whole : n - 0 ≡ n = omega arith in
     record {
       acts =
-          none_asked g.K.Keeper.append_gives c.args.self.now.cluster (is_meant c.args.whom c.args.care.now.marks)
+          none_asked (changing g.K.Keeper.append_gives g.K.Renew.renew_gives) c.args.self.now.cluster (is_meant c.args.whom c.args.care.now.marks)
           (below n) (numbers 0 (n - 0))
           (scene_of g.L.Link g.W.Sink c.args.self.now c.args.link.now c.args.out.now) (ap (numbers 0) whole);
       ready = c.requires.ready;
@@ -43,11 +44,11 @@ loop-place-preserved g c =
     ) in
     record {
       acts =
-          one_asked g.K.Keeper.append_gives c.args.self.now.cluster test (below n) (numbers l.place (n - l.place))
+          one_asked (changing g.K.Keeper.append_gives g.K.Renew.renew_gives) c.args.self.now.cluster test (below n) (numbers l.place (n - l.place))
           (numbers (l.place + 1) (n - (l.place + 1))) l.place
           (scene_of g.L.Link g.W.Sink c.args.self.now c.args.link.now c.args.out.now) before now
           (numbers_more l.place n more) l.invariant.acts
-          (subst (λ (cl : Cluster). Acts g.K.Keeper.append_gives cl []
+          (subst (λ (cl : Cluster). Acts (changing g.K.Keeper.append_gives g.K.Renew.renew_gives) cl []
           (ticks_if test l.place (hosted_in l.self.guests)) (Ok tt) before now)
           l.invariant.cluster c.in_ok-tick_at.ensures.acts);
       ready = subst (λ (cl : Cluster). AreReady cl c.tick_at.new.self.guests) l.invariant.cluster c.in_ok-tick_at.ensures.acts.ready;
@@ -73,11 +74,11 @@ returns-in_err-tick_at-clause-acts g c =
           (hosted_of {K = g.row.K.Denot}),
     ) in
     rw is
-    (one_stopped g.K.Keeper.append_gives c.args.self.now.cluster test (below n) (numbers l.place (n - l.place))
+    (one_stopped (changing g.K.Keeper.append_gives g.K.Renew.renew_gives) c.args.self.now.cluster test (below n) (numbers l.place (n - l.place))
     (numbers (l.place + 1) (n - (l.place + 1))) l.place c.in_err-tick_at.field-0.0
     (scene_of g.L.Link g.W.Sink c.args.self.now c.args.link.now c.args.out.now) before now
     (numbers_more l.place n more) l.invariant.acts
-    (subst (λ (cl : Cluster). Acts g.K.Keeper.append_gives cl []
+    (subst (λ (cl : Cluster). Acts (changing g.K.Keeper.append_gives g.K.Renew.renew_gives) cl []
     (ticks_if test l.place (hosted_in l.self.guests)) (Err c.in_err-tick_at.field-0.0) before now)
     l.invariant.cluster c.in_err-tick_at.ensures.acts))
 
@@ -93,7 +94,7 @@ returns-clause-acts g c =
       length-map c.args.self.now.guests
           (hosted_of {K = g.row.K.Denot}),
     ) in
-    all_asked g.K.Keeper.append_gives c.args.self.now.cluster (is_meant c.args.whom c.args.care.now.marks)
+    all_asked (changing g.K.Keeper.append_gives g.K.Renew.renew_gives) c.args.self.now.cluster (is_meant c.args.whom c.args.care.now.marks)
     (below n) (numbers l.place (n - l.place))
     (scene_of g.L.Link g.W.Sink c.args.self.now c.args.link.now c.args.out.now)
     (scene_of g.L.Link g.W.Sink l.self l.link l.out) (ap (numbers l.place) none) l.invariant.acts l.invariant.ready

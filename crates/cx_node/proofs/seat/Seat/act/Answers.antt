@@ -1,7 +1,7 @@
 use Rattle.std.proofs.Common.{Option, ap, sym, ◌∙◌, rules, subst}
 use Rattle.std.specs.Prelude.{slice_get}
-use Rattle.cx_model.specs.World.{records_of}
 use Rattle.cx_node.specs.declared.guest.Guest.{Guest}
+use Rattle.cx_node.specs.Changing.{changes_of, changing}
 use Rattle.cx_node.specs.Guest.{FailsIn, KeeperFails, hosted_of, keeper_of, who}
 use Rattle.cx_node.specs.Hosted.{Step, does, given}
 use Rattle.cx_node.proofs.Acted.{given_is, sends_are, text_is}
@@ -10,7 +10,7 @@ use Rattle.cx_node.proofs.seat.Seat.act.Goals as goal
 
 pub returns-in_err-give-in-Give-clause-step : goal.returns-in_err-give-in-Give-clause-step
 returns-in_err-give-in-Give-clause-step g c =
-    let gives = g.K.Keeper.append_gives in
+    let gives = changing g.K.Keeper.append_gives g.K.Renew.renew_gives in
     let guest = c.self.inside.guest in
     let input = c.in-Give.input in
     let own = own_name c.self.inside.me guest c.args.self.now c.self.invariant c.self.view_is c.requires.live in
@@ -30,7 +30,7 @@ returns-in_err-give-in-Give-clause-step g c =
           let there = subst (λ (h : Guest _). KeeperFails gives
           (does (hosted_of c.args.self.now) c.args.what.now).kept h c.give.new.guest) shown here in
           subst (λ (o : Option _). FailsIn gives
-          (slice_get (records_of (who c.args.self.now) (does (hosted_of c.args.self.now) c.args.what.now).kept) 0)
+          (slice_get (changes_of (who c.args.self.now) (does (hosted_of c.args.self.now) c.args.what.now).kept) 0)
           (keeper_of c.args.self.now) o)
           (sym (keeper_named c.self.inside.me c.give.new.guest)) there;
     }

@@ -1,0 +1,27 @@
+use Rattle.std.proofs.Common.{◌≡◌, [], Err, ap, ◌∙◌, subst}
+use Rattle.std.proofs.lemmas.Result.{err_from_is_err_and}
+use Rattle.cx_base.specs.declared.cluster.Cluster.{Cluster}
+use Rattle.cx_node.specs.Acts.{Acts, scene_of}
+use Rattle.cx_node.specs.Changing.{changing}
+use Rattle.cx_node.specs.Guest.{hosted_in}
+use Rattle.cx_node.specs.Run.{snaps}
+use Rattle.cx_node.proofs.Tended.{tend_prepare_order, tend_prepare_snap}
+use Rattle.cx_node.proofs.node.Node.tend_prepare.Goals as goal
+
+pub returns-in_err-tend_order-clause-acts : goal.returns-in_err-tend_order-clause-acts
+returns-in_err-tend_order-clause-acts g c =
+    let p = err_from_is_err_and c.from_residual.result c.from_residual.ensures.1 in
+    let is : c.from_residual.result ≡ Err c.in_err-tend_order.field-0.0 = p.1 ∙ ap Err p.2 in
+    rw is (tend_prepare_order (changing g.K.Keeper.append_gives g.K.Renew.renew_gives) c.args.self.now.cluster c.args.n c.in_err-tend_order.field-0.0
+    (scene_of g.L.Link g.W.Sink c.args.self.now c.args.link.now c.args.out.now)
+    (scene_of g.L.Link g.W.Sink c.tend_order.new.self c.tend_order.new.link c.tend_order.new.out) c.in_err-tend_order.ensures.acts)
+
+pub returns-clause-acts : goal.returns-clause-acts
+returns-clause-acts g c =
+    let ordered = scene_of g.L.Link g.W.Sink c.tend_order.new.self c.tend_order.new.link c.tend_order.new.out in
+    let now = scene_of g.L.Link g.W.Sink c.snap.new.self c.snap.new.link c.snap.new.out in
+    tend_prepare_snap (changing g.K.Keeper.append_gives g.K.Renew.renew_gives) c.args.self.now.cluster c.args.n c.snap.result
+    (scene_of g.L.Link g.W.Sink c.args.self.now c.args.link.now c.args.out.now) ordered now c.in_ok-tend_order.ensures.acts
+    (subst (λ (cl : Cluster). Acts (changing g.K.Keeper.append_gives g.K.Renew.renew_gives) cl []
+    (snaps c.args.n (hosted_in c.tend_order.new.self.guests)) c.snap.result ordered now)
+    c.in_ok-tend_order.ensures.cluster c.snap.ensures.acts)

@@ -1,0 +1,10 @@
+//! Tests of nodes whose replica puts its list anew: what is kept, and what a disk that stops leaves.
+//!
+//! They need only public calls, so they are here and not in the crates that they test: a crate with tests is proved twice.
+//! Nothing builds on this crate.
+#![tactic(auto)]
+
+#[cfg(test)]
+mod hosting;
+#[cfg(test)]
+mod renewal_tests;
