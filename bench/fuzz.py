@@ -213,10 +213,22 @@ def gen_case(rng):
     return Case(words, b"", {})
 
 
+# An acceptor's journal, and a replica's file with a list that was written anew.
+WHOLE = [bytes.fromhex("010000000b010000000100000000000000"),
+         bytes.fromhex("04010100000016080000000000000001000000000000000100000001010100000006090101610131"
+                       "010000001d0a0000000000000000000001000000000000000100000000000000010000")]
+
+
 def store(rng):
     """A store's bytes: those of a small journal, changed, or any."""
-    whole = bytes.fromhex("010000000b010000000100000000000000")
-    return rng.choice([b"", b"\0", b"\1", whole, whole, changed(rng, whole), changed(rng, whole * 2), rng.randbytes(rng.randrange(64))])
+    whole = rng.choice(WHOLE)
+    return rng.choice([b"", b"\0", b"\1", b"\4", whole, whole, changed(rng, whole), changed(rng, whole * 2), rng.randbytes(rng.randrange(64))])
+
+
+def stores(rng, values):
+    """The files of a role; only a replica has another one."""
+    name = f"compax-{role(rng, values, STORED).replace(':', '-')}"
+    return {f"{name}.{ending}": store(rng) for ending in ("journal", "other") if rng.random() < 0.7}
 
 
 def node_words(rng, values):
@@ -237,10 +249,7 @@ def node_case(rng, shipped):
         data = rng.choice(shipped)
     if rng.random() < 0.5:
         data = changed(rng, data)
-    files = {}
-    if rng.random() < 0.3:
-        files = {f"compax-{role(rng, values, STORED).replace(':', '-')}.journal": store(rng)}
-    return Case(node_words(rng, values), data, files)
+    return Case(node_words(rng, values), data, stores(rng, values) if rng.random() < 0.3 else {})
 
 
 def make(seed, number, schedules, inputs):

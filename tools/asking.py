@@ -10,10 +10,9 @@ import time
 from collections.abc import Iterator, Sequence
 from dataclasses import dataclass
 
-from headers import Header, Role, Unusable, taken
+from headers import PORT_TAKEN, Header, Role, Unusable, taken
 
-PORT_TAKEN = 6                  # statuses, of a node and of the tools
-UNANSWERED = 8
+UNANSWERED = 8                  # a status, of a node and of the tools
 FIRST_WAIT = 1.0                # seconds until it is asked by another way; each further wait is twice as long
 TURNS_A_SECOND = 2000           # more than an idle node makes
 PAUSE = 0.1                     # seconds until a taken port is tried again

@@ -3,6 +3,7 @@
 import functools
 import os
 import pathlib
+import random
 import re
 import socket
 import tomllib
@@ -18,6 +19,8 @@ KEEPING = ("leader", "acceptor", "match", "replica")                    # the ki
 RANGES = {"f": (0, 3), "leaders": (1, 8), "proxies": (1, 16), "acceptors": (1, 64), "replicas": (1, 8), "batchers": (1, 8),
           "unbatchers": (1, 8), "readers": (1, 8), "clients": (1, 64), "batch": (1, 8), "base_port": (1024, 60000)}
 GRID_MOST = 16                  # acceptors in a grid
+PORTS = (25_000, 32_000)        # below those that systems hand out by themselves
+PORT_TAKEN = 6                  # the status of a node, and of the tools
 
 
 class Unusable(Exception):
@@ -49,6 +52,15 @@ def taken(port: int) -> str | None:
     return None
 
 
+def free_ports(count: int) -> int:
+    """The first of so many UDP ports in a row that are free just now."""
+    for _ in range(100):
+        first = random.randrange(PORTS[0], PORTS[1] - count)
+        if not any(taken(port) for port in range(first, first + count)):
+            return first
+    raise Unusable(f"no {count} free ports in a row were found from {PORTS[0]} on", PORT_TAKEN)
+
+
 @dataclass(frozen=True)
 class Role:
     kind: str
@@ -58,9 +70,10 @@ class Role:
         return f"{self.kind}:{self.index}"
 
     @property
-    def journal(self) -> str | None:
-        """The name of its file; None where it keeps nothing."""
-        return f"compax-{self.kind}-{self.index}.journal" if self.kind in KEEPING else None
+    def files(self) -> list[str]:
+        """The names of its files: of a replica two, of a role that keeps nothing none."""
+        endings = {"replica": ["journal", "other"]}.get(self.kind, ["journal"]) if self.kind in KEEPING else []
+        return [f"compax-{self.kind}-{self.index}.{ending}" for ending in endings]
 
 
 @dataclass(frozen=True)

@@ -3,13 +3,16 @@
 A journal is a list of records, then a closed gate. A record is its gate, the byte 1; a length of four bytes, 1 to 32,768; and so many
 bytes: a tag and the record's fields, numbers with the highest byte first. A closed gate is any other byte, 0 as a node writes it.
 Bytes of an append that was cut off may follow.
+
+A replica has two files, of which one is live: it has the records. The other takes the next list that is written anew. A file of at
+least three bytes, the first of them 4, has a generation, its second byte, and its records begin after that. Another one is plain.
 """
 
 import collections
 import os
 import pathlib
 import re
-from collections.abc import Callable, Iterator
+from collections.abc import Callable, Iterator, Sequence
 from dataclasses import dataclass, field
 from typing import BinaryIO
 
@@ -17,7 +20,8 @@ OPEN = b"\x01"
 LONGEST = 32_768                # bytes of a record
 MOST_SLOTS = 1 << 40
 GREATEST = (1 << 64) - 1
-NAME = re.compile(r"compax-(\w+)-(\d+)\.journal")
+GENERATIONS = 3                 # 1 comes after 0, 2 after 1, and 0 after 2
+NAME = re.compile(r"compax-(?:(\w+)-\d+\.journal|(replica)-\d+\.other)")
 LETTERS = frozenset(b"ABCDEFGHIJKLMNOPQRSTUVWXYZabcdefghijklmnopqrstuvwxyz0123456789_-.")
 
 
@@ -138,6 +142,40 @@ def round_and_grid(body: Body) -> str:
     return f"{round_of(body)} {grid_of(body)}"
 
 
+def base_of(body: Body) -> str:
+    """How a list that was written anew begins: its first slot, how many slots it held, and how many pairs and clients follow."""
+    first = body.number(8, "first slot", 0, MOST_SLOTS)
+    held = body.number(8, "number of slots", 0, MOST_SLOTS)
+    pairs = body.number(4, "number of pairs", 0, (1 << 32) - 1)
+    return f"first {first} held {held} pairs {pairs} clients {body.number(1, 'number of clients', 0, 255)}"
+
+
+def pairs_of(body: Body) -> str:
+    count = body.number(1, "number of pairs", 1, 255)
+    return " ".join(f"{text_of(body, 'key', 32)}={text_of(body, 'text', 64)}" for _ in range(count))
+
+
+def reply_of(body: Body) -> str:
+    reply = ("ok", "was", "none", "len", "full")[body.number(1, "reply", 0, 4)]
+    if reply == "was":
+        return f"was {text_of(body, 'text', 64)}"
+    return f"len {body.number(1, 'length', 1, 64)}" if reply == "len" else reply
+
+
+def note_of(body: Body) -> str:
+    """The answer to a command, as a client prints it."""
+    number = body.number(8, "command's number", 1, GREATEST)
+    return f"{number} at {body.number(8, 'number of slots', 1, MOST_SLOTS)} {reply_of(body)}"
+
+
+def notes_of(body: Body) -> str:
+    """A client's floor, and the answers to its commands above it."""
+    client = body.number(2, "client", 0, 0xFFFF)
+    floor = body.number(8, "floor", 0, GREATEST)
+    count = body.number(1, "number of notes", 1, 64)
+    return f"client:{client} floor {floor}: " + ", ".join(note_of(body) for _ in range(count))
+
+
 @dataclass(frozen=True)
 class Tag:
     """A kind of record, the role that has it, and what reads its fields."""
@@ -155,6 +193,10 @@ TAGS = {
     5: Tag("Garbage", "match", round_and_grid),
     6: Tag("Round", "leader", round_and_grid),
     7: Tag("Log", "replica", log_of),
+    8: Tag("Base", "replica", base_of),
+    9: Tag("Pairs", "replica", pairs_of),
+    10: Tag("Notes", "replica", notes_of),
+    11: Tag("Tail", "replica", log_of),
 }
 KINDS = tuple(dict.fromkeys(tag.kind for tag in TAGS.values()))     # of roles with a journal
 
@@ -164,7 +206,7 @@ class Frame:
     """A record as it lies in its file."""
 
     at: int                             # the place of its gate
-    slot: int                           # how many slots the records before it have, where they are those of a replica
+    slot: int                           # the first slot after the records before it, where they are those of a replica
     length: int
     payload: bytes
 
@@ -188,15 +230,19 @@ class Frame:
         return f"{tag.name} {self.slots_named()}{fields}"
 
     def slots_named(self) -> str:
-        """Which slots it adds to a replica's log."""
+        """Which slots it has values of."""
         count = self.slots()
         if not count:
             return ""
         return f"slot {self.slot}: " if count == 1 else f"slots {self.slot} to {self.slot + count - 1}: "
 
     def slots(self) -> int:
-        """How many slots it adds to a replica's log."""
-        return self.payload[1] if TAGS[self.payload[0]].name == "Log" and len(self.payload) > 1 else 0
+        """Of how many slots it has values."""
+        return self.payload[1] if TAGS[self.payload[0]].words is log_of and len(self.payload) > 1 else 0
+
+    def next_slot(self) -> int:
+        """The first slot after it."""
+        return int.from_bytes(self.payload[1:9], "big") if TAGS[self.payload[0]].words is base_of else self.slot + self.slots()
 
 
 class Journal:
@@ -206,28 +252,40 @@ class Journal:
         self.file = file
         self.kind = kind
         self.size = os.fstat(file.fileno()).st_size
+        self.front = file.read(3)
+        self.generation = self.front[1] if len(self.front) == 3 and self.front[0] == 4 and kind in (None, "replica") else None
+        self.beside: int | None = None  # the generation of the replica's other file
         self.closed = 0                 # the place of the closed gate, once all frames were read
 
     def frames(self) -> Iterator[Frame]:
         """Its records, unread; a break where there is no next one and no closed gate. The first tells the kind, where it isn't known."""
-        self.check_front()
-        at = slot = 0
+        fault = self.fault()
+        if fault:
+            raise fault
+        at, slot = 0 if self.generation is None else 2, 0
+        self.file.seek(at)
         while self.size > 1 and self.is_open(at):
             frame = self.frame(at, slot)
             self.kind = frame.tag(self.kind).kind
             yield frame
             at += 5 + frame.length
-            slot += frame.slots()
+            slot = frame.next_slot()
         self.closed = at
 
-    def check_front(self) -> None:
-        """Refuses what a node refuses to open: another first byte than 0 or 1, or more after a 0 than one append leaves."""
-        first = self.file.read(1)
-        self.file.seek(0)
-        if first > OPEN:
-            raise Break(0, f"the first byte is {first[0]}, and not 0 or 1")
-        if first == b"\x00" and self.size > 1 + 4 + LONGEST + 1:
-            raise Break(0, "the first byte is 0, and more than one record's bytes follow")
+    def fault(self) -> Break | None:
+        """Why a node refuses it by its front, if it does: by the first byte, by what follows a first byte 0, or by its generation. While
+        a replica's file is written anew it begins with 0, a generation and the gate of the first record."""
+        first = self.front[:1]
+        if first not in (b"\0\1\4" if self.kind in (None, "replica") else b"\0\1"):
+            return Break(0, f"no journal begins with the byte {first[0]}")
+        is_written = self.kind == "replica" and self.front[1:2] < bytes([GENERATIONS]) and self.front[2:] <= OPEN
+        if first == b"\0" and self.size > 1 + 4 + LONGEST + 1 and not is_written:
+            return Break(0, "the first byte is 0, and more than one record's bytes follow")
+        if self.generation is not None and self.generation >= GENERATIONS:
+            return Break(1, f"there is no generation {self.generation}")
+        if self.generation is not None and self.generation == self.beside:
+            return Break(1, f"generation {self.generation} is that of the other file too")
+        return None
 
     def is_open(self, at: int) -> bool:
         gate = self.file.read(1)
@@ -250,6 +308,20 @@ class Journal:
         return max(0, self.size - self.closed - 1)
 
 
+def live_of(journals: Sequence[Journal]) -> Journal:
+    """Of a role's one or two files the live one; where a node refuses them by their fronts, the first one that has a fault."""
+    if len(journals) == 1:
+        return journals[0]
+    first, second = journals
+    first.beside, second.beside = second.generation, first.generation
+    for journal in journals:
+        if journal.fault():
+            return journal
+    if first.generation is None or second.generation is None:
+        return first if second.generation is None else second
+    return second if second.generation == (first.generation + 1) % GENERATIONS else first
+
+
 @dataclass
 class Outline:
     """How many records of each kind a journal has, and the last one in words."""
@@ -266,7 +338,8 @@ class Outline:
 def kind_of(path: pathlib.Path) -> str | None:
     """The kind of role whose journal a file is by its name; None where its name is another."""
     found = NAME.fullmatch(path.name)
-    return found[1] if found and found[1] in KINDS else None
+    kind = found and (found[1] or found[2])
+    return kind if kind in KINDS else None
 
 
 def outlined(journal: Journal) -> tuple[Outline, Break | None]:

@@ -1,16 +1,20 @@
 """Tests of what real sockets and files get and give: nodes of one role or two, and plain sockets of this test in the place of the others."""
 
 import contextlib
+import os
 import pathlib
 import re
+import signal
 import socket
 import subprocess
 from collections.abc import Iterator
 
+import workloads
 from headers import KINDS, Role, program
-from trials import LONGEST, Trial
+from trials import LONGEST, Trial, until
 
-CLIENT, BATCHER, UNBATCHER, LEADER = (Role(kind, 0) for kind in ("client", "batcher", "unbatcher", "leader"))
+CLIENT, BATCHER, UNBATCHER, LEADER, PROXY, REPLICA = (
+    Role(kind, 0) for kind in ("client", "batcher", "unbatcher", "leader", "proxy", "replica"))
 ACCEPTORS = [Role("acceptor", index) for index in range(2)]
 HEADER = "f = 0\nleaders = 1\nproxies = 1\nacceptors = 2\nreplicas = 1\nbatchers = 1\nunbatchers = 1\nreaders = 1\nclients = 1\nbatch = 1\n"
 WRITE = "write client:0 1 batcher:0 put a 1\n"
@@ -20,10 +24,9 @@ FIRST, SECOND = (bytes.fromhex(it) for it in ("00000001" "0000" "00000000", "000
 LOOPBACK = "0100007F"                   # as /proc/net/udp writes 127.0.0.1
 
 
-def datagram(kind: int, sender: Role, receiver: Role, body: bytes) -> bytes:
-    """A datagram of version 1."""
+def datagram(kind: int, sender: Role, receiver: Role, body: bytes, version: int = 1) -> bytes:
     ends = b"".join(bytes([KINDS.index(role.kind) + 1]) + role.index.to_bytes(2, "big") for role in (sender, receiver))
-    return b"CX\x01" + bytes([kind]) + ends + len(body).to_bytes(2, "big") + body
+    return b"CX" + bytes([version, kind]) + ends + len(body).to_bytes(2, "big") + body
 
 
 def journal(*payloads: bytes) -> bytes:
@@ -66,14 +69,22 @@ class AdaptersTest(Trial):
         it.settimeout(0.2)
         for _ in range(int(LONGEST / 0.2)):
             with contextlib.suppress(OSError):
-                it.sendto(datagram(kind, LEADER, acceptor, body), ("127.0.0.1", self.port(acceptor)))
+                self.send(it, acceptor, datagram(kind, LEADER, acceptor, body))
                 answer, sender = it.recvfrom(65_536)
                 self.assertEqual(sender, ("127.0.0.1", self.port(acceptor)))
                 return answer
         raise AssertionError(f"{acceptor} does not answer")
 
-    def file_of(self, acceptor: Role) -> pathlib.Path:
-        return self.room / f"compax-acceptor-{acceptor.index}.journal"
+    def file_of(self, role: Role) -> pathlib.Path:
+        return self.room / f"compax-{role.kind}-{role.index}.journal"
+
+    def bound(self, role: Role) -> list[str]:
+        """The addresses at which some process has the port of a role."""
+        places = re.findall(r"^ *\d+: (\w+):(\w{4}) ", pathlib.Path("/proc/net/udp").read_text(), re.MULTILINE)
+        return [address for address, port in places if int(port, 16) == self.port(role)]
+
+    def send(self, it: socket.socket, receiver: Role, sent: bytes) -> None:
+        it.sendto(sent, ("127.0.0.1", self.port(receiver)))
 
     def test_a_datagram_goes_out_and_one_comes_in(self) -> None:
         with self.plain(BATCHER) as batcher, self.node(CLIENT, lines=WRITE) as node:
@@ -85,8 +96,23 @@ class AdaptersTest(Trial):
     def test_ports_are_of_the_loopback_alone(self) -> None:
         with self.plain(BATCHER) as batcher, self.node(CLIENT, lines=WRITE):
             batcher.recv(65_536)
-            bound = re.findall(r"^ *\d+: (\w+):(\w{4}) ", pathlib.Path("/proc/net/udp").read_text(), re.MULTILINE)
-        self.assertEqual([place for place, port in bound if int(port, 16) == self.port(CLIENT)], [LOOPBACK])
+            self.assertEqual(self.bound(CLIENT), [LOOPBACK])
+
+    def test_sockets_are_asked_in_turn(self) -> None:
+        """What waits at one port doesn't keep the others waiting."""
+        one, two = ACCEPTORS
+        with self.plain(LEADER) as leader, self.node(*ACCEPTORS) as node:
+            for acceptor in ACCEPTORS:
+                self.asked(leader, 7, acceptor, FIRST)
+            node.send_signal(signal.SIGSTOP)
+            os.waitid(os.P_PID, node.pid, os.WSTOPPED)
+            for acceptor in (one, one, one, two):
+                self.send(leader, acceptor, datagram(7, LEADER, acceptor, SECOND))
+            node.send_signal(signal.SIGCONT)
+            leader.settimeout(LONGEST)
+            wanted = {datagram(8, acceptor, LEADER, SECOND + bytes(9)): acceptor for acceptor in ACCEPTORS}
+            answered = (wanted[got] for got in iter(lambda: leader.recv(65_536), b"") if got in wanted)
+            self.assertEqual({next(answered), next(answered)}, {one, two})
 
     def test_files_hold_what_their_roles_keep(self) -> None:
         one, two = ACCEPTORS
@@ -99,3 +125,14 @@ class AdaptersTest(Trial):
             with self.node(two):
                 self.assertEqual(self.asked(leader, 7, two, FIRST), datagram(9, two, LEADER, FIRST + SECOND))
             self.assertEqual(self.file_of(two).read_bytes(), journal(b"\1" + SECOND))
+
+    def test_the_longest_record_is_kept(self) -> None:
+        """A replica keeps a whole window of the greatest values at once, when that of the first slot comes last."""
+        values = [workloads.told_value_at(slot + 1) for slot in range(32)]
+        with self.plain(UNBATCHER) as unbatcher, self.plain(PROXY) as proxy, self.node(REPLICA):
+            until(lambda: self.bound(REPLICA) == [LOOPBACK], "the replica has its port")
+            for slot in reversed(range(32)):
+                self.send(proxy, REPLICA, datagram(13, PROXY, REPLICA, slot.to_bytes(8, "big") + values[slot], version=2))
+            unbatcher.recv(65_536)
+        record = b"\7\x20" + b"".join(values)
+        self.assertEqual((len(record), self.file_of(REPLICA).read_bytes()), (30_018, journal(record)))

@@ -260,6 +260,9 @@ class FoldersTest(ClusterTrial):
         shutil.move(self.journal("acceptor:2"), self.room / "away")
         self.refused("compax-acceptor-2.journal is missing: its role must not forget")
         shutil.move(self.room / "away", self.folder / "2" / "compax-acceptor-2.journal")
+        shutil.move(self.folder / "2" / "compax-replica-1.other", self.room / "away")
+        self.refused("compax-replica-1.other is missing: its role must not forget")
+        shutil.move(self.room / "away", self.folder / "2" / "compax-replica-1.other")
         (self.room / "all").mkdir()
         for journal in list((self.folder / "3").glob("*.journal")):
             shutil.move(journal, self.room / "all")
@@ -311,7 +314,7 @@ class SupervisorTest(ClusterTrial):
         status, text = self.status()
         self.assertEqual(status, 0, text)
         for line in (r"^process 0 runs since .*, pid \d+$", r"^  acceptor:0: \d+ records: .* Vote; [\d,]+ bytes; last ", r"^a write was answered in ",
-                     r"^  replica:0: \d+ records: \d+ Log; .* put a 1$", r"^  batcher:0 proxy:0 unbatcher:0 reader:0$"):
+                     r"^  replica:0: \d+ records: .*; [\d,]+ bytes; last ", r"^  batcher:0 proxy:0 unbatcher:0 reader:0$"):
             self.assertRegex(text, re.compile(line, re.MULTILINE))
         started = [self.state().supervisor, self.node()]
         self.assertIn("down: 1 process ended", self.passes("cluster", "down", self.file))

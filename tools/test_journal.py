@@ -1,4 +1,6 @@
-"""Tests of tools/journal: the words of each record, and where a file is no journal."""
+"""Tests of tools/journal: the words of each record, where a file is no journal, and which of a replica's two files is live.
+
+$COMPAX may name the program."""
 
 import io
 import pathlib
@@ -8,8 +10,9 @@ import sys
 import tempfile
 import unittest
 
+from headers import Role, program
 from journals import Break, Journal
-from trials import TOOLS, run
+from trials import LONGEST, SMALL, TOOLS, Trial, run
 
 RUNS = TOOLS.parent / "crates/compax/runs"
 # Of these stored runs the node refuses a record that can be read, but that the role could not have appended.
@@ -25,6 +28,44 @@ APPEND = bytes.fromhex("003f" "0000000000000001" "03" "0161" "015f")
 
 def number(value: int) -> bytes:
     return value.to_bytes(8, "big")
+
+
+# A replica's two files from an old journal on: after a snap, a Log with a command, one with a no-op, a snap; a Log, and a snap. These bytes were
+# worked out from the description of the format, and not by the program.
+PUT_A = "01 00000013 07 01 01 01 0000 0000000000000001 01 0161 0131"
+BASE, PAIRS = "01 00000016 08 0000000000000001 0000000000000001 00000001 01", "01 00000006 09 01 0161 0131"
+NOTES = "01 0000001d 0a 0000 0000000000000000 01 0000000000000001 0000000000000001 00"
+FIRST = f"04 01 {BASE} {PAIRS} {NOTES}"
+APP_A, NOOP = "01 00000013 07 01 01 01 0000 0000000000000002 03 0161 0178", "01 00000003 07 01 00"
+SECOND = "04 02 01 00000016 08 0000000000000003 0000000000000003 00000001 01 01 00000007 09 01 0161 023178" \
+         " 01 0000001e 0a 0000 0000000000000001 01 0000000000000002 0000000000000002 0302"
+DEL_A = "01 00000011 07 01 01 01 0000 0000000000000003 02 0161"
+THIRD = "04 00 01 00000016 08 0000000000000004 0000000000000004 00000000 01" \
+        " 01 00000020 0a 0000 0000000000000002 01 0000000000000003 0000000000000004 01 023178"
+OF_FIRST = ["2 Base first 1 held 1 pairs 1 clients 1", "29 Pairs a=1", "40 Notes client:0 floor 0: 1 at 1 ok"]
+OF_SECOND = ["2 Base first 3 held 3 pairs 1 clients 1", "29 Pairs a=1x", "41 Notes client:0 floor 1: 2 at 2 len 2"]
+OF_THIRD = ["2 Base first 4 held 4 pairs 0 clients 1", "29 Notes client:0 floor 2: 3 at 4 was 1x"]
+RENEWALS = [
+    (f"{PUT_A} 00", "", 0, ["0 Log slot 0: client:0 1 put a 1", "24 closed"]),
+    (f"{PUT_A} 00", f"{FIRST} 00", 1, [*OF_FIRST, "74 closed"]),
+    (f"{PUT_A} 00", f"{FIRST} {APP_A} 00", 1, [*OF_FIRST, "74 Log slot 1: client:0 2 app a x", "98 closed"]),
+    (f"{PUT_A} 00", f"{FIRST} {APP_A} {NOOP} 00", 1, [*OF_FIRST, "74 Log slot 1: client:0 2 app a x", "98 Log slot 2: noop", "106 closed"]),
+    (f"{SECOND} 00", f"{FIRST} {APP_A} {NOOP} 00", 0, [*OF_SECOND, "76 closed"]),
+    (f"{SECOND} {DEL_A} 00", f"{THIRD} 00", 1, [*OF_THIRD, "66 closed"]),
+]
+# The records of lists that no replica wrote, and the record that a node refuses, or the end.
+REFUSED = [(f"{BASE}", 29), (f"{BASE} {PAIRS}", 40), (f"{BASE} {PAIRS} {NOOP}", 40), (f"{NOOP} {BASE} {PAIRS} {NOTES}", 10),
+           (f"{BASE} {PAIRS} {NOTES} {BASE}", 74), (f"{BASE} {PAIRS} {PAIRS} {NOTES}", 40)]
+# Two files, which one is live, how many records it has; or the byte at which they are none, and what is said of it.
+OPENINGS = [
+    ("", "", 0, 0), ("04", "0401", 0, 0), ("01", "", 0, 0), ("0405", "", 0, 0), ("00", "040000", 1, 0), ("040000", "", 0, 0),
+    ("040000", "040100", 1, 0), ("040100", "040200", 1, 0), ("040000", "040200", 0, 0), ("040000000307010000", "", 0, 0),
+    ("010000000307010000", "01", 0, 1), ("010000000307010000", "0103", 0, 1), ("010000000307010000", "040000", 1, 0),
+]
+BROKEN = [
+    ("040300", "", 1, "generation 3"), ("", "040300", 1, "generation 3"), ("0401", "040500", 1, "generation 5"), ("040300", "040500", 1, "generation 3"),
+    ("040200", "040200", 1, "generation 2"), ("040001", "", 3, "ends"), ("0400010000", "", 5, "ends"), ("0102", "", 2, "ends"),
+]
 
 
 def journal(*payloads: bytes) -> bytes:
@@ -87,6 +128,7 @@ class JournalTest(unittest.TestCase):
             "compax-leader-0.journal": ["0 Round round 1.0.0 grid 1x1 0", "20 closed"],
             "compax-match-0.journal": ["0 Match round 1.0.0 grid 1x1 0", "20 closed"],
             "compax-replica-0.journal": ["0 Log slot 0: client:0 1 put a 1", "24 closed"],
+            "compax-replica-0.other": ["0 closed"],
         })
 
     def test_breaks_are_those_of_the_node(self) -> None:
@@ -114,8 +156,8 @@ class JournalTest(unittest.TestCase):
 
     def test_an_append_that_was_cut(self) -> None:
         data = journal(b"\1" + ROUND)
-        self.assertEqual(self.read(data + bytes(9))[1], ["0 Promise round 1.0.0", "16 closed, and 9 bytes of an append that was cut off"])
-        self.assertEqual(self.read(b"\0" + journal(b"\1" + ROUND)[1:])[1], ["0 closed, and 16 bytes of an append that was cut off"])
+        self.assertEqual(self.read(data + bytes(9))[1], ["0 Promise round 1.0.0", "16 closed, and 9 bytes of a change that was cut off"])
+        self.assertEqual(self.read(b"\0" + journal(b"\1" + ROUND)[1:])[1], ["0 closed, and 16 bytes of a change that was cut off"])
         self.assertEqual(self.read(data[:-1] + b"\7")[1], ["0 Promise round 1.0.0", "16 closed"])
 
     def test_a_journal_without_records(self) -> None:
@@ -147,7 +189,8 @@ class JournalTest(unittest.TestCase):
                 self.breaks(journal(payload + bytes(40)), at, [])
 
     def test_what_can_not_be_read(self) -> None:
-        bad: list[list[object]] = [[self.room], [self.room / "none"], [], [self.room, "more"], ["--kind", "proxy", self.room]]
+        bad: list[list[object]] = [[self.room], [self.room / "none"], [], [self.room, "more", "most"], [self.room / "none", self.room],
+                                   ["--kind", "proxy", self.room]]
         for words in bad:
             status, out, said = run("journal", *words)
             self.assertEqual((status, out), (2, ""), words)
@@ -162,6 +205,117 @@ class JournalTest(unittest.TestCase):
             ran.stdout.readline()
             ran.stdout.close()
             self.assertEqual((ran.stderr.read(), ran.wait()), (b"", 0))
+
+    def both(self, first: str, second: str, *words: str) -> tuple[int, list[str], str]:
+        """The status, the lines but for the folder, and what is said of a replica's two files, whose bytes are given in hexadecimal."""
+        files = [self.room / f"compax-replica-0.{name}" for name in ("journal", "other")]
+        for file, data in zip(files, (first, second)):
+            file.write_bytes(bytes.fromhex(data))
+        status, out, said = run("journal", *files, *words)
+        return status, out.replace(f"{self.room}/compax-replica-0.", "").splitlines(), said
+
+    def test_renewals(self) -> None:
+        for first, second, live, lines in RENEWALS:
+            with self.subTest(lines=lines):
+                status, out, said = self.both(first, second)
+                self.assertEqual((status, out[2:], said), (0, lines, ""))
+                self.assertEqual([line.endswith(", live") for line in out[:2]], [live == 0, live == 1])
+        self.assertEqual(self.both(*RENEWALS[1][:2])[1][:2], ["journal: plain", "other: generation 1, live"])
+        self.assertEqual(self.both(*RENEWALS[5][:2])[1][:2], ["journal: generation 2", "other: generation 0, live"])
+        self.assertEqual(self.both(*RENEWALS[3][:2], "--count")[1][2:], ["5 records: 1 Base, 1 Pairs, 1 Notes, 2 Log"])
+
+    def test_openings(self) -> None:
+        for first, second, live, records in OPENINGS:
+            with self.subTest(first=first, second=second):
+                status, out, said = self.both(first, second)
+                self.assertEqual((status, len(out) - 3, said), (0, records, ""))
+                self.assertEqual([line.endswith(", live") for line in out[:2]], [live == 0, live == 1])
+        for first, second, at, why in BROKEN:
+            with self.subTest(first=first, second=second):
+                status, out, said = self.both(first, second)
+                self.assertEqual((status, len(out)), (1, 2))
+                self.assertRegex(said, rf"is not a journal from byte {at}: .*{why}")
+
+    def test_one_file_of_a_replica(self) -> None:
+        renewed = bytes.fromhex(f"{FIRST} 00")
+        for name in ("compax-replica-0.other", "compax-replica-7.journal", "a"):
+            self.assertEqual(self.read(renewed, name=name)[:2], (0, ["generation 1", *OF_FIRST, "74 closed"]))
+        self.breaks(renewed, 0, [], name="compax-acceptor-0.journal")
+        self.breaks(b"\4\3\0", 1, ["generation 3"], name="compax-replica-0.other")
+        being_written = b"\0" + renewed[1:-1] + bytes(1 + 4 + 32_768)
+        self.assertEqual(self.read(being_written, name="compax-replica-0.other")[1],
+                         [f"0 closed, and {len(being_written) - 1} bytes of a change that was cut off"])
+        self.breaks(being_written, 0, [], name="compax-leader-0.journal")
+        for front in (b"\0\3\1", b"\0\1\2"):
+            self.breaks(front + being_written[3:], 0, [], name="compax-replica-0.other")
+
+    def test_a_long_list(self) -> None:
+        """256 keys, and the values of the last 33 slots: more than one record of pairs has, and one of the tail."""
+        values = [b"\1\1\0\0" + number(at + 1) + b"\1\4" + b"k%03d" % at + b"\1v" for at in range(256)]
+        pairs = [b"\4" + b"k%03d" % at + b"\1v" for at in range(256)]
+        notes = b"\x0a" + bytes(2) + number(255) + b"\1" + number(256) + number(256) + b"\0"
+        records = [b"\x08" + number(223) + number(256) + b"\0\0\1\0\1", b"\x09\xff" + b"".join(pairs[:255]), b"\x09\1" + pairs[255], notes,
+                   b"\x0b\x20" + b"".join(values[223:255]), b"\x0b\1" + values[255]]
+        self.assertEqual([len(record) for record in records], [22, 1787, 9, 29, 642, 22])
+        _, out, _ = self.read(b"\4\2" + journal(*records, b"\7\1\0"), name="compax-replica-0.other")
+        self.assertEqual([" ".join(line.split()[1:5]) for line in out[1:-1]],
+                         ["Base first 223 held", "Pairs k000=v k001=v k002=v", "Pairs k255=v", "Notes client:0 floor 255:",
+                          "Tail slots 223 to", "Tail slot 255: client:0", "Log slot 256: noop"])
+        self.assertTrue(out[5].endswith(" 254: " + " | ".join(f"client:0 {at + 1} put k{at:03} v" for at in range(223, 255))))
+
+    def test_fields_of_a_list_out_of_range(self) -> None:
+        note = b"\x0a\0\5" + number(0) + b"\1"
+        for payload, at in [(b"\x08" + number((1 << 40) + 1) + number(0) + bytes(5), 8), (b"\x08" + number(1) + number((1 << 40) + 1) + bytes(5), 16),
+                            (b"\x08" + number(1) + number(1) + bytes(3), 24), (b"\x08" + number(1) + number(1) + bytes(6), 29), (b"\x09\0", 8),
+                            (b"\x09\1\1a\0", 11), (b"\x09\1\1a\x41", 11), (b"\x09\1\x21", 9), (b"\x09\1\1 \1a", 10), (note[:-1] + b"\0", 18),
+                            (note[:-1] + b"\x41", 18), (note + number(0), 19), (note + number(1) + number(0), 27),
+                            (note + number(1) + number((1 << 40) + 1), 27), (note + number(1) + number(1) + b"\5", 35),
+                            (note + number(1) + number(1) + b"\3\0", 36), (note + number(1) + number(1) + b"\3\x41", 36),
+                            (note + number(1) + number(1) + b"\1\x41", 36), (b"\x0b\0", 8), (b"\x0b\x21", 8), (b"\x0b\1\2", 9), (b"\x0c", 7)]:
+            with self.subTest(payload=payload.hex()):
+                self.breaks(b"\4\1" + journal(payload), at, ["generation 1"])
+        note += number(1) + number(1)
+        _, out, _ = self.read(b"\4\1" + journal(note + b"\2", note + b"\4"))
+        self.assertEqual(out[1:3], ["2 Notes client:5 floor 0: 1 at 1 none", "36 Notes client:5 floor 0: 1 at 1 full"])
+
+
+class NodeTest(Trial):
+    """What a node says of a replica's two files is what tools/journal says, and it writes the bytes that were worked out."""
+
+    def setUp(self) -> None:
+        super().setUp()
+        self.header = self.new(SMALL)
+        self.files = [self.room / name for name in Role("replica", 0).files]
+
+    def node(self, turns: int) -> tuple[int, str]:
+        """The status, and what is said."""
+        words = [program(), "node", "--turns", str(turns), "replica:0"]
+        ran = subprocess.run(words, cwd=self.room, input=self.header.input, capture_output=True, text=True, timeout=LONGEST)
+        self.assertEqual(ran.stdout, "")
+        return ran.returncode, ran.stderr
+
+    def lay(self, *data: str) -> None:
+        for file, each in zip(self.files, data):
+            file.write_bytes(bytes.fromhex(each))
+
+    def test_openings(self) -> None:
+        for first, second, *_ in OPENINGS:
+            self.lay(first, second)
+            self.assertEqual(self.node(1), (0, ""), (first, second))
+        for first, second, at, _ in BROKEN:
+            self.lay(first, second)
+            self.assertEqual(self.node(1), (10, f"bad store: replica:0 at {at}\n"))
+
+    def test_lists_that_no_replica_wrote(self) -> None:
+        for records, at in REFUSED:
+            self.lay("", f"04 01 {records} 00")
+            self.assertEqual(self.node(1), (10, f"bad store: replica:0 at {at}\n"))
+            self.assertEqual(run("journal", *self.files)[0], 0)
+
+    def test_a_snap(self) -> None:
+        self.lay(PUT_A + "00")
+        self.assertEqual(self.node(4096), (0, ""))
+        self.assertEqual([file.read_bytes().hex() for file in self.files], [bytes.fromhex(each).hex() for each in RENEWALS[1][:2]])
 
 
 if __name__ == "__main__":

@@ -53,9 +53,9 @@ class WorkloadsTest(unittest.TestCase):
         self.assertEqual([len(pair.partition("=")[2]) for pair in trace.held["replica:0"]], [60] * 70)
 
     def test_batches(self) -> None:
-        trace = Trace("batches", LED + 2 * 170)
-        self.has(trace, sent=128, batched=16, proposed=16, chosen=16, applied=16, unbatched=0, resent=2, held=7 * 16 + 2)
-        self.assertEqual(len(trace.held["replica:0"]), 128)
+        trace = Trace("batches", LED + 2 * 170 + 2)
+        self.has(trace, sent=128, batched=16, proposed=16, chosen=16, applied=16, unbatched=0, resent=2, held=7 * 16 + 2, kept=1, opened=1)
+        self.assertEqual([len(pair) for pair in trace.held["replica:0"]], [32 + 1 + 64] * 128)
 
     def test_reads(self) -> None:
         trace = Trace("reads", LED + 3 * (10 + 9 * 7))
@@ -124,6 +124,23 @@ class WorkloadsTest(unittest.TestCase):
         self.has_puts(trace, 9)
         self.has(trace, started=10, matched=1, leads=2)
         self.assertEqual(Counter(name for name, _ in trace.sent)["MatchA"], 10)
+
+    def test_leads(self) -> None:
+        self.has(Trace("leads", 12), started=10, crashed=1, opened=1)
+
+    def test_resends(self) -> None:
+        trace = Trace("resends", LED + 2 + 2 * 32 + 3)
+        self.has(trace, proposed=32, asking=32, resent=3)
+        self.assertEqual(Counter(name for name, _ in trace.sent)["Phase2A"], 32 + 3 * 512)
+
+    def test_promises(self) -> None:
+        trace = Trace("promises", LED + 2 * 8 + 3 * 32 + 3 + 4)
+        self.has(trace, voted=32, phase1=1, promised=1, same=3)
+        self.assertEqual([len(body) // 2 for name, body in trace.sent if name == "Phase1B"], [30_611] * 4)
+
+    def test_padded(self) -> None:
+        self.has(Trace("padded", 3), sent=3)
+        self.assertEqual([len(line) for line in workloads.written("padded", 3).split(b"\n")[-4:]], [1024, 1024, 1024, 0])
 
 
 if __name__ == "__main__":

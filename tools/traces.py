@@ -3,7 +3,7 @@
 import re
 from dataclasses import dataclass, field
 
-EVENT = re.compile(r"@(\d+) ([a-z]+)(?: (\d+))?(?: ([a-z]+:\d+))?(?: (\d+))? ([a-z0-9]+)")
+EVENT = re.compile(r"@(\d+) ([a-z]+)(?: (\d+))?(?: ([a-z]+:\d+))?(?: (\d+(?:/\d+)?))? ([a-z0-9]+)")
 DATAGRAM = re.compile(r"\+(\d+) ([a-z]+:\d+) ([a-z]+:\d+) (\w+) ?([0-9a-f]*)")
 ANSWER = re.compile(r"(?:answer|read) client:\d+ .*")
 SUMMARY = re.compile(r"chosen \d+")

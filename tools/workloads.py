@@ -9,7 +9,8 @@ Schedules of SIZE lines after the header:
     changes     puts, with four acceptors; after each fourth the leader changes its grid and retires the round before
     ticks       a proxy leader ticks that waits for nothing
     keys        puts of long values, each to a key of its own, in an order that is not theirs
-    batches     the same with short values, by 64 clients at once in batches of eight: a key in less than three lines
+    batches     by 64 clients at once in batches of eight: a key in less than three lines, with keys, texts and floors as long and as low as
+                may be; in the last two lines the replica forgets what it may and dies of it, and is opened again
     folds       puts of 64 clients in turn; after each twentieth the replica crashes and is opened again
     wide        f = 3, a grid of 4x4 among 64 acceptors, batches of eight: 64 puts at once are carried to their answers, and so on
     lagging     f = 1: of twenty puts one replica hears nothing, then it asks the other for each value, and so on
@@ -21,13 +22,18 @@ Schedules of SIZE lines after the header:
     restarts    half of the lines are puts that are carried to their answers; in the others the replica crashes and is opened again
     revotes     the same with the acceptor
     rounds      in a tenth of the lines a round is begun, of which only the last is carried on; then puts
+    leads       a round is begun in each line, but for the last two, in which its leader crashes and is opened again
+    resends     a proxy leader asks for a whole window of values, again and again: 16 acceptors for each
+    promises    an acceptor that has votes for a whole window tells them over and over, each for a value of the greatest size
 
 Schedules of another form:
 
-    log         a log of SIZE values; then the roles with records crash and are opened again, ten times, and a put is answered
+    log         a log of SIZE values, an even number; then the roles with records crash and are opened again, ten times; the replica forgets the
+                first value alone and dies of it, and is opened again; and a put is answered
     header      a header of SIZE bytes, and nothing else
     line        one event, in a line of SIZE bytes
     requests    SIZE puts of one client, for a node
+    padded      the same, each in a line of 1,024 bytes
 
 Journals of a cluster of one of each role in which the first SIZE slots are chosen, with one command each:
 
@@ -149,13 +155,19 @@ def batches():
     for turn in itertools.count():
         n = 3 + 121 * turn
         for at in range(64):
-            yield f"write client:{at} {turn + 1} batcher:0 put key-{(64 * turn + at) * 7919 % 100003} v{at % 10}"
+            key = f"key-{(64 * turn + at) * 7919 % 100003}".ljust(32, "-")
+            yield f"write client:{at} {turn + 1}/{max(0, turn - 63)} batcher:0 put {key} {f'v{at}'.ljust(64, 'v')}"
         yield from delivered(*range(n, n + 96), *range(n + 96, n + 112, 2))
         yield from ["tick replica:0", *delivered(n + 120)]
 
 
 def restarted(role):
     return [f"crash {role}", f"restart {role}"]
+
+
+def snapped(size):
+    yield from itertools.islice(batches(), size - 2)
+    yield from ["snap replica:0 kept", "restart replica:0"]
 
 
 def folds():
@@ -272,21 +284,47 @@ def rounds(size):
         yield from carried(begun + 2 + 10 * at, put(at))
 
 
+def leads(size):
+    yield from itertools.repeat("lead leader:0 1x1 0", size - 2)
+    yield from restarted("leader:0")
+
+
+def resends():
+    """The one Batch, datagram 4, is delivered for each slot; the Propose after it go to a column each, which has one acceptor."""
+    yield from led("1x16 " + ",".join(map(str, range(16))))
+    yield from [put(0), *delivered(3, *[4] * 32, *range(5, 37))]
+    yield from itertools.repeat("tick proxy:0")
+
+
+def promises():
+    """The one Batch, datagram 11, is delivered for each slot, then its Propose and Phase2A. The second leader's Phase1A is datagram 110."""
+    yield from led()
+    last = 2**64 - 1
+    yield from (f"write client:{at} {last}/{last - 64} batcher:0 put {f'key-{at}'.ljust(32, '-')} {'v' * 64}" for at in range(8))
+    yield from delivered(*range(3, 11))
+    for n in range(12, 12 + 3 * 32, 3):
+        yield from delivered(11, n, n + 1)
+    yield from ["lead leader:1 1x1 0", *delivered(108, 109)]
+    yield from itertools.repeat("deliver 110")
+
+
 def log(size):
-    """The one Batch, datagram 4, is delivered for each slot. Then come Propose, Phase2A, Phase2B, Chosen, ChosenIn and Results; at
-    each sixteenth slot the leader is told how many the replica has."""
+    """The one Batch, datagram 4, is delivered for each slot. Then come Propose, Phase2A, Phase2B, Chosen for each replica, ChosenIn, and
+    Results where the slot is even; at each sixteenth slot Held and Fetch. The second replica holds the first value, and asks for the next."""
     yield from [*led(), put(0), *delivered(3)]
     n = 5
     for slot in range(size):
         yield from delivered(4, n, n + 1, n + 2, n + 3)
-        n += 6
+        n += 7 if slot % 2 == 0 else 6
         if slot % 16 == 15 or slot == size - 1:
             yield from ["tick replica:0", *delivered(n)]
-            n += 1
+            n += 2
     for _ in range(10):
         for role in ("acceptor:0", "match:0", "replica:0"):
             yield from restarted(role)
-    yield from carried(n, put(1))
+    yield from [*delivered(9), "tick replica:1", *delivered(n + 1), "snap replica:0 kept", "restart replica:0"]
+    n += 3
+    yield from [put(1), *delivered(*range(n, n + 6), n + 8)]
 
 
 def long_header(size):
@@ -300,8 +338,14 @@ def long_line(size):
     return [*header(), "deliver ".ljust(size, "0")]
 
 
-def requests(size):
-    return [*header()[:-1], "base_port = 23890", "---", *map(put, range(size))]
+def with_port(lines):
+    return [*header()[:-1], "base_port = 23890", "---", *lines]
+
+
+def padded(at):
+    """The number has as many zeros before it as the line has room for."""
+    before, after = "write client:0 ", " batcher:0 put a 1"
+    return before + f"{at + 1}".rjust(1024 - len(before + after), "0") + after
 
 
 def cut(size, lines, **counts):
@@ -318,7 +362,7 @@ SCHEDULES = {
     "changes": lambda size: cut(size, changes(), acceptors=4),
     "ticks": lambda size: cut(size, ticks()),
     "keys": lambda size: cut(size, keys()),
-    "batches": lambda size: cut(size, batches(), clients=64, batch=8),
+    "batches": lambda size: cut(size, snapped(size), clients=64, batch=8),
     "folds": lambda size: cut(size, folds(), clients=64),
     "wide": lambda size: cut(size, wide(), **WIDE),
     "lagging": lambda size: cut(size, lagging(), f=1, replicas=2),
@@ -329,10 +373,14 @@ SCHEDULES = {
     "restarts": lambda size: cut(size, crashing(size, "replica:0")),
     "revotes": lambda size: cut(size, crashing(size, "acceptor:0")),
     "rounds": lambda size: cut(size, rounds(size), acceptors=16),
-    "log": lambda size: [*header(), *log(size)],
+    "leads": lambda size: cut(size, leads(size)),
+    "resends": lambda size: cut(size, resends(), acceptors=16),
+    "promises": lambda size: cut(size, promises(), leaders=2, clients=8, batch=8),
+    "log": lambda size: [*header(replicas=2), *log(size)],
     "header": long_header,
     "line": long_line,
-    "requests": requests,
+    "requests": lambda size: with_port(map(put, range(size))),
+    "padded": lambda size: with_port(map(padded, range(size))),
 }
 
 ROUND = struct.pack(">IHI", 1, 0, 0)

@@ -1,0 +1,48 @@
+"""Tests of tools/snaps: what its schedules are made for happens, and a reference that says something else is told apart."""
+
+import pathlib
+import shlex
+import tempfile
+import unittest
+
+from headers import program
+from trials import MEMORY, run, tool_of
+
+BEHIND = ["applied", "fetched", "opened", "past"]
+WORDS = ["down", "idle", "kept", "snapped", "torn"]
+
+
+class SnapsTest(unittest.TestCase):
+    def setUp(self) -> None:
+        self.room = pathlib.Path(self.enterContext(tempfile.TemporaryDirectory(prefix="compax-snaps-", dir=MEMORY)))
+
+    def compared(self, script: str, *words: object) -> tuple[int, list[str]]:
+        """The status and the lines for a reference that hands what the program does to a shell's commands."""
+        reference = self.room / "reference"
+        reference.write_text(f"#!/bin/sh\n{shlex.quote(str(program()))} \"$@\" {script}\n")
+        reference.chmod(0o755)
+        status, out, said = run("snaps", reference, "--keep", self.room / "kept", *words)
+        self.assertEqual(said, "")
+        return status, out.splitlines()
+
+    def test_replicas_forget(self) -> None:
+        status, lines = self.compared("", "--runs", 12, "--events", 300)
+        counts = {name: int(count) for name, _, count in (line.rpartition(": ") for line in lines[:-1])}
+        self.assertEqual((status, lines[-1]), (0, "12 schedules, 0 differ"))
+        for name in [*(f"snap {word}" for word in WORDS), *(f"{word} behind a snap" for word in BEHIND)]:
+            self.assertGreater(counts.get(name, 0), 0, name)
+        self.assertGreater(counts["schedules with snapped"], 6)
+        self.assertEqual(counts["status 0"] + counts["status 3"], 12)
+        self.assertEqual(counts["events"], 12 * 300)
+        self.assertFalse((self.room / "kept").exists())
+
+    def test_a_difference_is_told(self) -> None:
+        for script, what in [("| sed 's/ applied$/ early/'", "standard output"), ("; echo >&2", "standard error"), ("; exit 9", "status")]:
+            status, lines = self.compared(script, "--first", 7, "--runs", 1, "--events", 100)
+            kept = self.room / "kept/7.schedule"
+            self.assertEqual((status, lines[0], lines[-1]), (1, f"{kept}: other {what}", "1 schedules, 1 differ"))
+            self.assertEqual(kept.read_text(), tool_of("snaps").schedule([str(program())], 7, 100))
+
+
+if __name__ == "__main__":
+    unittest.main()
