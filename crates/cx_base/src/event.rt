@@ -50,6 +50,14 @@ pub enum Event {
         replica: u16,
         key: Key,
     },
+    /// A client asks one replica for a key, to be answered once it holds as many values as the client has heard of.
+    Session {
+        client: u16,
+        seq: u64,
+        floor: u64,
+        replica: u16,
+        key: Key,
+    },
     /// The datagram of this number, counted from 0, reaches its role.
     Deliver {
         number: u64,
