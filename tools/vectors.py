@@ -293,15 +293,26 @@ def renewed():
         yield record_entry(rec)
 
 
+def sessions():
+    """The datagrams of session reads, eight."""
+    messages = [M.SessRead(2, 0, "a"), M.SessRead(3, 1, "a"), M.SessRead(1, SLOTS, "-"), M.SessRead(U64, SLOTS, word(32))]
+    while len(messages) < PER_KIND:
+        messages.append(M.SessRead(seq(), mark(), key()))
+    for message in messages:
+        assert message.kind == 38
+        yield datagram_entry(message, message.froms[0])
+
+
 print("""\
 //! Bytes of datagrams and records, as another implementation of the format writes them: tools/vectors.py prints this file.
 
-/// Datagrams of all 29 kinds, eight of each, then records of the first seven tags, six of each, then ten datagrams and two records
-/// whose commands tell floors, and then records of the last four tags, six of each, in hexadecimal. A semicolon ends an entry. A
-/// mark `_` stands where a basic field of the body begins, as the other implementation says where it meets a cut.
+/// Datagrams of the kinds 1 to 29, eight of each, then records of the first seven tags, six of each, then ten datagrams and two
+/// records whose commands tell floors, then records of the last four tags, six of each, and then eight datagrams of the last kind,
+/// 38, in hexadecimal. A semicolon ends an entry. A mark `_` stands where a basic field of the body begins, as the other
+/// implementation says where it meets a cut.
 pub const ENTRIES: &str = "\
 """)
-for entry in [*datagrams(), *records(), *floors(), *renewed()]:
+for entry in [*datagrams(), *records(), *floors(), *renewed(), *sessions()]:
     entry += ";"
     for i in range(0, len(entry), WIDTH):
         print(entry[i:i + WIDTH])

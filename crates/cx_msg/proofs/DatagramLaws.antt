@@ -14,7 +14,7 @@ use Rattle.cx_msg.specs.Letter.{Letter, is_kind, senders, receivers, is_listed, 
 use Rattle.cx_msg.specs.Decoding.{finished, after_header, with_header, decoded}
 use Rattle.cx_msg.specs.Decodes.{Decodes}
 use Rattle.cx_msg.specs.declared.message.Msg.{Msg}
-use Rattle.cx_msg.specs.declared.message.Msg.TheVariants.{Leads, MatchA, MatchNack, Phase1A, Nack, Phase2B, Chosen, ChosenIn, Held, Fetch, Inform, Informed, GarbageA, GarbageB, ReadReq, MatchRead, MatchReadAck, PreRead, PreReadAck, Read, Phase2A, Submit, Batch, MatchB, Phase1B, Propose, Results, Answer, ReadAnswer}
+use Rattle.cx_msg.specs.declared.message.Msg.TheVariants.{Leads, MatchA, MatchNack, Phase1A, Nack, Phase2B, Chosen, ChosenIn, Held, Fetch, Inform, Informed, GarbageA, GarbageB, ReadReq, MatchRead, MatchReadAck, PreRead, PreReadAck, Read, Phase2A, Submit, Batch, MatchB, Phase1B, Propose, Results, Answer, ReadAnswer, SessRead}
 use Rattle.cx_msg.specs.declared.header.Header.{Header}
 use Rattle.cx_msg.specs.declared.fault.WireFault.{WireFault}
 use Rattle.cx_msg.specs.declared.fault.WireFault.TheVariants as faults
@@ -238,6 +238,7 @@ has_kind (Propose r g s cw v) = refl
 has_kind (Results s as') = refl
 has_kind (Answer q n r) = refl
 has_kind (ReadAnswer q n t) = refl
+has_kind (SessRead q n key) = refl
 
 same_datagram : (d : Letter) → datagram_of (header_of d) d.msg ≡ d
 same_datagram d =
@@ -245,11 +246,15 @@ same_datagram d =
     let with_to : Kind → Letter = λ k. record { from = d.from; to = record { kind = k; index = d.to.index }; msg = d.msg } in
     ap with_from (kind_back d.from.kind) ∙ ap with_to (kind_back d.to.kind)
 
+small_kind : (kind : ℕ) → is_kind kind ≡ true → kind < 256
+small_kind kind h =
+    elim (either (nat_le 1 kind && nat_le kind 29) (eqb kind 38) h) [
+      | inl few ↦ (let le : kind ≤ 29 = leb-true _ _ (both (nat_le 1 kind) (nat_le kind 29) few).1 in omega arith)
+      | inr one ↦ (let e = eqb-true _ _ one in omega arith)
+    ]
+
 pub small_tag : (m : Msg) → (body_shape m).tag < 256
-small_tag m =
-    let e = both (nat_le 1 (body_shape m).tag) (nat_le (body_shape m).tag 29) (has_kind m) in
-    let le : (body_shape m).tag ≤ 29 = leb-true _ _ e.1 in
-    omega arith
+small_tag m = small_kind (body_shape m).tag (has_kind m)
 
 small_code : (k : Kind) → code_of k < 256
 small_code Client = lit< tt

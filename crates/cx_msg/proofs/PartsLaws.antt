@@ -8,14 +8,14 @@ use Rattle.cx_base.specs.declared.role.RoleId.{RoleId}
 use Rattle.cx_wire.specs.Format.{u8, u16, u32, u64}
 use Rattle.cx_wire.proofs.Laws.{both}
 use Rattle.cx_field.specs.Fields.{slot, mark, at, seq, round, round0, grid, name, command, commands, value, reply, in_window, entries, votes, answers, found, reason, token, values, pairs, notes}
-use Rattle.cx_msg.specs.Messages.{body_shape, answer, match_b, match_nack, match_read_ack, nack, phase1b, phase2a, pre_read, pre_read_ack, propose, read_answer, read_key, read_req, results, round_slot, slot_value}
+use Rattle.cx_msg.specs.Messages.{body_shape, answer, match_b, match_nack, match_read_ack, nack, phase1b, phase2a, pre_read, pre_read_ack, propose, read_answer, read_key, read_req, results, round_slot, sess_read, slot_value}
 use Rattle.cx_msg.specs.Letter.{Letter, letter, senders, receivers, is_listed, fits}
 use Rattle.cx_msg.specs.LetterParts.{PartsFit}
 use Rattle.cx_msg.specs.Records.{fits as record_fits}
 use Rattle.cx_msg.specs.declared.kept.Record.{Record}
 use Rattle.cx_msg.specs.declared.kept.Record.TheVariants as kept
 use Rattle.cx_msg.specs.declared.message.Msg.{Msg}
-use Rattle.cx_msg.specs.declared.message.Msg.TheVariants.{Submit, Batch, Leads, MatchA, MatchB, MatchNack, Phase1A, Phase1B, Nack, Propose, Phase2A, Phase2B, Chosen, ChosenIn, Results, Answer, Held, Fetch, Inform, Informed, GarbageA, GarbageB, ReadReq, MatchRead, MatchReadAck, PreRead, PreReadAck, Read, ReadAnswer}
+use Rattle.cx_msg.specs.declared.message.Msg.TheVariants.{Submit, Batch, Leads, MatchA, MatchB, MatchNack, Phase1A, Phase1B, Nack, Propose, Phase2A, Phase2B, Chosen, ChosenIn, Results, Answer, Held, Fetch, Inform, Informed, GarbageA, GarbageB, ReadReq, MatchRead, MatchReadAck, PreRead, PreReadAck, Read, ReadAnswer, SessRead}
 
 same_kind : (k : Kind) → k ≡ kind_of (code_of k)
 same_kind Client = refl
@@ -60,7 +60,7 @@ fitting d h =
 
 -- each part of a datagram that fits is in its range, and its roles are of its kind
 pub parts : (from to : RoleId) (m : Msg) → IsTrue (fits (letter from to m)) → PartsFit from to m
-unfolding command commands value votes match_b match_nack phase1b nack propose phase2a round_slot slot_value results answer read_req match_read_ack pre_read pre_read_ack read_key read_answer
+unfolding command commands value votes match_b match_nack phase1b nack propose phase2a round_slot slot_value results answer read_req match_read_ack pre_read pre_read_ack read_key read_answer sess_read
 parts from to (Submit c) h =
     let f = fitting (letter from to (Submit c)) h in
     (record { sent = listed_role from 1 f.from; received = listed_role to 2 f.to }, f.msg)
@@ -185,6 +185,11 @@ parts from to (ReadAnswer sq n text) h =
     let p = both (seq.fits sq) (mark.fits n && found.fits text) f.msg in
     let q = both (mark.fits n) (found.fits text) p.1 in
     (record { sent = listed_role from 7 f.from; received = listed_role to 1 f.to }, p.0, q.0, q.1)
+parts from to (SessRead sq n key) h =
+    let f = fitting (letter from to (SessRead sq n key)) h in
+    let p = both (seq.fits sq) (mark.fits n && (name 32).fits key) f.msg in
+    let q = both (mark.fits n) ((name 32).fits key) p.1 in
+    (record { sent = listed_role from 1 f.from; received = listed_role to 7 f.to }, p.0, q.0, q.1)
 
 -- each part of a record that fits
 abbrev pub RecordPartsFit : Record → Type 0

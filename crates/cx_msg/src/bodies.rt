@@ -58,6 +58,7 @@ pub fn body_from(
         27 => pre_read_ack_from(reader),
         28 => read_from(reader),
         29 => read_answer_from(reader),
+        38 => sess_read_from(reader),
         _ => Err(ReadFault::Bad {
             left: reader.left(),
         }),
@@ -387,4 +388,15 @@ fn read_answer_from(reader: &mut Reader<'_>) -> Result<Msg, ReadFault>
     let mark = mark_from(reader)?;
     let found = found_from(reader)?;
     Ok(Msg::ReadAnswer { seq, mark, found })
+}
+
+#[tactic(auto, unfolding(crate::specs::Messages::sess_read))]
+fn sess_read_from(reader: &mut Reader<'_>) -> Result<Msg, ReadFault>
+    ensures { Gives (λ m. m) result
+        ((wire.case 38 message.sess_read (λ x. Msg.SessRead x.0 x.1.0 x.1.1)).read reader.old) reader.new }
+{
+    let seq = seq_from(reader)?;
+    let mark = mark_from(reader)?;
+    let key = name_from(reader)?;
+    Ok(Msg::SessRead { seq, mark, key })
 }

@@ -133,6 +133,7 @@ fn copy_small(msg: &Msg) -> Msg
         },
         Msg::Read { token, mark, key } => Msg::Read { token, mark, key },
         Msg::ReadAnswer { seq, mark, found } => Msg::ReadAnswer { seq, mark, found },
+        Msg::SessRead { seq, mark, key } => Msg::SessRead { seq, mark, key },
         _ => unreachable!(),
     }
 }

@@ -130,7 +130,7 @@ fn read(alloc: Global, bytes: &[u8]) -> Result<Parts, WireFault>
 }
 
 /// The datagram that the bytes spell, all of the bytes; or the first test that they fail, in this order: fewer than 12
-/// bytes (`Short`), the letters CX (`Magic`), the version, 1 or 2 (`Version`), the kind, 1 to 29 (`Kind`), fewer bytes after
+/// bytes (`Short`), the letters CX (`Magic`), the version, 1 or 2 (`Version`), the kind, 1 to 29 or 38 (`Kind`), fewer bytes after
 /// the header than it says (`Length`), or more (`Trailing`), the roles of the kind (`Field` at 4 or 7), the body's fields in
 /// their order (`Field` at the first byte of the first bad one), bytes after the last field (`Trailing`), and the version
 /// again, which is 2 exactly where a command tells its floor (`Version`): operations with a floor are fields of version 2

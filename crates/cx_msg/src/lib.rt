@@ -40,7 +40,7 @@ pub use letters::{
 };
 pub use message::Msg;
 pub use read_letters::{
-    match_read, match_read_ack, pre_read, pre_read_ack, read, read_answer, read_req,
+    match_read, match_read_ack, pre_read, pre_read_ack, read, read_answer, read_req, sess_read,
 };
 pub use records::{record_from, record_into};
 pub use spelled::{Spelled, short_into};

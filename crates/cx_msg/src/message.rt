@@ -163,6 +163,12 @@ pub enum Msg {
         mark: u64,
         found: Option<Text>,
     },
+    /// A client's session read: asks a replica for a key's text, once it holds `mark` slots, which the client has heard of.
+    SessRead {
+        seq: u64,
+        mark: u64,
+        key: Key,
+    },
 }
 
 impl Msg {

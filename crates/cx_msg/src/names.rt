@@ -3,7 +3,7 @@
 ghost use Rattle.std.specs.Prelude.{◌≡◌};
 ghost use Rattle.cx_msg.specs.Names.{name_of_kind};
 
-/// The name in texts of a kind of message, whose number is from 1 to 29.
+/// The name in texts of a kind of message, whose number is from 1 to 29, or 38.
 #[tactic(auto, unfolding(crate::specs::Names::name_of_kind))]
 pub fn name_of_kind(kind: u8) -> &'static str
     ensures { result.now ≡ name_of_kind kind }
@@ -37,6 +37,7 @@ pub fn name_of_kind(kind: u8) -> &'static str
         26 => "PreRead",
         27 => "PreReadAck",
         28 => "Read",
-        _ => "ReadAnswer",
+        29 => "ReadAnswer",
+        _ => "SessRead",
     }
 }

@@ -48,6 +48,7 @@ pub fn kind_of(msg: &Msg) -> u8
         Msg::PreReadAck { .. } => 27,
         Msg::Read { .. } => 28,
         Msg::ReadAnswer { .. } => 29,
+        Msg::SessRead { .. } => 38,
     }
 }
 
@@ -251,6 +252,15 @@ fn put_read_answer(
     put_found(out, found)
 }
 
+#[tactic(auto, unfolding(crate::specs::Messages::sess_read))]
+fn put_sess_read(out: &mut Vec<u8>, seq: u64, mark: u64, key: &Key) -> Result<(), NoMemory>
+    ensures { OnOk result (Appends message.sess_read (seq, (mark, key.now)) 49 out.old.items out.new.items) }
+{
+    put_seq(out, seq)?;
+    put_mark(out, mark)?;
+    put_name(out, key)
+}
+
 /// Appends a message's body, at most 30,611 bytes.
 #[tactic(auto, unfolding(cx_field::specs::Fields::command, cx_field::specs::Fields::commands))]
 pub fn put_body(out: &mut Vec<u8>, msg: &Msg) -> Result<(), NoMemory>
@@ -316,5 +326,6 @@ pub fn put_body(out: &mut Vec<u8>, msg: &Msg) -> Result<(), NoMemory>
         } => put_pre_read_ack(out, token, watermark, *mark),
         Msg::Read { token, mark, key } => put_read_key(out, token, *mark, key),
         Msg::ReadAnswer { seq, mark, found } => put_read_answer(out, *seq, *mark, found),
+        Msg::SessRead { seq, mark, key } => put_sess_read(out, *seq, *mark, key),
     }
 }

@@ -127,3 +127,16 @@ pub fn read_answer(replica: u16, client: u16, seq: u64, mark: u64, found: Option
     let to = RoleId::new(Kind::Client, client);
     Datagram::new(from, to, Msg::ReadAnswer { seq, mark, found })
 }
+
+/// A client's session read of a key, for a replica that holds `mark` slots.
+#[tactic(auto, unfolding(crate::specs::Messages::sess_read, cx_wire::specs::Format::u16))]
+pub fn sess_read(client: u16, replica: u16, seq: u64, mark: u64, key: Key) -> Datagram
+    requires seq { IsTrue (field.seq.fits seq) }
+    requires mark { IsTrue (field.mark.fits mark) }
+    ensures { result ≡ letter (role Kind.Client client) (role Kind.Replica replica) (Msg.SessRead seq mark key) }
+{
+    name_fits(&key);
+    let from = RoleId::new(Kind::Client, client);
+    let to = RoleId::new(Kind::Replica, replica);
+    Datagram::new(from, to, Msg::SessRead { seq, mark, key })
+}

@@ -9,7 +9,7 @@ use cx_base::Kind;
 pub fn is_kind(kind: u8) -> bool
     ensures { result ≡ is_kind kind }
 {
-    kind >= 1 && kind <= 29
+    kind >= 1 && kind <= 29 || kind == 38
 }
 
 /// Whether a role of this code sends this kind of message.
@@ -20,7 +20,7 @@ pub fn may_send(kind: u8, code: u8) -> bool
         return false;
     }
     match Kind::from_code(code) {
-        Kind::Client => matches!(kind, 1 | 23),
+        Kind::Client => matches!(kind, 1 | 23 | 38),
         Kind::Batcher => kind == 2,
         Kind::Leader => matches!(kind, 3 | 4 | 7 | 10 | 19 | 21),
         Kind::Proxy => matches!(kind, 11 | 13 | 14),
@@ -46,7 +46,7 @@ pub fn may_receive(kind: u8, code: u8) -> bool
         Kind::Proxy => matches!(kind, 10 | 12),
         Kind::Acceptor => matches!(kind, 7 | 11 | 19 | 26),
         Kind::Matchmaker => matches!(kind, 4 | 21 | 24),
-        Kind::Replica => matches!(kind, 13 | 18 | 28),
+        Kind::Replica => matches!(kind, 13 | 18 | 28 | 38),
         Kind::Unbatcher => kind == 15,
         Kind::Reader => matches!(kind, 23 | 25 | 27),
     }

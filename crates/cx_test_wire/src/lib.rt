@@ -9,6 +9,8 @@ mod log_tests;
 #[cfg(test)]
 mod message_tests;
 #[cfg(test)]
+mod session_tests;
+#[cfg(test)]
 mod vectors;
 #[cfg(test)]
 mod version_tests;

@@ -1,8 +1,9 @@
 //! Bytes of datagrams and records, as another implementation of the format writes them: tools/vectors.py prints this file.
 
-/// Datagrams of all 29 kinds, eight of each, then records of the first seven tags, six of each, then ten datagrams and two records
-/// whose commands tell floors, and then records of the last four tags, six of each, in hexadecimal. A semicolon ends an entry. A
-/// mark `_` stands where a basic field of the body begins, as the other implementation says where it meets a cut.
+/// Datagrams of the kinds 1 to 29, eight of each, then records of the first seven tags, six of each, then ten datagrams and two
+/// records whose commands tell floors, then records of the last four tags, six of each, and then eight datagrams of the last kind,
+/// 38, in hexadecimal. A semicolon ends an entry. A mark `_` stands where a basic field of the body begins, as the other
+/// implementation says where it meets a cut.
 pub const ENTRIES: &str = "
 4358010101000002012c001b_0001_0000000000000002_01_05_32_6d_39_4a_5a_09_75_39_65_71_74_59_2d_49_77;
 4358010101012c02012c002c_0001_0000000000000002_02_20_6d_44_37_71_4c_54_45_62_6b_72_4a_79_65_70_34_48_4e_58_6f_2d
@@ -724,4 +725,13 @@ _53_59_49_5a_78_4f_45_32_69_54_47_67_4d_55_4f_32_31_37_2e_7a_62_57_67_45_45_77_7
 76_6e_64_34_44_47_6e_78_03_7a_63_63_0000_ffffffffffffffff_01_05_7a_48_53_61_6d_03_6a_53_61;
 0b_01_00;
 0b_02_01_01_0002_0000000000000001_02_05_2e_4e_79_6f_36_00;
+4358012601000107012c0012_0000000000000002_0000000000000000_01_61;
+435801260100020700010012_0000000000000003_0000000000000001_01_61;
+435801260100020700020012_0000000000000001_0000010000000000_01_2d;
+4358012601012c0700020031_ffffffffffffffff_0000010000000000_20_41_46_7a_47_51_59_55_4a_59_34_48_59_6d_64_41_42_5a
+_48_79_4b_61_72_5a_32_2e_76_7a_7a_36_6e_65_6f;
+4358012601000207012c0013_0000000000000100_0000000000000000_02_67_52;
+4358012601000007012c0012_0000000000000100_0000010000000000_01_73;
+435801260100000700000016_0000000000000001_0000000000000021_05_57_6e_6e_55_57;
+435801260100000700020016_0000000000000001_0000010000000000_05_70_54_5f_34_43;
 ";

@@ -114,7 +114,7 @@ const REFUSED: [(WireFault, &str); 14] = [
 ];
 
 // The first of the datagrams that is answered otherwise.
-fn answered_otherwise(
+pub(crate) fn answered_otherwise(
     alloc: Global,
     datagrams: &str,
     fault: Option<WireFault>,
