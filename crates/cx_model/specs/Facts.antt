@@ -139,9 +139,15 @@ pub record BatcherWasTold (sent : List Letter) (me : RoleId) (v : BatcherVolatil
   pub commands : (k : Command) → Member k v.waiting → (from : RoleId) × Member (letter from me (msg.Submit k)) sent
   pub round : (v.round ≡ no_round) ⊎ ((from : RoleId) × Member (letter from me (msg.Leads v.round)) sent)
 
+-- a reader sent this read to a replica, or its client did so in a session
+abbrev pub IsReadOf : List Letter → RoleId → Deferred → Type 0
+IsReadOf sent me r =
+    ((from : RoleId) × Member (letter from me (msg.Read r.token r.mark r.key)) sent)
+    ⊎ ((from : RoleId) × (from.index ≡ r.token.client) × Member (letter from me (msg.SessRead r.token.seq r.mark r.key)) sent)
+
 pub record ReplicaWasTold (sent : List Letter) (me : RoleId) (v : ReplicaVolatile) : Type 0 where
   pub early : (p : Placed) → Member p v.early → (from : RoleId) × Member (letter from me (msg.Chosen p.slot p.value)) sent
-  pub deferred : (r : Deferred) → Member r v.deferred → (from : RoleId) × Member (letter from me (msg.Read r.token r.mark r.key)) sent
+  pub deferred : (r : Deferred) → Member r v.deferred → IsReadOf sent me r
 
 pub record ReaderWasTold (sent : List Letter) (me : RoleId) (v : ReaderVolatile) : Type 0 where
   pub requests : (r : Reading) → Member r v.reads → Member (letter (role kind.Client r.token.client) me (msg.ReadReq r.token.seq r.replica r.key)) sent

@@ -76,6 +76,7 @@ names_body c (msg.PreRead t w) = names_token c t && names_round c w
 names_body c (msg.PreReadAck t w n) = names_token c t && names_round c w
 names_body c (msg.Read t n key) = names_token c t
 names_body c (msg.ReadAnswer seq n text) = true
+names_body c (msg.SessRead seq n key) = true
 
 -- every role, leader, member, client and replica that a datagram names lies in the cluster
 abbrev pub names : Cluster → Letter → Bool

@@ -163,7 +163,7 @@ chosen_row c me d v s value =
     else if nat_lt (held d) s then answered Early (record v { early = with_early s value v.early (value_for s v.early) })
     else apply c me d v (ready_values (held d) v.early value)
 
--- a reader asks for a key's text, once this many slots are held; at most 64 reads wait
+-- a reader, or a client in a session, asks for a key's text, once this many slots are held; at most 64 of them wait
 abbrev pub read_row : RoleId → ReplicaDurable → ReplicaVolatile → Deferred → Outcome ReplicaVolatile
 read_row me d v r =
     if nat_le r.mark (held d) then replied AnsweredWord v (read_answer_to me (held d) d.machine r ∷ [])
@@ -192,6 +192,8 @@ fetch_row c me d v from s =
 abbrev pub replica_takes : Cluster → RoleId → ReplicaDurable → ReplicaVolatile → RoleId → Msg → Outcome ReplicaVolatile
 replica_takes c me d v from (msg.Chosen s value) = chosen_row c me d v s value
 replica_takes c me d v from (msg.Read t n key) = read_row me d v (record { token = t; mark = n; key = key })
+replica_takes c me d v from (msg.SessRead seq n key) =
+    read_row me d v (record { token = record { client = from.index; seq = seq }; mark = n; key = key })
 replica_takes c me d v from (msg.Fetch s) = fetch_row c me d v from s
 replica_takes c me d v from other = answered Stranger v
 

@@ -35,6 +35,7 @@ ghost use Rattle.cx_model.specs.ExamplesRepeatsChangeNothing.{RepeatsChangeNothi
 ghost use Rattle.cx_model.specs.ExamplesRetireEarlierRounds.{RetireEarlierRounds};
 ghost use Rattle.cx_model.specs.ExamplesRetiredGridIsNotAsked.{RetiredGridIsNotAsked};
 ghost use Rattle.cx_model.specs.ExamplesRowIsNoColumn.{RowIsNoColumn};
+ghost use Rattle.cx_model.specs.ExamplesSession.{Session};
 ghost use Rattle.cx_model.specs.ExamplesSnapshotOfOne.{SnapshotOfOne};
 ghost use Rattle.cx_model.specs.ExamplesSnapshotWaits.{SnapshotWaits};
 ghost use Rattle.cx_model.specs.ExamplesStaleRequests.{StaleRequests};
@@ -104,6 +105,12 @@ pub fn retired_grid_is_not_asked()
 /// has executed the value.
 pub fn deferred_read()
     ensures { DeferredRead }
+{}
+
+/// A client asks a replica in a session: the number that it heard is the mark, for which a replica that holds less waits. Another
+/// key under the same number is not sent. An answer that was delivered before it was sent was not heard.
+pub fn session()
+    ensures { Session }
 {}
 
 /// A reader crashes and forgets the read in progress: an answer to it is not waited for. Asked again, the read begins anew,
