@@ -98,13 +98,13 @@ start_full : (c : Cluster) (me : RoleId) (k : Kind) (s : State) → (s ≡ Down)
 start_full c me k s (inl e) = subst (λ (x : State). FullState [] [] me x) (sym e) tt
 start_full c me k s (inr e) = subst (λ (x : State). FullState [] [] me x) (sym e) (fresh_full [] [] c me k)
 
-full_laws : (c : Cluster) → Laws c (λ e. Unit {0}) anything Full
+full_laws : (c : Cluster) → Laws c (λ n e. Unit {0}) anything Full
 full_laws c = record {
   same = λ kept sent states others same h a. subst (λ (s : State). FullState kept sent a s) (same a) (h a);
   start = λ states starts a. start_full c a a.kind (states a) (starts a);
   stop = λ kept sent states me h. calm_step kept sent states h me None Down tt;
   wake = λ kept sent states me h down. calm_step kept sent states h me None (fresh_state c me.kind) (fresh_full kept sent c me me.kind);
-  ask = λ kept sent states e allowed known h a. sent_more kept sent (request e) a (states a) (h a);
+  ask = λ kept sent states n e allowed known h a. sent_more kept sent (request n e) a (states a) (h a);
   batcher = λ kept sent states b v i known h is given. lands_full kept sent states h (role kind.Batcher b) BatcherIn _ tt;
   leader = λ kept sent states l v i known h is given.
       let me = role kind.Leader l in

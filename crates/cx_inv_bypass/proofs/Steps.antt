@@ -30,6 +30,7 @@ use Rattle.cx_msg.specs.declared.kept.Record.{Record}
 use Rattle.cx_msg.specs.declared.message.Msg.{Msg}
 use Rattle.cx_msg.specs.declared.message.Msg.TheVariants as msg
 use Rattle.cx_model.specs.Facts.{IsProposed}
+use Rattle.cx_model.specs.Heard.{heard_by}
 use Rattle.cx_model.specs.History.{finish_with, finish_by}
 use Rattle.cx_model.specs.Leader.{LeaderDurable, LeaderVolatile, leader_rules, leader_row, round_of, bypass, leads_to, propose_to}
 use Rattle.cx_model.specs.Lists.{get_set_same}
@@ -226,12 +227,13 @@ module _ (c : Cluster) (w : World) (is_c : w.cluster ≡ c) (full : HoldsIn Full
     ask_did e t =
         either_way DidSo (is_stale t e w.events)
         (nothing (Some (role kind.Client t.client)) w.roles why.Stale)
-        (record { who = Some (role kind.Client t.client); why = why.Sent; roles = w.roles; kept = []; sends = request e })
+        (record { who = Some (role kind.Client t.client); why = why.Sent; roles = w.roles; kept = []; sends = request (heard_by t.client w.sent w.events) e })
         (λ at word. other_word refl word) (λ at word. other_word refl word)
 
     event_did : (e : Event) → DidSo (change w e)
     event_did (event.Write command batcher) = ask_did (event.Write command batcher) (record { client = command.client; seq = command.seq })
     event_did (event.Read client seq floor reader replica key) = ask_did (event.Read client seq floor reader replica key) (record { client = client; seq = seq })
+    event_did (event.Session client seq floor replica key) = ask_did (event.Session client seq floor replica key) (record { client = client; seq = seq })
     event_did (event.Deliver n cut) = come_did cut (slice_get w.sent n)
     event_did (event.Tick r) = at_did (Give input.Tick Whole) r
     event_did (event.Order l order cut) = at_did (Give (input.Order order) cut) (role kind.Leader l)

@@ -92,10 +92,11 @@ module _ (history : List KeptRecord) (sent : List Letter) (states : RoleId → S
       → Lands AnswersSay history sent states me make o
   calm me make o none kinds = says_on me make o (λ d m. no_answers (with_record me o.kept history) me.kind none d.from d.msg (kinds.sends d m).1)
 
-  requested : (e : Event) (d : Letter) → Member d (request e) → AnswerSays history d.from d.msg
-  requested (event.Write command batcher) d m = Member-one (λ (x : Letter). AnswerSays history x.from x.msg) _ tt d m
-  requested (event.Read client seq floor reader replica key) d m = Member-one (λ (x : Letter). AnswerSays history x.from x.msg) _ tt d m
-  requested other d m = absurd m
+  requested : (n : ℕ) (e : Event) (d : Letter) → Member d (request n e) → AnswerSays history d.from d.msg
+  requested n (event.Write command batcher) d m = Member-one (λ (x : Letter). AnswerSays history x.from x.msg) _ tt d m
+  requested n (event.Read client seq floor reader replica key) d m = Member-one (λ (x : Letter). AnswerSays history x.from x.msg) _ tt d m
+  requested n (event.Session client seq floor replica key) d m = Member-one (λ (x : Letter). AnswerSays history x.from x.msg) _ tt d m
+  requested n other d m = absurd m
 
 -- an acceptor's rows
 
@@ -189,14 +190,14 @@ module _ (c : Cluster) (history : List KeptRecord) (sent : List Letter) (states 
   matchmaker_row-told input.Tick = λ d n. absurd n
   matchmaker_row-told (input.Order order) = λ d n. absurd n
 
-answer_laws : (c : Cluster) → Laws c (λ e. Unit {0}) (Facts c) AnswersSay
+answer_laws : (c : Cluster) → Laws c (λ n e. Unit {0}) (Facts c) AnswersSay
 answer_laws c = record {
   same = λ history sent states others same h. h;
   start = λ states starts d m. absurd m;
   stop = λ history sent states me h. h;
   wake = λ history sent states me h down. h;
-  ask = λ history sent states e allowed facts h.
-      Member-both (λ (d : Letter). AnswerSays history d.from d.msg) sent (request e) h (requested history sent states h e);
+  ask = λ history sent states n e allowed facts h.
+      Member-both (λ (d : Letter). AnswerSays history d.from d.msg) sent (request n e) h (requested history sent states h n e);
   batcher = λ history sent states b v i facts h is given.
       calm history sent states h (role kind.Batcher b) BatcherIn _ tt (batcher_kinds c (role kind.Batcher b) refl v i);
   leader = λ history sent states l v i facts h is given.

@@ -119,10 +119,11 @@ module _ (i : Round) (cw end : ℕ) where
     other_fits k other (msg.GarbageA j g) e = absurd (other e)
     other_fits k other m e = tt
 
-    request_fits : (e : Event) (d : Letter) → Member d (request e) → MsgFits history sent i cw end d.msg
-    request_fits (event.Write command batcher) d m = Member-one (λ (x : Letter). MsgFits history sent i cw end x.msg) _ tt d m
-    request_fits (event.Read client seq floor reader replica key) d m = Member-one (λ (x : Letter). MsgFits history sent i cw end x.msg) _ tt d m
-    request_fits other d m = absurd m
+    request_fits : (n : ℕ) (e : Event) (d : Letter) → Member d (request n e) → MsgFits history sent i cw end d.msg
+    request_fits n (event.Write command batcher) d m = Member-one (λ (x : Letter). MsgFits history sent i cw end x.msg) _ tt d m
+    request_fits n (event.Read client seq floor reader replica key) d m = Member-one (λ (x : Letter). MsgFits history sent i cw end x.msg) _ tt d m
+    request_fits n (event.Session client seq floor replica key) d m = Member-one (λ (x : Letter). MsgFits history sent i cw end x.msg) _ tt d m
+    request_fits n other d m = absurd m
 
   others_keep : (me : RoleId) (o : Option Record) (history : List KeptRecord) (a : RoleId) → same_role a me ≡ false
       → durable_of leader_rules a (with_record me o history) ≡ durable_of leader_rules a history
@@ -203,7 +204,7 @@ module _ (i : Round) (cw end : ℕ) where
     fresh_ended c history sent a kind.Leader = λ e. inl refl
     fresh_ended c history sent a other = tt
 
-    pub ended_laws : (c : Cluster) (g : Shape) → IsConfig past i g → Laws c (λ e. Unit {0}) (Known c past) (EndedSince past i cw end)
+    pub ended_laws : (c : Cluster) (g : Shape) → IsConfig past i g → Laws c (λ n e. Unit {0}) (Known c past) (EndedSince past i cw end)
     ended_laws c g config = record {
       same = λ history sent states others same h has.
           let x = h has in
@@ -214,14 +215,14 @@ module _ (i : Round) (cw end : ℕ) where
       wake = λ history sent states me h down has.
           ended_after history history sent sent (λ k m. m) (λ d m. m) states (h has) me (fresh_state c me.kind) (λ t v x. inl x) (λ x. inl x)
           (fresh_ended c history sent me me.kind) (λ a e. refl);
-      ask = λ history sent states e allowed known h has.
+      ask = λ history sent states n e allowed known h has.
           let x = h has in
           record {
-            low = λ t v y. elim (fits_proposed history sent (request e) (request_fits history sent e) t v y) [ inl z ↦ x.low t v z | inr l ↦ l ];
-            retiring = λ y. column_more history history sent (sent ++ request e) (λ k m. m) (λ d m. Member-first d sent (request e) m)
-                (elim (fits_retiring history sent (request e) (request_fits history sent e) y) [ inl z ↦ x.retiring z | inr z ↦ z ]);
+            low = λ t v y. elim (fits_proposed history sent (request n e) (request_fits history sent n e) t v y) [ inl z ↦ x.low t v z | inr l ↦ l ];
+            retiring = λ y. column_more history history sent (sent ++ request n e) (λ k m. m) (λ d m. Member-first d sent (request n e) m)
+                (elim (fits_retiring history sent (request n e) (request_fits history sent n e) y) [ inl z ↦ x.retiring z | inr z ↦ z ]);
             running = λ a.
-                state_more history history sent (sent ++ request e) (λ k m. m) (λ d m. Member-first d sent (request e) m) a refl (states a)
+                state_more history history sent (sent ++ request n e) (λ k m. m) (λ d m. Member-first d sent (request n e) m) a refl (states a)
                 (x.running a);
           };
       batcher = λ history sent states b v j known h at given.

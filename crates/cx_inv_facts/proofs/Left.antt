@@ -48,19 +48,22 @@ use Rattle.cx_inv_facts.proofs.Ordered.{ordered}
 abbrev Unproposed : List KeptRecord → List Letter → List KeptRecord → List Letter → (RoleId → State) → Type 0
 Unproposed past told history sent states = (j : Round) (s : ℕ) (v : Value) → IsLeft past j → IsProposed sent j s v → IsProposed told j s v
 
-request_proposes : (e : Event) (j : Round) (s : ℕ) (v : Value) → IsProposed (request e) j s v → ⊥
-request_proposes (event.Write command batcher) j s v (from, to, g, cw, inl p) =
+request_proposes : (n : ℕ) (e : Event) (j : Round) (s : ℕ) (v : Value) → IsProposed (request n e) j s v → ⊥
+request_proposes n (event.Write command batcher) j s v (from, to, g, cw, inl p) =
     let q : msg.Propose j g s cw v ≡ msg.Submit command = ap (λ (x : Letter). x.msg) p in cc
-request_proposes (event.Write command batcher) j s v (from, to, g, cw, inr m) = m
-request_proposes (event.Read client seq floor reader replica key) j s v (from, to, g, cw, inl p) =
+request_proposes n (event.Write command batcher) j s v (from, to, g, cw, inr m) = m
+request_proposes n (event.Read client seq floor reader replica key) j s v (from, to, g, cw, inl p) =
     let q : msg.Propose j g s cw v ≡ msg.ReadReq seq replica key = ap (λ (x : Letter). x.msg) p in cc
-request_proposes (event.Read client seq floor reader replica key) j s v (from, to, g, cw, inr m) = m
-request_proposes (event.Deliver number cut) j s v x = x.4
-request_proposes (event.Tick r) j s v x = x.4
-request_proposes (event.Order leader order cut) j s v x = x.4
-request_proposes (event.Crash r) j s v x = x.4
-request_proposes (event.Snap replica cut) j s v x = x.4
-request_proposes (event.Restart r) j s v x = x.4
+request_proposes n (event.Read client seq floor reader replica key) j s v (from, to, g, cw, inr m) = m
+request_proposes n (event.Session client seq floor replica key) j s v (from, to, g, cw, inl p) =
+    let q : msg.Propose j g s cw v ≡ msg.SessRead seq n key = ap (λ (x : Letter). x.msg) p in cc
+request_proposes n (event.Session client seq floor replica key) j s v (from, to, g, cw, inr m) = m
+request_proposes n (event.Deliver number cut) j s v x = x.4
+request_proposes n (event.Tick r) j s v x = x.4
+request_proposes n (event.Order leader order cut) j s v x = x.4
+request_proposes n (event.Crash r) j s v x = x.4
+request_proposes n (event.Snap replica cut) j s v x = x.4
+request_proposes n (event.Restart r) j s v x = x.4
 
 module _ (past : List KeptRecord) (told : List Letter) where
   module _ (history : List KeptRecord) (sent : List Letter) (states : RoleId → State) (h : Unproposed past told history sent states) where
@@ -96,14 +99,14 @@ module _ (past : List KeptRecord) (told : List Letter) where
         let own = (leads_on c me dur v i).own_sends _ x.4 in
         not_left own.0 own.1 (subst (λ k. IsLeft past k) own.2 l)
 
-  left_laws : (c : Cluster) → Laws c (λ e. Unit {0}) (Known c past) (Unproposed past told)
+  left_laws : (c : Cluster) → Laws c (λ n e. Unit {0}) (Known c past) (Unproposed past told)
   left_laws c = record {
     same = λ history sent states others same h j s v l x. h j s v l x;
     start = λ states starts j s v l x. absurd x.4;
     stop = λ history sent states me h j s v l x. h j s v l x;
     wake = λ history sent states me h down j s v l x. h j s v l x;
-    ask = λ history sent states e allowed known h j s v l x.
-        elim (proposed_cases sent (request e) j s v x) [ inl y ↦ h j s v l y | inr y ↦ absurd (request_proposes e j s v y) ];
+    ask = λ history sent states n e allowed known h j s v l x.
+        elim (proposed_cases sent (request n e) j s v x) [ inl y ↦ h j s v l y | inr y ↦ absurd (request_proposes n e j s v y) ];
     batcher = λ history sent states b v i known h at given.
         calm history sent states h (role kind.Batcher b) BatcherIn _ (λ p. cc) (batcher_kinds c (role kind.Batcher b) refl v i);
     leader = λ history sent states n v i known h at given.
@@ -155,5 +158,5 @@ run_grows c es more =
     (grows_by_order past r.0 (subst (λ (l : List KeptRecord). Each LaterOfOne l) r.1 (ordered c (es ++ more))) (run c es).sent (run c (es ++ more)).sent
     (λ d m. subst (λ (w : World). Member d w.sent) (sym (run_append c es more)) (run_from_sent (run c es) more d m))
     (subst (λ (w : World). HoldsIn (Unproposed past (run c es).sent) w) (sym (run_append c es more))
-    (run_from_keeps c (λ e. Unit {0}) (Known c past) (Unproposed past (run c es).sent) (left_laws past (run c es).sent c)
+    (run_from_keeps c (λ n e. Unit {0}) (Known c past) (Unproposed past (run c es).sent) (left_laws past (run c es).sent c)
     (run c es) (run_cluster c es) (λ j s v l x. x) more (known_along c past es more (λ k m. m)) (all_allowed (run c es) more))))

@@ -149,7 +149,7 @@ module _ (c : Cluster) where
   fresh_noted history sent me kind.Proxy = inl refl
   fresh_noted history sent me other = tt
 
-  noted_laws : Laws c (λ e. Unit {0}) (Known c []) AreNoted
+  noted_laws : Laws c (λ n e. Unit {0}) (Known c []) AreNoted
   noted_laws = record {
     same = λ history sent states others same h me. subst (λ (s : State). NotedState history sent me s) (same me) (h me);
     start = λ states starts me. elim (starts me) [
@@ -159,8 +159,8 @@ module _ (c : Cluster) where
     stop = λ history sent states me h. noted_after history sent sent (λ d m. m) states h me None Down tt;
     wake = λ history sent states me h down.
         noted_after history sent sent (λ d m. m) states h me None (fresh_state c me.kind) (fresh_noted history sent me me.kind);
-    ask = λ history sent states e allowed known h me.
-        state_more sent (sent ++ request e) (λ d m. Member-first d sent (request e) m) me history history refl (states me) (h me);
+    ask = λ history sent states n e allowed known h me.
+        state_more sent (sent ++ request n e) (λ d m. Member-first d sent (request n e) m) me history history refl (states me) (h me);
     batcher = λ history sent states b v j known h at given. landed history sent states h (role kind.Batcher b) BatcherIn _ tt;
     leader = λ history sent states l v j known h at given. leader_noted history sent states known h l v j at given;
     proxy = λ history sent states p v j known h at given. proxy_noted history sent states h p v j at given;

@@ -51,13 +51,13 @@ module _ (history : List KeptRecord) (sent : List Letter) (states : RoleId → S
   calm : {V : Type 0} (make : V → State) (o : Outcome V) → KeepsNoRounds me.kind → OfKind me o → Lands Ordered history sent states me make o
   calm make o none kinds = in_order make o o.kept refl (no_rounds history me me.kind none o.kept kinds.keeps)
 
-ordered_laws : (c : Cluster) → Laws c (λ e. Unit {0}) (Facts c) Ordered
+ordered_laws : (c : Cluster) → Laws c (λ n e. Unit {0}) (Facts c) Ordered
 ordered_laws c = record {
   same = λ history sent states others same h. h;
   start = λ states starts. tt;
   stop = λ history sent states me h. h;
   wake = λ history sent states me h down. h;
-  ask = λ history sent states e allowed facts h. h;
+  ask = λ history sent states n e allowed facts h. h;
   batcher = λ history sent states b v i facts h is given.
       calm history sent states h (role kind.Batcher b) BatcherIn _ tt (batcher_kinds c (role kind.Batcher b) refl v i);
   leader = λ history sent states l v i facts h is given.

@@ -62,22 +62,23 @@ module _ (c : Cluster) (kept : List KeptRecord) where
   fresh_low kind.Proxy = record { known = none_stored c kept; pending = λ p m. absurd m }
   fresh_low other = tt
 
-  request_low : (e : Event) → AllSayLow c kept (request e)
-  request_low (event.Write command batcher) = one_low c kept _ tt
-  request_low (event.Read client seq floor reader replica key) = one_low c kept _ tt
-  request_low other = none_low c kept
+  request_low : (n : ℕ) (e : Event) → AllSayLow c kept (request n e)
+  request_low n (event.Write command batcher) = one_low c kept _ tt
+  request_low n (event.Read client seq floor reader replica key) = one_low c kept _ tt
+  request_low n (event.Session client seq floor replica key) = one_low c kept _ tt
+  request_low n other = none_low c kept
 
 start_state : (c : Cluster) (k : Kind) (s : State) → (s ≡ Down) ⊎ (s ≡ fresh_state c k) → LowState c [] s
 start_state c k s (inl e) = subst (λ (x : State). LowState c [] x) (sym e) tt
 start_state c k s (inr e) = subst (λ (x : State). LowState c [] x) (sym e) (fresh_low c [] k)
 
-low_laws : (c : Cluster) → Laws c (λ e. Unit {0}) Ties (LowFacts c)
+low_laws : (c : Cluster) → Laws c (λ n e. Unit {0}) Ties (LowFacts c)
 low_laws c = record {
   same = λ kept sent states others same h. record { records = h.records; says = h.says; running = λ a. subst (λ (s : State). LowState c kept s) (same a) (h.running a) };
   start = λ states starts. record { records = λ who r m. absurd m; says = λ d m. absurd m; running = λ a. start_state c a.kind (states a) (starts a) };
   stop = λ kept sent states me h. low_with c kept sent states h me Down tt;
   wake = λ kept sent states me h down. low_with c kept sent states h me (fresh_state c me.kind) (fresh_low c kept me.kind);
-  ask = λ kept sent states e allowed known h. record { records = h.records; says = both_low c kept sent (request e) h.says (request_low c kept e); running = h.running };
+  ask = λ kept sent states n e allowed known h. record { records = h.records; says = both_low c kept sent (request n e) h.says (request_low c kept n e); running = h.running };
   batcher = λ kept sent states b v i known h is given.
       low_lands c kept sent states h (role kind.Batcher b) BatcherIn _ (calm_low c kept BatcherIn (role kind.Batcher b) _ tt tt (batcher_kinds c (role kind.Batcher b) refl v i));
   leader = λ kept sent states l v i known h is given.

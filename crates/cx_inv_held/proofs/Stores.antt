@@ -144,6 +144,7 @@ module _ (c : Cluster) (history : List KeptRecord) (me : RoleId) (d : ReplicaDur
   takes_few : (from : RoleId) (m : Msg) → SaysLow c history from m → IsFew (replica_takes c me d v from m)
   takes_few from (msg.Chosen s value) says = chosen_few s value
   takes_few from (msg.Read t k key) says = read_few (record { token = t; mark = k; key = key })
+  takes_few from (msg.SessRead seq k key) says = read_few (record { token = record { client = from.index; seq = seq }; mark = k; key = key })
   takes_few from (msg.Fetch s) says = fetch_few from s says
   takes_few from other says = few
 
@@ -327,7 +328,7 @@ set_stores c history sent states h me s own =
 abbrev Known : Cluster → Property
 Known c history sent states = Ties history sent states × LowFacts c history sent states
 
-stores_laws : (c : Cluster) → Laws c (λ e. Unit {0}) (Known c) (Stores c)
+stores_laws : (c : Cluster) → Laws c (λ n e. Unit {0}) (Known c) (Stores c)
 stores_laws c = record {
   same = λ history sent states others e h. record { lists = h.lists; fetched = λ p l. subst (λ s. IsFetched c history p s) (e (role kind.Replica p)) (h.fetched p l); forgotten = h.forgotten };
   start = λ states fresh. record {
@@ -337,7 +338,7 @@ stores_laws c = record {
   };
   stop = λ history sent states me h. set_stores c history sent states h me Down (λ p. tt);
   wake = λ history sent states me h down. set_stores c history sent states h me (fresh_state c me.kind) (λ p. fresh_fetched c history p me.kind);
-  ask = λ history sent states e allowed known h. record { lists = h.lists; fetched = h.fetched; forgotten = h.forgotten };
+  ask = λ history sent states n e allowed known h. record { lists = h.lists; fetched = h.fetched; forgotten = h.forgotten };
   batcher = λ history sent states b v i known h is given. elsewhere c history sent states h (role kind.Batcher b) BatcherIn _ (batcher_kinds c (role kind.Batcher b) refl v i) (λ p. refl) (λ p. tt);
   leader = λ history sent states l v i known h is given.
       elsewhere c history sent states h (role kind.Leader l) LeaderIn _ (leader_kinds c (role kind.Leader l) refl (durable_of leader_rules (role kind.Leader l) history) v i) (λ p. refl) (λ p. tt);

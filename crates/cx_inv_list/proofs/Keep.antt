@@ -71,6 +71,7 @@ module _ (q : Requests) (history longer : List KeptRecord) (grows : (p : â„•) â†
   still_says from to (msg.Answer seq at reply) h = still_noted to.index seq at reply h
   still_says from to (msg.ReadReq seq replica key) h = h
   still_says from to (msg.Read t n key) h = h
+  still_says from to (msg.SessRead seq n key) h = h
   still_says from to (msg.ReadAnswer seq n found) h = still_told from.index (token to.index seq) n found h
   still_says from to other h = tt
 

@@ -38,7 +38,7 @@ use Rattle.cx_inv_run.specs.States.{ReplicaIn, ReaderIn, entry_by, durable_of, l
 use Rattle.cx_inv_run.proofs.Histories.{log_own}
 use Rattle.cx_inv_run.proofs.Members.{Member-both, Member-one, Member-filter}
 use Rattle.cx_inv_run.proofs.Tying.{held_is, tied_more}
-use Rattle.cx_inv_list.specs.Told.{Requests, IsTold, ListSays, InList, IsListed}
+use Rattle.cx_inv_list.specs.Told.{Requests, Wants, IsTold, ListSays, InList, IsListed}
 use Rattle.cx_inv_list.proofs.Listed.{Sends, Heard, listed_if, listed_answered, listed_replied, one_send, each_send, both_send}
 use Rattle.cx_inv_list.proofs.Right.{are_at, log_right, results_right, map_is_fold}
 
@@ -127,7 +127,7 @@ module _ (q : Requests) (c : Cluster) (history : List KeptRecord) (me : RoleId) 
 
 -- what a replica with these values answers to a read
 told_now : (q : Requests) (history : List KeptRecord) (p : ℕ) (log : List Value) → log_in history p ≡ log → (n : ℕ) (m : Machine) → n ≡ length log → m ≡ machine_of log
-    → (r : Deferred) → q.wanted r.token r.key → IsTold q history p r.token n (text_at r.key m.map)
+    → (r : Deferred) → Wants q r.token r.key → IsTold q history p r.token n (text_at r.key m.map)
 told_now q history p log e n m count machine r h = record {
   key = r.key;
   wanted = h;
@@ -154,12 +154,12 @@ module _ (q : Requests) (c : Cluster) (history : List KeptRecord) (p : ℕ) (tie
   ReplicaListed o = IsListed q history (role kind.Replica p) ReplicaIn o
 
   abbrev AreDeferred : List Deferred → Type 0
-  AreDeferred rs = (r : Deferred) → Member r rs → q.wanted r.token r.key
+  AreDeferred rs = (r : Deferred) → Member r rs → Wants q r.token r.key
 
   count : held own ≡ length log
   count = held_is own log tied
 
-  module _ (v : ReplicaVolatile) (h : (r : Deferred) → Member r v.deferred → q.wanted r.token r.key) where
+  module _ (v : ReplicaVolatile) (h : (r : Deferred) → Member r v.deferred → Wants q r.token r.key) where
     module _ (values : List Value) where
       abbrev longer : List KeptRecord
       longer = entry_by (role kind.Replica p) (kept.Log values) ∷ history
@@ -204,12 +204,12 @@ module _ (q : Requests) (c : Cluster) (history : List KeptRecord) (p : ℕ) (tie
         (listed_if (nat_lt (held own) s) _ _ (listed_answered ReplicaIn _ _ h)
         (apply_listed (ready_values (held own) v.early value))))
 
-    read_listed : (r : Deferred) → q.wanted r.token r.key → ReplicaListed (replica.read_row me own v r)
+    read_listed : (r : Deferred) → Wants q r.token r.key → ReplicaListed (replica.read_row me own v r)
     read_listed r new =
         listed_if (nat_le r.mark (held own)) _ _ (listed_replied ReplicaIn _ _ _ h (one_send q history me _ _ (told_now q history p log refl (held own) own.machine count tied.machine r new)))
         (listed_if (list_any (λ (other : Deferred). same_read r.token other.token) v.deferred) _ _ (listed_answered ReplicaIn _ _ h)
         (listed_if (nat_le 64 (length v.deferred)) _ _ (listed_answered ReplicaIn _ _ h)
-        (listed_answered ReplicaIn _ _ (Member-both (λ (x : Deferred). q.wanted x.token x.key) v.deferred (r ∷ []) h (Member-one (λ (x : Deferred). q.wanted x.token x.key) r new)))))
+        (listed_answered ReplicaIn _ _ (Member-both (λ (x : Deferred). Wants q x.token x.key) v.deferred (r ∷ []) h (Member-one (λ (x : Deferred). Wants q x.token x.key) r new)))))
 
     abbrev asked_by : RoleId → ℕ → ReplicaVolatile
     asked_by from s = replica.fetched_by c me v from s
@@ -223,7 +223,8 @@ module _ (q : Requests) (c : Cluster) (history : List KeptRecord) (p : ℕ) (tie
 
     replica_takes_listed : (from to : RoleId) (m : Msg) → ListSays q history from to m → ReplicaListed (replica.replica_takes c me own v from m)
     replica_takes_listed from to (msg.Chosen s value) says = chosen_listed s value
-    replica_takes_listed from to (msg.Read t n key) says = read_listed (record { token = t; mark = n; key = key }) says
+    replica_takes_listed from to (msg.Read t n key) says = read_listed (record { token = t; mark = n; key = key }) (inl says)
+    replica_takes_listed from to (msg.SessRead seq n key) says = read_listed (record { token = token from.index seq; mark = n; key = key }) (inr says)
     replica_takes_listed from to (msg.Fetch s) says = listed_if (nat_lt s own.first) _ _ (listed_answered ReplicaIn _ _ (still_deferred from s)) (fetch_listed from s (slice_get own.log (s - own.first)))
     replica_takes_listed from to other says = listed_answered ReplicaIn _ _ h
 

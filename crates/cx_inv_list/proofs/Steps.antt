@@ -18,10 +18,11 @@ use Rattle.cx_model.specs.Acceptor.{acceptor_rules}
 use Rattle.cx_model.specs.Leader.{leader_rules}
 use Rattle.cx_model.specs.Matchmaker.{matchmaker_rules}
 use Rattle.cx_model.specs.Member.{Member}
+use Rattle.cx_model.specs.Promises.{WasRead, WasSession}
 use Rattle.cx_model.specs.Reader.{token}
-use Rattle.cx_model.specs.Request.{request}
+use Rattle.cx_model.specs.Request.{request, token_of}
 use Rattle.cx_model.specs.World.{World, change, step, run_from, run}
-use Rattle.cx_inv_run.specs.Laws.{Laws, AllAllowed}
+use Rattle.cx_inv_run.specs.Laws.{Laws, heard_of, AllAllowed}
 use Rattle.cx_inv_run.specs.States.{State, Down, BatcherIn, LeaderIn, ProxyIn, ReplicaIn, ReaderIn, plain, fresh_state, set_state, durable_of, HoldsIn}
 use Rattle.cx_inv_run.specs.Ties.{Ties}
 use Rattle.cx_inv_run.proofs.Members.{Member-first, Member-second, Member-cases}
@@ -34,21 +35,25 @@ use Rattle.cx_inv_list.proofs.Listed.{heard, one_send, votes_asked, acceptor_lis
 use Rattle.cx_inv_list.proofs.Replicas.{reader_listed, replica_listed}
 
 -- what may be said of the requests that go out
-abbrev pub IsAllowed : Requests → Event → Type 0
-IsAllowed q (event.Write command batcher) = q.asked command
-IsAllowed q (event.Read client seq floor reader replica key) = q.wanted (token client seq) key
-IsAllowed q other = Unit {0}
+abbrev pub IsAllowed : Requests → ℕ → Event → Type 0
+IsAllowed q n (event.Write command batcher) = q.asked command
+IsAllowed q n (event.Read client seq floor reader replica key) = q.wanted (token client seq) key
+IsAllowed q n (event.Session client seq floor replica key) = q.sought (token client seq) key
+IsAllowed q n other = Unit {0}
 
-request_says : (q : Requests) (history : List KeptRecord) (e : Event) → IsAllowed q e → (d : Letter) → Member d (request e) → ListSays q history d.from d.to d.msg
-request_says q history (event.Write command batcher) h = one_send q history (role kind.Client command.client) (role kind.Batcher batcher) (msg.Submit command) h
-request_says q history (event.Read client seq floor reader replica key) h =
+request_says : (q : Requests) (history : List KeptRecord) (n : ℕ) (e : Event) → IsAllowed q n e
+    → (d : Letter) → Member d (request n e) → ListSays q history d.from d.to d.msg
+request_says q history n (event.Write command batcher) h = one_send q history (role kind.Client command.client) (role kind.Batcher batcher) (msg.Submit command) h
+request_says q history n (event.Read client seq floor reader replica key) h =
     one_send q history (role kind.Client client) (role kind.Reader reader) (msg.ReadReq seq replica key) h
-request_says q history (event.Deliver n cut) h = λ d m. absurd m
-request_says q history (event.Tick r) h = λ d m. absurd m
-request_says q history (event.Order l order cut) h = λ d m. absurd m
-request_says q history (event.Snap p cut) h = λ d m. absurd m
-request_says q history (event.Crash r) h = λ d m. absurd m
-request_says q history (event.Restart r) h = λ d m. absurd m
+request_says q history n (event.Session client seq floor replica key) h =
+    one_send q history (role kind.Client client) (role kind.Replica replica) (msg.SessRead seq n key) h
+request_says q history n (event.Deliver k cut) h = λ d m. absurd m
+request_says q history n (event.Tick r) h = λ d m. absurd m
+request_says q history n (event.Order l order cut) h = λ d m. absurd m
+request_says q history n (event.Snap p cut) h = λ d m. absurd m
+request_says q history n (event.Crash r) h = λ d m. absurd m
+request_says q history n (event.Restart r) h = λ d m. absurd m
 
 fresh_in : (q : Requests) (c : Cluster) (k : Kind) → InList q (fresh_state c k)
 fresh_in q c kind.Client = tt
@@ -85,9 +90,9 @@ list_laws q c = record {
   };
   stop = λ history sent states me facts. new_state q history sent states facts me Down tt;
   wake = λ history sent states me facts e. new_state q history sent states facts me (fresh_state c me.kind) (fresh_in q c me.kind);
-  ask = λ history sent states e allowed known facts. record {
+  ask = λ history sent states n e allowed known facts. record {
     keeps = facts.keeps;
-    says = λ d m. ⊎_elim (facts.says d) (request_says q history e allowed d) (Member-cases d sent (request e) m);
+    says = λ d m. ⊎_elim (facts.says d) (request_says q history n e allowed d) (Member-cases d sent (request n e) m);
     running = facts.running;
   };
   batcher = λ history sent states b v i known facts e given.
@@ -144,24 +149,26 @@ run_has w (e ∷ es) h m = run_has (step w e) es h (step_has w e h m)
 abbrev pub requests_in : List Happened → Requests
 requests_in events = record {
   asked = λ command. (b : ℕ) × Member {X = Happened} (record { event = event.Write command b; why = why.Sent }) events;
-  wanted = λ t key. (floor : ℕ) × (reader : ℕ) × (replica : ℕ) × Member {X = Happened} (record { event = event.Read t.client t.seq floor reader replica key; why = why.Sent }) events;
+  wanted = λ t key. WasRead events t.client t.seq key;
+  sought = λ t key. WasSession events t.client t.seq key;
 }
 
-allowed_by : (events : List Happened) (e : Event) → Member (sent_request e) events → IsAllowed (requests_in events) e
+allowed_by : (events : List Happened) (n : ℕ) (e : Event) → Member (sent_request e) events → IsAllowed (requests_in events) n e
 unfolding sent_request
-allowed_by events (event.Write command batcher) m = (batcher, m)
-allowed_by events (event.Read client seq floor reader replica key) m = (floor, reader, replica, m)
-allowed_by events (event.Deliver n cut) m = tt
-allowed_by events (event.Tick r) m = tt
-allowed_by events (event.Order l order cut) m = tt
-allowed_by events (event.Snap p cut) m = tt
-allowed_by events (event.Crash r) m = tt
-allowed_by events (event.Restart r) m = tt
+allowed_by events n (event.Write command batcher) m = (batcher, m)
+allowed_by events n (event.Read client seq floor reader replica key) m = (floor, reader, replica, m)
+allowed_by events n (event.Session client seq floor replica key) m = (floor, replica, m)
+allowed_by events n (event.Deliver k cut) m = tt
+allowed_by events n (event.Tick r) m = tt
+allowed_by events n (event.Order l order cut) m = tt
+allowed_by events n (event.Snap p cut) m = tt
+allowed_by events n (event.Crash r) m = tt
+allowed_by events n (event.Restart r) m = tt
 
 all_allowed_by : (w : World) (es : List Event) → AllAllowed (IsAllowed (requests_in (run_from w es).events)) w es
 all_allowed_by w [] = tt
 all_allowed_by w (e ∷ es) = (
-  λ sent. allowed_by (run_from (step w e) es).events e (run_has (step w e) es (sent_request e) (step_sent w e sent)),
+  λ sent. allowed_by (run_from (step w e) es).events (heard_of w (token_of e)) e (run_has (step w e) es (sent_request e) (step_sent w e sent)),
   all_allowed_by (step w e) es,
 )
 

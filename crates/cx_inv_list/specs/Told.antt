@@ -1,6 +1,6 @@
 -- What datagrams, records and roles say of the command list: each command in them was asked for, each answer in them is right by the values
--- that a replica kept, and each key in them is that of its read.
-use Rattle.std.specs.Prelude.{◌≡◌, ℕ, ◌≤◌, take, List, length, Option, None, Some}
+-- that a replica kept, and each key in them is that of its request.
+use Rattle.std.specs.Prelude.{◌≡◌, ◌⊎◌, ℕ, ◌≤◌, take, List, length, Option, None, Some}
 use Rattle.cx_base.specs.declared.command.Answered.{Answered}
 use Rattle.cx_base.specs.declared.command.Command.{Command}
 use Rattle.cx_base.specs.declared.command.Placed.{Placed}
@@ -26,10 +26,15 @@ use Rattle.cx_model.specs.Outcome.{Outcome}
 use Rattle.cx_model.specs.Reader.{Reading, token}
 use Rattle.cx_inv_run.specs.States.{State, Down, Plain, BatcherIn, LeaderIn, ProxyIn, ReplicaIn, ReaderIn, with_record, log_in}
 
--- What may be said of the commands that were asked for, and of the keys of the reads that were.
+-- What may be said of the commands that were asked for, of the keys of the reads that were, and of those of sessions.
 pub record Requests : Type 1 where
   pub asked : Command → Type 0
   pub wanted : Token → List ℕ → Type 0
+  pub sought : Token → List ℕ → Type 0
+
+-- a key was asked for, by a read or in a session
+abbrev pub Wants : Requests → Token → List ℕ → Type 0
+Wants q t key = q.wanted t key ⊎ q.sought t key
 
 -- each command passes
 abbrev pub AreAsked : Requests → List Command → Type 0
@@ -45,7 +50,7 @@ IsNoted history client seq at reply = (p : ℕ) × IsRight (log_in history p) cl
 -- a read's answer has the text of its key in the map that the first n values of this replica leave
 pub record IsTold (q : Requests) (history : List KeptRecord) (replica : ℕ) (t : Token) (n : ℕ) (found : Option (List ℕ)) : Type 0 where
   pub key : List ℕ
-  pub wanted : q.wanted t key
+  pub wanted : Wants q t key
   pub within : n ≤ length (log_in history replica)
   pub found_is : found ≡ text_at key (fold (take n (log_in history replica)))
 
@@ -59,6 +64,7 @@ ListSays q history from to (msg.Results s answers) = (a : Answered) → Member a
 ListSays q history from to (msg.Answer seq at reply) = IsNoted history to.index seq at reply
 ListSays q history from to (msg.ReadReq seq replica key) = q.wanted (token from.index seq) key
 ListSays q history from to (msg.Read t n key) = q.wanted t key
+ListSays q history from to (msg.SessRead seq n key) = q.sought (token from.index seq) key
 ListSays q history from to (msg.ReadAnswer seq n found) = IsTold q history from.index (token to.index seq) n found
 ListSays q history from to other = Unit {0}
 
@@ -74,7 +80,7 @@ InList q (BatcherIn v) = AreAsked q v.waiting
 InList q (LeaderIn v) =
     ((p : Promised) → Member p v.promises → AreVotesAsked q p.votes) × ((p : Placed) → Member p v.proposed → AreAsked q (commands_of p.value))
 InList q (ProxyIn v) = (p : Pending) → Member p v.pending → AreAsked q (commands_of p.value)
-InList q (ReplicaIn v) = (r : Deferred) → Member r v.deferred → q.wanted r.token r.key
+InList q (ReplicaIn v) = (r : Deferred) → Member r v.deferred → Wants q r.token r.key
 InList q (ReaderIn v) = (r : Reading) → Member r v.reads → q.wanted r.token r.key
 
 -- all of a moment

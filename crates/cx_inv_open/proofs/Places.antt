@@ -50,6 +50,7 @@ asked w e t = either_way (AsMany w.roles) (is_stale t e w.events) _ _ refl refl
 changed : (w : World) (e : Event) → AsMany w.roles (change w e)
 changed w (event.Write command batcher) = asked w (event.Write command batcher) (record { client = command.client; seq = command.seq })
 changed w (event.Read client seq floor reader replica key) = asked w (event.Read client seq floor reader replica key) (record { client = client; seq = seq })
+changed w (event.Session client seq floor replica key) = asked w (event.Session client seq floor replica key) (record { client = client; seq = seq })
 changed w (event.Deliver n cut) = came w cut (slice_get w.sent n)
 changed w (event.Tick r) = acted w.cluster w.roles w.kept (Give input.Tick Whole) r r.kind
 changed w (event.Order l order cut) = acted w.cluster w.roles w.kept (Give (input.Order order) cut) (role kind.Leader l) kind.Leader

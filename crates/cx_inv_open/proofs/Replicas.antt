@@ -22,7 +22,7 @@ use Rattle.cx_model.specs.declared.states.Deferred.{Deferred}
 use Rattle.cx_model.specs.Member.{Member}
 use Rattle.cx_model.specs.Names.{names, names_body, names_role, names_value}
 use Rattle.cx_model.specs.Outcome.{Outcome, by_test, either_way}
-use Rattle.cx_model.specs.Replica.{ReplicaDurable, ReplicaVolatile, before, held, is_whole, replica_renewed, replica_rules, replica_row, replica_takes, fetched_by, fetch_found, with_early}
+use Rattle.cx_model.specs.Replica.{ReplicaDurable, ReplicaVolatile, before, held, is_whole, replica_renewed, replica_rules, replica_row, replica_takes, read_row, fetched_by, fetch_found, with_early}
 use Rattle.cx_model.specs.Request.{same_read}
 use Rattle.cx_model.specs.Renewed.{renewed_fits}
 use Rattle.cx_model.specs.Rules.{IsFit, refused}
@@ -106,8 +106,8 @@ module _ (c : Cluster) (me : RoleId) (d : ReplicaDurable) (v : ReplicaVolatile) 
       fits : IsSlot (held d) → IsFit replica_rules c me d (Some (kept.Log (ready_values (held d) v.early w)))
       fits here = (fitting here, whole)
 
-  read_fine : (from : RoleId) (r : Deferred) → Fine (replica_takes c me d v from (msg.Read r.token r.mark r.key))
-  read_fine from r =
+  read_fine : (r : Deferred) → Fine (read_row me d v r)
+  read_fine r =
       either_way Fine (nat_le r.mark (held d)) _ _ (tt, h)
       (either_way Fine (list_any (λ (other : Deferred). same_read r.token other.token) v.deferred) _ _ (tt, h)
       (either_way Fine (nat_le 64 (length v.deferred)) _ _ (tt, h) (tt, h)))
@@ -122,7 +122,8 @@ module _ (c : Cluster) (me : RoleId) (d : ReplicaDurable) (v : ReplicaVolatile) 
 
   takes_fine : (from : RoleId) (m : Msg) → HasSlot m → names_body c m ≡ true → Fine (replica_takes c me d v from m)
   takes_fine from (msg.Chosen s value) slot named = chosen_fine from s value slot named
-  takes_fine from (msg.Read t n key) slot named = read_fine from (record { token = t; mark = n; key = key })
+  takes_fine from (msg.Read t n key) slot named = read_fine (record { token = t; mark = n; key = key })
+  takes_fine from (msg.SessRead seq n key) slot named = read_fine (record { token = record { client = from.index; seq = seq }; mark = n; key = key })
   takes_fine from (msg.Fetch s) slot named =
       either_way Fine (nat_lt s d.first) _ _ (tt, asked_named from s) (fetch_fine from s (slice_get d.log (s - d.first)))
   takes_fine from other slot named = (tt, h)

@@ -51,18 +51,19 @@ start_range : (c : Cluster) (k : Kind) (s : State) → (s ≡ Down) ⊎ (s ≡ f
 start_range c k s (inl e) = subst (λ (x : State). InRange c x) (sym e) tt
 start_range c k s (inr e) = subst (λ (x : State). InRange c x) (sym e) (fresh_range c k)
 
-request_in : (e : Event) → AllInWindow (request e)
-request_in (event.Write command batcher) = one_in _ tt
-request_in (event.Read client seq floor reader replica key) = one_in _ tt
-request_in other = none_in
+request_in : (n : ℕ) (e : Event) → AllInWindow (request n e)
+request_in n (event.Write command batcher) = one_in _ tt
+request_in n (event.Read client seq floor reader replica key) = one_in _ tt
+request_in n (event.Session client seq floor replica key) = one_in _ tt
+request_in n other = none_in
 
-fitting_laws : (c : Cluster) → Laws c (λ e. Unit {0}) (Known c) (Fitting c)
+fitting_laws : (c : Cluster) → Laws c (λ n e. Unit {0}) (Known c) (Fitting c)
 fitting_laws c = record {
   same = λ kept sent states others same h. record { fit = h.fit; says = h.says; running = λ a. subst (λ (s : State). InRange c s) (same a) (h.running a) };
   start = λ states starts. record { fit = tt; says = none_in; running = λ a. start_range c a.kind (states a) (starts a) };
   stop = λ kept sent states me h. record { fit = h.fit; says = h.says; running = with_state c kept sent states h me Down tt };
   wake = λ kept sent states me h down. record { fit = h.fit; says = h.says; running = with_state c kept sent states h me (fresh_state c me.kind) (fresh_range c me.kind) };
-  ask = λ kept sent states e allowed known h. record { fit = h.fit; says = both_in sent (request e) h.says (request_in e); running = h.running };
+  ask = λ kept sent states n e allowed known h. record { fit = h.fit; says = both_in sent (request n e) h.says (request_in n e); running = h.running };
   batcher = λ kept sent states b v i known h is given.
       let me = role kind.Batcher b in
       let kinds = batcher_kinds c me refl v i in

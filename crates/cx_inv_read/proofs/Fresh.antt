@@ -1,5 +1,6 @@
 -- In every run that goes on from one in which a read was not asked for, the facts on the read hold.
-use Rattle.std.proofs.Common.{◌≡◌, ℕ, false, ◌⊎◌, List, [], ◌∷◌, ◌++◌, reverse, inl, inr, sym, subst, refl}
+use Rattle.std.proofs.Common.{◌≡◌, ℕ, false, ◌⊎◌, List, [], ◌∷◌, ◌++◌, reverse, inl, inr, sym, subst, ◌∙◌, refl}
+use Rattle.std.proofs.lemmas.Bool.{true≢false}
 use Rattle.cx_base.specs.declared.cluster.Cluster.{Cluster}
 use Rattle.cx_base.specs.declared.command.Command.{Command}
 use Rattle.cx_base.specs.declared.event.Event.{Event}
@@ -16,25 +17,27 @@ use Rattle.cx_msg.specs.declared.message.Msg.{Msg}
 use Rattle.cx_msg.specs.declared.message.Msg.TheVariants as msg
 use Rattle.cx_model.specs.History.{was_asked}
 use Rattle.cx_model.specs.Leader.{leader_rules}
+use Rattle.cx_model.specs.Replica.{replica_rules}
 use Rattle.cx_model.specs.Request.{request}
 use Rattle.cx_model.specs.World.{World, change, step, run, run_from}
-use Rattle.cx_inv_run.specs.Laws.{Laws, HoldsAlong}
-use Rattle.cx_inv_run.specs.States.{State, Down, BatcherIn, LeaderIn, ProxyIn, plain, fresh_state, states_of, snap_by, durable_of, HoldsIn}
+use Rattle.cx_inv_run.specs.Laws.{Laws, AllAllowed, HoldsAlong}
+use Rattle.cx_inv_run.specs.States.{State, Down, BatcherIn, LeaderIn, ProxyIn, ReplicaIn, plain, fresh_state, states_of, snap_by, durable_of, HoldsIn}
 use Rattle.cx_inv_run.proofs.Histories.{set_running}
 use Rattle.cx_inv_run.proofs.KindLaws.{kinds_hold}
 use Rattle.cx_inv_run.proofs.Members.{Member-first, Member-one, Member-reverse, Member-turned}
-use Rattle.cx_inv_run.proofs.Senders.{batcher_kinds, leader_kinds, proxy_kinds, unbatcher_kinds}
-use Rattle.cx_inv_run.proofs.Sends.{batcher_sends, leader_sends, proxy_sends, unbatcher_sends, sends_only}
+use Rattle.cx_inv_run.proofs.Senders.{batcher_kinds, leader_kinds, proxy_kinds, replica_kinds, unbatcher_kinds}
+use Rattle.cx_inv_run.proofs.Sends.{batcher_sends, leader_sends, proxy_sends, replica_sends, unbatcher_sends, sends_only}
 use Rattle.cx_inv_run.proofs.Steps.{run_keeps, run_from_keeps, run_append, run_cluster, along, all_allowed}
 use Rattle.cx_inv_match.specs.Facts.{Facts}
 use Rattle.cx_inv_vote.proofs.Steps.{facts_hold}
 use Rattle.cx_inv_read.specs.Reads.{Has, HasSent, ReadSays, InReader, Reads, IsElse, Unread}
 use Rattle.cx_inv_read.proofs.Keep.{Since, lands, no_acks, sent_more, still_evidence, still_says}
+use Rattle.cx_inv_read.proofs.Requests.{WentOut, all_went_out, allowed_more, read_token, was_asked_by}
 use Rattle.cx_inv_read.proofs.Rows.{Each}
 use Rattle.cx_inv_read.proofs.Says.{Known}
 use Rattle.cx_inv_read.proofs.Readers.{reader_lands}
-use Rattle.cx_inv_read.proofs.Roles.{acceptor_lands, matchmaker_lands, replica_lands}
-use Rattle.cx_inv_read.proofs.Unread.{IsOther, unread_laws, not_asked}
+use Rattle.cx_inv_read.proofs.Roles.{acceptor_lands, matchmaker_lands}
+use Rattle.cx_inv_read.proofs.Unread.{IsOther, unread_laws}
 
 -- what is known from the asking on
 abbrev KnownSince : Cluster → List KeptRecord → List Letter → List KeptRecord → List Letter → (RoleId → State) → Type 0
@@ -51,17 +54,19 @@ fresh_reader c kind.Replica = tt
 fresh_reader c kind.Unbatcher = tt
 fresh_reader c kind.Reader = λ r m. absurd m
 
--- a request hands in a command or asks for a read
+-- a request hands in a command, asks for a read, or asks a replica in a session
 pub requested : (P : Letter → Type 0) → ((from to : RoleId) (command : Command) → P (letter from to (msg.Submit command)))
-    → ((from to : RoleId) (seq replica : ℕ) (key : List ℕ) → P (letter from to (msg.ReadReq seq replica key))) → (e : Event) → Each P (request e)
-requested P submit read (event.Write command batcher) = Member-one P _ (submit _ _ command)
-requested P submit read (event.Read client seq floor reader replica key) = Member-one P _ (read _ _ seq replica key)
-requested P submit read (event.Deliver n cut) = λ d m. absurd m
-requested P submit read (event.Tick r) = λ d m. absurd m
-requested P submit read (event.Order l order cut) = λ d m. absurd m
-requested P submit read (event.Snap p cut) = λ d m. absurd m
-requested P submit read (event.Crash r) = λ d m. absurd m
-requested P submit read (event.Restart r) = λ d m. absurd m
+    → ((from to : RoleId) (seq replica : ℕ) (key : List ℕ) → P (letter from to (msg.ReadReq seq replica key)))
+    → ((from to : RoleId) (seq n : ℕ) (key : List ℕ) → P (letter from to (msg.SessRead seq n key))) → (n : ℕ) (e : Event) → Each P (request n e)
+requested P submit read session n (event.Write command batcher) = Member-one P _ (submit _ _ command)
+requested P submit read session n (event.Read client seq floor reader replica key) = Member-one P _ (read _ _ seq replica key)
+requested P submit read session n (event.Session client seq floor replica key) = Member-one P _ (session _ _ seq n key)
+requested P submit read session n (event.Deliver k cut) = λ d m. absurd m
+requested P submit read session n (event.Tick r) = λ d m. absurd m
+requested P submit read session n (event.Order l order cut) = λ d m. absurd m
+requested P submit read session n (event.Snap p cut) = λ d m. absurd m
+requested P submit read session n (event.Crash r) = λ d m. absurd m
+requested P submit read session n (event.Restart r) = λ d m. absurd m
 
 -- the same facts, with more changes of stores
 more_changes : (c : Cluster) (asked : List KeptRecord) (sent0 : List Letter) (t : Token) (history longer : List KeptRecord) → Has longer history
@@ -80,13 +85,13 @@ with_states : (c : Cluster) (asked : List KeptRecord) (sent0 : List Letter) (t :
 with_states c asked sent0 t history sent states others h readers = record { has = h.has; has_sent = h.has_sent; says = h.says; evidence = h.evidence; readers = readers }
 
 module _ (c : Cluster) (asked : List KeptRecord) (sent0 : List Letter) (states0 : RoleId → State) (facts0 : Facts c asked sent0 states0) (t : Token) where
-  asks : (history : List KeptRecord) (sent : List Letter) (states : RoleId → State) (e : Event) → Known c history sent states → Reads c asked sent0 t history sent states
-      → Reads c asked sent0 t history (sent ++ request e) states
-  asks history sent states e known reads =
-      sent_more c asked sent0 t history sent states known.1 reads (request e)
-      (requested (λ d. ReadSays asked t history d.from d.to d.msg) (λ from to command. tt) (λ from to seq replica key. tt) e)
-      (λ w a n x. absurd (requested (λ d. (u : Token) (i : Round) (k : ℕ) → d.msg ≡ msg.PreReadAck u i k → ⊥)
-      (λ from to command u i k q. cc) (λ from to seq replica key u i k q. cc) e _ x.1 t w n refl))
+  asks : (history : List KeptRecord) (sent : List Letter) (states : RoleId → State) (n : ℕ) (e : Event) → Known c history sent states → Reads c asked sent0 t history sent states
+      → Reads c asked sent0 t history (sent ++ request n e) states
+  asks history sent states n e known reads =
+      sent_more c asked sent0 t history sent states known.1 reads (request n e)
+      (requested (λ d. ReadSays asked t history d.from d.to d.msg) (λ from to command. tt) (λ from to seq replica key. tt) (λ from to seq k key. tt) n e)
+      (λ w a k x. absurd (requested (λ d. (u : Token) (i : Round) (k : ℕ) → d.msg ≡ msg.PreReadAck u i k → ⊥)
+      (λ from to command u i k q. cc) (λ from to seq replica key u i k q. cc) (λ from to seq m key u i k q. cc) n e _ x.1 t w k refl))
 
   start : (states : RoleId → State) → ((a : RoleId) → (states a ≡ Down) ⊎ (states a ≡ fresh_state c a.kind)) → Since c asked sent0 t [] [] states
   start states is has has_sent = record {
@@ -100,7 +105,7 @@ module _ (c : Cluster) (asked : List KeptRecord) (sent0 : List Letter) (states0 
     ];
   }
 
-  pub reads_laws : Laws c (λ e. Unit {0}) (KnownSince c asked sent0) (Since c asked sent0 t)
+  pub reads_laws : Laws c (λ n e. Unit {0}) (KnownSince c asked sent0) (Since c asked sent0 t)
   reads_laws = record {
     same = λ history sent states others e h has has_sent.
         let reads = h has has_sent in with_states c asked sent0 t history sent states others reads (λ a. subst (λ s. InReader c s) (e a) (reads.readers a));
@@ -111,7 +116,7 @@ module _ (c : Cluster) (asked : List KeptRecord) (sent0 : List Letter) (states0 
     wake = λ history sent states me h down has has_sent.
         let reads = h has has_sent in
         with_states c asked sent0 t history sent states _ reads (set_running (λ a s. InReader c s) me (fresh_state c me.kind) states (fresh_reader c me.kind) (λ a e. reads.readers a));
-    ask = λ history sent states e allowed known h has has_sent. asks history sent states e known.0 (h known.1 known.2);
+    ask = λ history sent states n e allowed known h has has_sent. asks history sent states n e known.0 (h known.1 known.2);
     batcher = λ history sent states b v i known h up given.
         let kinds = batcher_kinds c (role kind.Batcher b) refl v i in
         lands c asked sent0 t history sent states known.0.1 (h known.1 known.2) (role kind.Batcher b) BatcherIn _
@@ -132,7 +137,12 @@ module _ (c : Cluster) (asked : List KeptRecord) (sent0 : List Letter) (states0 
         (no_acks c asked sent0 t history sent states known.0.1 (h known.1 known.2) (role kind.Proxy p) _ (λ e. cc) kinds) tt;
     acceptor = λ history sent states a i known h up given. acceptor_lands c asked sent0 states0 facts0 t history sent states known.0 (h known.1 known.2) a i given;
     matchmaker = λ history sent states m i known h up given. matchmaker_lands c asked sent0 states0 facts0 t history sent states known.0 (h known.1 known.2) m i;
-    replica = λ history sent states p v i known h up given. replica_lands c asked sent0 states0 facts0 t history sent states known.0 (h known.1 known.2) p v i up given;
+    replica = λ history sent states p v i known h up given.
+        let kinds = replica_kinds c (role kind.Replica p) refl (durable_of replica_rules (role kind.Replica p) history) v i in
+        lands c asked sent0 t history sent states known.0.1 (h known.1 known.2) (role kind.Replica p) ReplicaIn _
+        (sends_only (λ d. ReadSays asked t history d.from d.to d.msg) (role kind.Replica p) _ kinds
+        (λ to. replica_sends (λ m. ReadSays asked t history (role kind.Replica p) to m) (λ s value. tt) (λ s answers. tt) (λ n. tt) (λ s. tt) (λ seq n found. tt)))
+        (no_acks c asked sent0 t history sent states known.0.1 (h known.1 known.2) (role kind.Replica p) _ (λ e. cc) kinds) tt;
     snap = λ history sent states p v first known h up e has has_sent.
         more_changes c asked sent0 t history (snap_by (role kind.Replica p) first ∷ history) (λ k x. inr x) sent states has (h known.1 known.2);
     unbatcher = λ history sent states u i known h up given.
@@ -176,21 +186,24 @@ known_since c asked sent0 w (e ∷ es) known has has_sent =
 -- of each read from the start on
 pub reads_always : (c : Cluster) (es : List Event) (t : Token) → HoldsIn (Reads c [] [] t) (run c es)
 reads_always c es t =
-    run_keeps c (λ e. Unit {0}) (KnownSince c [] []) (Since c [] [] t) (reads_laws c [] [] _ (facts_hold c []) t) es
+    run_keeps c (λ n e. Unit {0}) (KnownSince c [] []) (Since c [] [] t) (reads_laws c [] [] _ (facts_hold c []) t) es
     (known_since c [] [] (run c []) es (along c (Known c) (known_holds c) [] es) (λ k m. absurd m) (λ d m. absurd m)) (all_allowed (run c []) es)
     (λ k m. absurd m) (λ d m. absurd m)
 
 -- a read that was not asked for is unread
+pub unread_where : (c : Cluster) (es : List Event) (t : Token) → AllAllowed (λ n. IsOther t) (run c []) es → HoldsIn (Unread t) (run c es)
+unread_where c es t others = run_keeps c (λ n. IsOther t) (Known c) (Unread t) (unread_laws t c) es (along c (Known c) (known_holds c) [] es) others
+
 pub unread_holds : (c : Cluster) (es : List Event) (t : Token) → was_asked t (run c es).events ≡ false → HoldsIn (Unread t) (run c es)
 unread_holds c es t h =
-    run_keeps c (IsOther t) (Known c) (Unread t) (unread_laws t c) es (along c (Known c) (known_holds c) [] es) (not_asked t (run c []) es h)
+    unread_where c es t (allowed_more (λ n. WentOut (run c es)) (λ n. IsOther t)
+    (λ n e m r. true≢false (sym (was_asked_by t (run c es) e m (read_token t e r)) ∙ h)) (run c []) es (all_went_out (run c []) es))
 
 else_says : (asked history : List KeptRecord) (t : Token) (from to : RoleId) (m : Msg) → IsElse t from to m → ReadSays asked t history from to m
 else_says asked history t from to (msg.MatchReadAck u w es) h = λ e. absurd (h e)
 else_says asked history t from to (msg.PreRead u w) h = λ e. absurd (h e)
 else_says asked history t from to (msg.PreReadAck u w n) h = λ e. absurd (h e)
 else_says asked history t from to (msg.Read u n key) h = λ e. absurd (h e)
-else_says asked history t from to (msg.ReadAnswer seq n found) h = λ e p. absurd (h e p)
 else_says asked history t from to other h = tt
 
 -- of a read, from a run on in which it was not asked for
@@ -207,7 +220,7 @@ reads_since c es more t h =
       evidence = λ i. inr (inl (λ a n x. unread _ x.1 refl));
       readers = (reads_always c es t).readers;
     } in
-    let later = run_from_keeps c (λ e. Unit {0}) (KnownSince c asked w.sent) (Since c asked w.sent t) (reads_laws c asked w.sent (states_of w.roles) (facts_hold c es) t) w (run_cluster c es)
+    let later = run_from_keeps c (λ n e. Unit {0}) (KnownSince c asked w.sent) (Since c asked w.sent t) (reads_laws c asked w.sent (states_of w.roles) (facts_hold c es) t) w (run_cluster c es)
     now more (known_since c asked w.sent w more (along c (Known c) (known_holds c) es more) (λ k m. m) (λ d m. m)) (all_allowed w more)
     (has_run w more asked (λ k m. m)) (sent_run w more w.sent (λ d m. m)) in
     subst (λ x. HoldsIn (Reads c asked w.sent t) x) (sym (run_append c es more)) later

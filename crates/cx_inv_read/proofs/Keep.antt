@@ -54,7 +54,6 @@ module _ (history longer : List KeptRecord) (more : Has longer history) where
   still_says asked t from to (msg.PreRead u w) h = λ e. still_raised w (h e)
   still_says asked t from to (msg.PreReadAck u w n) h = λ e. let x = h e in (x.0, still_raised w x.1)
   still_says asked t from to (msg.Read u n key) h = h
-  still_says asked t from to (msg.ReadAnswer seq n found) h = h
   still_says asked t from to other h = tt
 
   pub still_evidence : (c : Cluster) (asked : List KeptRecord) (sent0 : List Letter) (t : Token) (sent : List Letter) (w : Round) → HasEvidence c asked sent0 t history sent w

@@ -1,5 +1,5 @@
--- Each row of an acceptor, of a matchmaker and of a replica keeps the facts on a read.
-use Rattle.std.proofs.Common.{◌≡◌, ℕ, ◌≤◌, ◌&&◌, max, List, [], inl, inr, sym, subst, ◌∙◌, refl, arith}
+-- Each row of an acceptor and of a matchmaker keeps the facts on a read.
+use Rattle.std.proofs.Common.{◌≡◌, ℕ, ◌&&◌, max, List, [], inl, inr, sym, subst, ◌∙◌, refl, arith}
 use Rattle.cx_base.specs.declared.cluster.Cluster.{Cluster}
 use Rattle.cx_base.specs.declared.role.Kind.TheVariants as kind
 use Rattle.cx_base.specs.declared.role.RoleId.{RoleId}
@@ -12,23 +12,19 @@ use Rattle.cx_msg.specs.declared.input.Input.TheVariants as input
 use Rattle.cx_msg.specs.declared.input.KeptRecord.{KeptRecord}
 use Rattle.cx_msg.specs.declared.message.Msg.{Msg}
 use Rattle.cx_msg.specs.declared.message.Msg.TheVariants as msg
-use Rattle.cx_model.specs.declared.states.Deferred.{Deferred}
 use Rattle.cx_model.specs.Acceptor.{acceptor_rules, acceptor_row}
-use Rattle.cx_model.specs.Facts.{ReplicaWasTold}
 use Rattle.cx_model.specs.Matchmaker.{matchmaker_rules, matchmaker_row}
 use Rattle.cx_model.specs.Member.{Member}
 use Rattle.cx_model.specs.Names.{names}
 use Rattle.cx_model.specs.Outcome.{Outcome, either_way}
-use Rattle.cx_model.specs.Replica.{Machine, ReplicaDurable, ReplicaVolatile, held, replica_rules, read_answer_to, replica_row}
 use Rattle.cx_inv_run.specs.Laws.{Lands}
-use Rattle.cx_inv_run.specs.States.{State, ReplicaIn, plain, Given, durable_of}
-use Rattle.cx_inv_run.proofs.Senders.{matchmaker_kinds, replica_kinds}
-use Rattle.cx_inv_match.specs.Facts.{InState, Facts}
-use Rattle.cx_inv_read.specs.Reads.{Covers, IsAbove, IsRaised, IsReadAnswer, ReadSays, Reads}
+use Rattle.cx_inv_run.specs.States.{State, plain, Given, durable_of}
+use Rattle.cx_inv_run.proofs.Senders.{matchmaker_kinds}
+use Rattle.cx_inv_match.specs.Facts.{Facts}
+use Rattle.cx_inv_read.specs.Reads.{Covers, IsRaised, IsReadAnswer, ReadSays, Reads}
 use Rattle.cx_inv_read.proofs.Keep.{Since, covers_older, lands, no_acks}
-use Rattle.cx_inv_read.proofs.Rows.{IsPlain, Each, acceptor_tells, matchmaker_tells, replica_tells, replica_ticks}
+use Rattle.cx_inv_read.proofs.Rows.{IsPlain, Each, acceptor_tells, matchmaker_tells}
 use Rattle.cx_inv_read.proofs.Says.{Known}
-use Rattle.cx_inv_read.proofs.Unread.{one_token}
 
 pub plain_says : (asked : List KeptRecord) (t : Token) (history : List KeptRecord) (from to : RoleId) (m : Msg) → IsPlain m → ReadSays asked t history from to m
 plain_says asked t history from to (msg.ReadReq seq replica key) h = absurd h
@@ -37,11 +33,7 @@ plain_says asked t history from to (msg.MatchReadAck u w es) h = absurd h
 plain_says asked t history from to (msg.PreRead u w) h = absurd h
 plain_says asked t history from to (msg.PreReadAck u w n) h = absurd h
 plain_says asked t history from to (msg.Read u n key) h = absurd h
-plain_says asked t history from to (msg.ReadAnswer seq n found) h = absurd h
 plain_says asked t history from to other h = tt
-
-above_more : (asked : List KeptRecord) (n m : ℕ) → n ≤ m → IsAbove asked n → IsAbove asked m
-above_more asked n m l h j s v x = let p = h j s v x in omega arith
 
 module _ (c : Cluster) (asked : List KeptRecord) (sent0 : List Letter) (states0 : RoleId → State) (facts0 : Facts c asked sent0 states0) (t : Token)
     (history : List KeptRecord) (sent : List Letter) (states : RoleId → State) (known : Known c history sent states) (reads : Reads c asked sent0 t history sent states) where
@@ -124,26 +116,3 @@ module _ (c : Cluster) (asked : List KeptRecord) (sent0 : List Letter) (states0 
       lands c asked sent0 t history sent states facts reads (role kind.Matchmaker m) plain _ (matchmaker_says (role kind.Matchmaker m) i)
       (no_acks c asked sent0 t history sent states facts reads (role kind.Matchmaker m) _ (λ e. cc)
       (matchmaker_kinds c (role kind.Matchmaker m) refl (durable_of matchmaker_rules (role kind.Matchmaker m) history) i)) tt
-
-  -- a replica
-
-  answer_says : (me : RoleId) (n : ℕ) (machine : Machine) (r : Deferred) → (r.token ≡ t → IsAbove asked r.mark) → r.mark ≤ n → Says (read_answer_to me n machine r)
-  answer_says me n machine r h l = λ p q. above_more asked r.mark n l (h (one_token r.token t p q))
-
-  replica_says : (me : RoleId) (d : ReplicaDurable) (v : ReplicaVolatile) → ReplicaWasTold sent me v → (i : Input) → Given sent me i → Each Says (replica_row c me d v i).sends
-  replica_says me d v waits (input.Take l) given =
-      either_way SaysAll (same_role l.to me && names c l) _ _
-      (replica_tells Says c me (plain_says asked t history me) d v l.from
-      (λ n machine r m. let x = waits.deferred r m in answer_says me n machine r (reads.says _ x.1)) l.msg
-      (λ r e. answer_says me (held d) d.machine r (subst (λ m. ReadSays asked t history l.from l.to m) e (reads.says l given.1)))) nothing
-  replica_says me d v waits input.Tick given = replica_ticks Says c me (plain_says asked t history me) d v
-  replica_says me d v waits (input.Order order) given = nothing
-
-  pub replica_lands : (p : ℕ) (v : ReplicaVolatile) (i : Input) → states (role kind.Replica p) ≡ ReplicaIn v → Given sent (role kind.Replica p) i
-      → Lands (Since c asked sent0 t) history sent states (role kind.Replica p) ReplicaIn (replica_row c (role kind.Replica p) (durable_of replica_rules (role kind.Replica p) history) v i)
-  replica_lands p v i up given =
-      lands c asked sent0 t history sent states facts reads (role kind.Replica p) ReplicaIn _
-      (replica_says (role kind.Replica p) (durable_of replica_rules (role kind.Replica p) history) v
-      (subst (λ s. InState c history sent (role kind.Replica p) s) up (facts.running (role kind.Replica p))) i given)
-      (no_acks c asked sent0 t history sent states facts reads (role kind.Replica p) _ (λ e. cc)
-      (replica_kinds c (role kind.Replica p) refl (durable_of replica_rules (role kind.Replica p) history) v i)) tt

@@ -24,8 +24,8 @@ use Rattle.cx_model.specs.Matched.{matchmakers, is_counted, greatest_watermark, 
 use Rattle.cx_model.specs.Matchmaker.{MatchmakerDurable, has_round, matchmaker_takes}
 use Rattle.cx_model.specs.Member.{Member}
 use Rattle.cx_model.specs.Outcome.{Outcome, either_way, by_test}
-use Rattle.cx_model.specs.Reader.{ReaderVolatile, Reading, reading_of, with_reading, without_reading, is_matched, acked_by, has_acked, greatest_mark, match_read_to, pre_read_to, read_to, ask_matchmakers, read_req_over, read_req_row, send_read, read_matched, match_ack_row, pre_read_ack_row}
-use Rattle.cx_model.specs.Replica.{ReplicaDurable, ReplicaVolatile, Machine, held, execute_value, machine_from, results_at, results_from, read_answer_to, read_answers, fetched_by, fetch_found, replica_takes, held_to, fetch_to, replica_tick}
+use Rattle.cx_model.specs.Reader.{ReaderVolatile, Reading, token, reading_of, with_reading, without_reading, is_matched, acked_by, has_acked, greatest_mark, match_read_to, pre_read_to, read_to, ask_matchmakers, read_req_over, read_req_row, send_read, read_matched, match_ack_row, pre_read_ack_row}
+use Rattle.cx_model.specs.Replica.{ReplicaDurable, ReplicaVolatile, Machine, held, execute_value, machine_from, results_at, results_from, read_answer_to, read_answers, fetched_by, fetch_found, read_row, replica_takes, held_to, fetch_to, replica_tick}
 use Rattle.cx_model.specs.Request.{same_read}
 use Rattle.cx_inv_run.proofs.Members.{Member-both, Member-one, Member-map, Member-filter}
 
@@ -38,6 +38,7 @@ IsPlain (msg.PreRead t w) = ⊥
 IsPlain (msg.PreReadAck t w n) = ⊥
 IsPlain (msg.Read t n key) = ⊥
 IsPlain (msg.ReadAnswer seq n found) = ⊥
+IsPlain (msg.SessRead seq n key) = ⊥
 IsPlain other = Unit {0}
 
 -- what is true of all datagrams of a list
@@ -94,6 +95,10 @@ module _ (P : Letter → Type 0) (me : RoleId) (plain : (to : RoleId) (m : Msg) 
 
 -- a replica
 
+-- the question to a replica, by a reader or by the client itself
+abbrev pub IsQuestion : RoleId → Msg → Deferred → Type 0
+IsQuestion from m r = (m ≡ msg.Read r.token r.mark r.key) ⊎ ((from.index ≡ r.token.client) × (m ≡ msg.SessRead r.token.seq r.mark r.key))
+
 module _ (P : Letter → Type 0) (c : Cluster) (me : RoleId) (plain : (to : RoleId) (m : Msg) → IsPlain m → P (letter me to m)) where
   abbrev ReplicaTells : Outcome ReplicaVolatile → Type 0
   ReplicaTells o = Each P o.sends
@@ -120,9 +125,16 @@ module _ (P : Letter → Type 0) (c : Cluster) (me : RoleId) (plain : (to : Role
   fetched v from s None = none P
   fetched v from s (Some value) = replica_one _ _ tt
 
+  read_tells : (d : ReplicaDurable) (v : ReplicaVolatile) (r : Deferred) → (r.mark ≤ held d → P (read_answer_to me (held d) d.machine r))
+      → ReplicaTells (read_row me d v r)
+  read_tells d v r now =
+      by_test ReplicaTells (nat_le r.mark (held d)) _ _ (λ t. Member-one P (read_answer_to me (held d) d.machine r) (now (leb-true r.mark (held d) t)))
+      (λ f. either_way ReplicaTells (list_any (λ (other : Deferred). same_read r.token other.token) v.deferred) _ _ (none P)
+      (either_way ReplicaTells (nat_le 64 (length v.deferred)) _ _ (none P) (none P)))
+
   pub replica_tells : (d : ReplicaDurable) (v : ReplicaVolatile) (from : RoleId)
       → ((n : ℕ) (machine : Machine) (r : Deferred) → Member r v.deferred → r.mark ≤ n → P (read_answer_to me n machine r))
-      → (m : Msg) → ((r : Deferred) → m ≡ msg.Read r.token r.mark r.key → r.mark ≤ held d → P (read_answer_to me (held d) d.machine r))
+      → (m : Msg) → ((r : Deferred) → IsQuestion from m r → r.mark ≤ held d → P (read_answer_to me (held d) d.machine r))
       → ReplicaTells (replica_takes c me d v from m)
   replica_tells d v from waiting (msg.Chosen s value) now =
       either_way ReplicaTells (nat_lt s (held d)) _ _ (none P)
@@ -134,10 +146,9 @@ module _ (P : Letter → Type 0) (c : Cluster) (me : RoleId) (plain : (to : Role
       Member-both P (results_from c me (held d) d.machine values) (read_answers me n after v.deferred)
       (results_all (held d) d.machine values) (answers_all n after v.deferred (waiting n after)))))
   replica_tells d v from waiting (msg.Read t n key) now =
-      let r : Deferred = record { token = t; mark = n; key = key } in
-      by_test ReplicaTells (nat_le n (held d)) _ _ (λ t. Member-one P (read_answer_to me (held d) d.machine r) (now r refl (leb-true n (held d) t)))
-      (λ f. either_way ReplicaTells (list_any (λ (other : Deferred). same_read r.token other.token) v.deferred) _ _ (none P)
-      (either_way ReplicaTells (nat_le 64 (length v.deferred)) _ _ (none P) (none P)))
+      let r : Deferred = record { token = t; mark = n; key = key } in read_tells d v r (now r (inl refl))
+  replica_tells d v from waiting (msg.SessRead seq n key) now =
+      let r : Deferred = record { token = token from.index seq; mark = n; key = key } in read_tells d v r (now r (inr (refl, refl)))
   replica_tells d v from waiting (msg.Fetch s) now =
       let asked = fetched_by c me v from s in
       either_way ReplicaTells (nat_lt s d.first) _ _ (none P) (fetched asked from s (slice_get d.log (s - d.first)))
@@ -150,9 +161,6 @@ module _ (P : Letter → Type 0) (c : Cluster) (me : RoleId) (plain : (to : Role
       (either_way (Each P) (nat_lt 1 c.replicas) _ _ (replica_one _ _ tt) (none P))
 
 -- a reader
-
-make_token : ℕ → ℕ → Token
-make_token client seq = record { client = client; seq = seq }
 
 pub same_read-true : (t u : Token) → same_read t u ≡ true → t ≡ u
 same_read-true t u h =

@@ -84,14 +84,15 @@ module _ (c : Cluster) (before : List KeptRecord) (earlier : List Letter) where
   acceptor_sends me history sent states facts e input.Tick = λ d m. absurd m
   acceptor_sends me history sent states facts e (input.Order order) = λ d m. absurd m
 
-  new_laws : Laws c (λ e. Unit {0}) Now New
+  new_laws : Laws c (λ n e. Unit {0}) Now New
   new_laws = record {
     same = λ history sent states others e h. h;
     start = λ states h ds e d m. absurd (subst (λ l. Member d l) (sym e) (Member-second d earlier ds m));
     stop = λ history sent states me h. h;
     wake = λ history sent states me h down. h;
-    ask = λ history sent states e allowed known h ds q.
-        sent_now sent (request e) known.1 (requested (AckIsSo before) (λ from to command t w n p. cc) (λ from to seq replica key t w n p. cc) e) ds q;
+    ask = λ history sent states n e allowed known h ds q.
+        sent_now sent (request n e) known.1
+        (requested (AckIsSo before) (λ from to command t w k p. cc) (λ from to seq replica key t w k p. cc) (λ from to seq m key t w k p. cc) n e) ds q;
     batcher = λ history sent states b v i known h up given.
         lands history sent states known.1 (role kind.Batcher b) _ _ (others (role kind.Batcher b) _ (λ e. cc) (batcher_kinds c (role kind.Batcher b) refl v i));
     leader = λ history sent states l v i known h up given.
@@ -121,6 +122,6 @@ unfolding step
 ack_sent c es e from to t w n m =
     let world = run c es in
     let new : HoldsIn (New c (reverse world.kept) world.sent) (step world e) =
-    step_keeps c (λ x. Unit {0}) (Now c (reverse world.kept) world.sent) (New c (reverse world.kept) world.sent) (new_laws c (reverse world.kept) world.sent) world (run_cluster c es)
+    step_keeps c (λ n x. Unit {0}) (Now c (reverse world.kept) world.sent) (New c (reverse world.kept) world.sent) (new_laws c (reverse world.kept) world.sent) world (run_cluster c es)
     (refl, refl, known_holds c es) (λ ds q d k. absurd (behind_all world.sent ds q d k)) e (λ s. tt) in
     new (change world e).sends refl _ m t w n refl

@@ -1,13 +1,10 @@
--- Of a read that no event asked for no datagram was sent.
-use Rattle.std.proofs.Common.{◌≡◌, ℕ, true, false, ◌&&◌, List, [], ◌∷◌, ◌++◌, Some, inl, inr, ap, sym, subst, ◌∙◌, refl}
-use Rattle.std.proofs.lemmas.Bool.{true≢false, and_from}
+-- Of a read that no event asked for no datagram was sent, up to the question to a replica.
+use Rattle.std.proofs.Common.{◌≡◌, ℕ, ◌&&◌, List, inl, inr, subst, refl}
 use Rattle.cx_base.specs.declared.cluster.Cluster.{Cluster}
 use Rattle.cx_base.specs.declared.event.Event.{Event}
 use Rattle.cx_base.specs.declared.event.Event.TheVariants as event
-use Rattle.cx_base.specs.declared.event.Happened.{Happened}
 use Rattle.cx_base.specs.declared.role.Kind.TheVariants as kind
 use Rattle.cx_base.specs.declared.role.RoleId.{RoleId}
-use Rattle.cx_base.specs.declared.why.Why.TheVariants as why
 use Rattle.cx_base.specs.Role.{role, same_role}
 use Rattle.cx_field.specs.declared.parts.Token.{Token}
 use Rattle.cx_msg.specs.Letter.{Letter}
@@ -16,35 +13,23 @@ use Rattle.cx_msg.specs.declared.input.Input.TheVariants as input
 use Rattle.cx_msg.specs.declared.input.KeptRecord.{KeptRecord}
 use Rattle.cx_msg.specs.declared.message.Msg.{Msg}
 use Rattle.cx_msg.specs.declared.message.Msg.TheVariants as msg
-use Rattle.cx_model.specs.declared.states.Deferred.{Deferred}
 use Rattle.cx_model.specs.Acceptor.{AcceptorDurable, acceptor_rules, acceptor_row}
-use Rattle.cx_model.specs.Facts.{ReplicaWasTold}
-use Rattle.cx_model.specs.History.{was_asked}
 use Rattle.cx_model.specs.Leader.{leader_rules}
-use Rattle.cx_model.specs.Lists.{number_itself}
 use Rattle.cx_model.specs.Matchmaker.{MatchmakerDurable, matchmaker_rules, matchmaker_row}
 use Rattle.cx_model.specs.Names.{names}
 use Rattle.cx_model.specs.Outcome.{Outcome, either_way}
 use Rattle.cx_model.specs.Reader.{Reading, ReaderVolatile, reading, token, reading_of, reader_takes, reader_row}
-use Rattle.cx_model.specs.Replica.{Machine, ReplicaDurable, ReplicaVolatile, held, replica_rules, read_answer_to, replica_row}
-use Rattle.cx_model.specs.Request.{token_of, same_token, was_sent, is_sent, request}
-use Rattle.cx_model.specs.World.{World, change, step, run_from}
-use Rattle.cx_inv_run.specs.Laws.{Lands, Laws, AllAllowed}
+use Rattle.cx_model.specs.Replica.{replica_rules}
+use Rattle.cx_model.specs.Request.{request}
+use Rattle.cx_inv_run.specs.Laws.{Lands, Laws}
 use Rattle.cx_inv_run.specs.States.{State, Given, durable_of}
-use Rattle.cx_inv_run.proofs.Members.{Member-cases, Member-first, Member-second, Member-one, Member-any, any-Member}
-use Rattle.cx_inv_run.proofs.Senders.{batcher_kinds, leader_kinds, proxy_kinds, unbatcher_kinds}
-use Rattle.cx_inv_run.proofs.Sends.{batcher_sends, leader_sends, proxy_sends, unbatcher_sends, sends_only}
-use Rattle.cx_inv_match.specs.Facts.{InState}
+use Rattle.cx_inv_run.proofs.Members.{Member-cases, Member-one}
+use Rattle.cx_inv_run.proofs.Senders.{batcher_kinds, leader_kinds, proxy_kinds, replica_kinds, unbatcher_kinds}
+use Rattle.cx_inv_run.proofs.Sends.{batcher_sends, leader_sends, proxy_sends, replica_sends, unbatcher_sends, sends_only}
 use Rattle.cx_inv_read.specs.Reads.{IsElse, Unread}
-use Rattle.cx_inv_read.proofs.Rows.{IsPlain, Each, acceptor_tells, matchmaker_tells, replica_tells, replica_ticks, reading_there, ReaderTells, request_tells, match_tells, ack_tells}
+use Rattle.cx_inv_read.proofs.Requests.{IsReadFor}
+use Rattle.cx_inv_read.proofs.Rows.{IsPlain, Each, acceptor_tells, matchmaker_tells, reading_there, ReaderTells, request_tells, match_tells, ack_tells}
 use Rattle.cx_inv_read.proofs.Says.{Known, told_lands}
-
--- a client and a number make one token
-pub one_token : (u t : Token) → role kind.Client u.client ≡ role kind.Client t.client → u.seq ≡ t.seq → u ≡ t
-one_token u t p q = go (ap (λ (r : RoleId). r.index) p)
-  where
-    go : u.client ≡ t.client → u ≡ t
-    go e = λ i. record { client = e i; seq = q i }
 
 module _ (t : Token) where
   abbrev Says : List KeptRecord → Letter → Type 0
@@ -60,7 +45,6 @@ module _ (t : Token) where
   plain from to (msg.PreRead u w) h = absurd h
   plain from to (msg.PreReadAck u w n) h = absurd h
   plain from to (msg.Read u n key) h = absurd h
-  plain from to (msg.ReadAnswer seq n found) h = absurd h
   plain from to other h = tt
 
   -- the rows of each role
@@ -78,19 +62,6 @@ module _ (t : Token) where
       (matchmaker_tells Fresh me (plain me) d l.from l.msg (λ u e. subst (λ m. IsElse t l.from l.to m) e (told l given.1))) (λ x m. absurd m)
   matchmaker_fresh c me d sent told input.Tick given = λ x m. absurd m
   matchmaker_fresh c me d sent told (input.Order order) given = λ x m. absurd m
-
-  answer_fresh : (me : RoleId) (n : ℕ) (machine : Machine) (r : Deferred) → (r.token ≡ t → ⊥) → Fresh (read_answer_to me n machine r)
-  answer_fresh me n machine r h = λ p q. h (one_token r.token t p q)
-
-  replica_fresh : (c : Cluster) (me : RoleId) (d : ReplicaDurable) (v : ReplicaVolatile) (sent : List Letter) → Each Fresh sent → ReplicaWasTold sent me v
-      → (i : Input) → Given sent me i → Each Fresh (replica_row c me d v i).sends
-  replica_fresh c me d v sent told waits (input.Take l) given =
-      either_way (λ (o : Outcome ReplicaVolatile). Each Fresh o.sends) (same_role l.to me && names c l) _ _
-      (replica_tells Fresh c me (plain me) d v l.from
-      (λ n machine r m k. let x = waits.deferred r m in answer_fresh me n machine r (told _ x.1)) l.msg
-      (λ r e k. answer_fresh me (held d) d.machine r (subst (λ m. IsElse t l.from l.to m) e (told l given.1)))) (λ x m. absurd m)
-  replica_fresh c me d v sent told waits input.Tick given = replica_ticks Fresh c me (plain me) d v
-  replica_fresh c me d v sent told waits (input.Order order) given = λ x m. absurd m
 
   abbrev Any : Reading → Type 0
   Any r = Unit {0}
@@ -114,32 +85,33 @@ module _ (t : Token) where
   reader_fresh c me v sent told input.Tick given = λ x m. absurd m
   reader_fresh c me v sent told (input.Order order) given = λ x m. absurd m
 
-  -- the request of another read
+  -- a request of something else
 
   abbrev pub IsOther : Event → Type 0
-  IsOther e = token_of e ≡ Some t → ⊥
+  IsOther e = IsReadFor t e → ⊥
 
-  asked_fresh : (e : Event) → IsOther e → Each Fresh (request e)
-  asked_fresh (event.Write command batcher) other = Member-one Fresh _ tt
-  asked_fresh (event.Read client seq floor reader replica key) other = Member-one Fresh _ (λ e. other (ap (λ (u : Token). Some u) e))
-  asked_fresh (event.Deliver n cut) other = λ d m. absurd m
-  asked_fresh (event.Tick r) other = λ d m. absurd m
-  asked_fresh (event.Order l order cut) other = λ d m. absurd m
-  asked_fresh (event.Snap p cut) other = λ d m. absurd m
-  asked_fresh (event.Crash r) other = λ d m. absurd m
-  asked_fresh (event.Restart r) other = λ d m. absurd m
+  asked_fresh : (n : ℕ) (e : Event) → IsOther e → Each Fresh (request n e)
+  asked_fresh n (event.Write command batcher) other = Member-one Fresh _ tt
+  asked_fresh n (event.Read client seq floor reader replica key) other = Member-one Fresh _ other
+  asked_fresh n (event.Session client seq floor replica key) other = Member-one Fresh _ tt
+  asked_fresh n (event.Deliver k cut) other = λ d m. absurd m
+  asked_fresh n (event.Tick r) other = λ d m. absurd m
+  asked_fresh n (event.Order l order cut) other = λ d m. absurd m
+  asked_fresh n (event.Snap p cut) other = λ d m. absurd m
+  asked_fresh n (event.Crash r) other = λ d m. absurd m
+  asked_fresh n (event.Restart r) other = λ d m. absurd m
 
   abbrev lands : {V : Type 0} (history : List KeptRecord) (sent : List Letter) (states : RoleId → State) → Unread t history sent states
       → (me : RoleId) (make : V → State) (o : Outcome V) → Each Fresh o.sends → Lands (Unread t) history sent states me make o
   lands history sent states told me make o says = told_lands Says (λ a r h d x. x) history sent states told me make o says
 
-  pub unread_laws : (c : Cluster) → Laws c IsOther (Known c) (Unread t)
+  pub unread_laws : (c : Cluster) → Laws c (λ n. IsOther) (Known c) (Unread t)
   unread_laws c = record {
     same = λ history sent states others e h. h;
     start = λ states h d m. absurd m;
     stop = λ history sent states me h. h;
     wake = λ history sent states me h down. h;
-    ask = λ history sent states e other known h d m. elim (Member-cases d sent (request e) m) [ inl k ↦ h d k | inr k ↦ asked_fresh e other d k ];
+    ask = λ history sent states n e other known h d m. elim (Member-cases d sent (request n e) m) [ inl k ↦ h d k | inr k ↦ asked_fresh n e other d k ];
     batcher = λ history sent states b v i known h up given.
         lands history sent states h (role kind.Batcher b) _ _
         (sends_only Fresh (role kind.Batcher b) _ (batcher_kinds c (role kind.Batcher b) refl v i)
@@ -158,7 +130,8 @@ module _ (t : Token) where
         lands history sent states h (role kind.Matchmaker m) _ _ (matchmaker_fresh c (role kind.Matchmaker m) (durable_of matchmaker_rules (role kind.Matchmaker m) history) sent h i given);
     replica = λ history sent states p v i known h up given.
         lands history sent states h (role kind.Replica p) _ _
-        (replica_fresh c (role kind.Replica p) (durable_of replica_rules (role kind.Replica p) history) v sent h (subst (λ s. InState c history sent (role kind.Replica p) s) up (known.1.running (role kind.Replica p))) i given);
+        (sends_only Fresh (role kind.Replica p) _ (replica_kinds c (role kind.Replica p) refl (durable_of replica_rules (role kind.Replica p) history) v i)
+        (λ to. replica_sends (λ m. IsElse t (role kind.Replica p) to m) (λ s value. tt) (λ s answers. tt) (λ n. tt) (λ s. tt) (λ seq n found. tt)));
     snap = λ history sent states p v first known h up e. h;
     unbatcher = λ history sent states u i known h up given.
         lands history sent states h (role kind.Unbatcher u) _ _
@@ -167,29 +140,3 @@ module _ (t : Token) where
     reader = λ history sent states r v i known h up given.
         lands history sent states h (role kind.Reader r) _ _ (reader_fresh c (role kind.Reader r) v sent h i given);
   }
-
-  -- what was asked for stays so
-
-  asked_step : (w : World) (e : Event) → was_asked t w.events ≡ true → was_asked t (step w e).events ≡ true
-  unfolding step
-  asked_step w e h =
-      let p = any-Member (λ (x : Happened). was_sent x && same_token t (token_of x.event)) w.events h in
-      Member-any (λ (x : Happened). was_sent x && same_token t (token_of x.event)) p.0 (w.events ++ record { event = e; why = (change w e).why } ∷ [])
-      (Member-first p.0 w.events (record { event = e; why = (change w e).why } ∷ []) p.1) p.2
-
-  asked_run : (w : World) (es : List Event) → was_asked t w.events ≡ true → was_asked t (run_from w es).events ≡ true
-  asked_run w [] h = h
-  asked_run w (e ∷ es) h = asked_run (step w e) es (asked_step w e h)
-
-  asked_now : (w : World) (e : Event) → (change w e).why ≡ why.Sent → token_of e ≡ Some t → was_asked t (step w e).events ≡ true
-  unfolding step
-  asked_now w e sent own =
-      Member-any (λ (x : Happened). was_sent x && same_token t (token_of x.event)) (record { event = e; why = (change w e).why })
-      (w.events ++ record { event = e; why = (change w e).why } ∷ [])
-      (Member-second (record { event = e; why = (change w e).why }) w.events (record { event = e; why = (change w e).why } ∷ []) (inl refl))
-      (and_from _ _ (ap is_sent sent) (ap (λ o. same_token t o) own ∙ and_from _ _ (number_itself t.client) (number_itself t.seq)))
-
-  -- in a run where it was not asked for no event asked for it
-  pub not_asked : (w : World) (es : List Event) → was_asked t (run_from w es).events ≡ false → AllAllowed IsOther w es
-  not_asked w [] h = tt
-  not_asked w (e ∷ es) h = (λ sent own. true≢false (sym (asked_run (step w e) es (asked_now w e sent own)) ∙ h), not_asked (step w e) es h)

@@ -33,7 +33,8 @@ use Rattle.cx_model.specs.Matchmaker.{matchmaker_rules}
 use Rattle.cx_model.specs.Member.{Member}
 use Rattle.cx_model.specs.Names.{names}
 use Rattle.cx_model.specs.Outcome.{Outcome, either_way}
-use Rattle.cx_model.specs.Replica.{IsTied, ReplicaDurable, ReplicaVolatile, Machine, Executed, held, new_machine, acting, execute_noted, execute, execute_all, execute_value, machine_from, machine_of, results_at, results_from, read_answer_to, read_answers, apply, fetched_by, fetch_found, held_to, fetch_to, replica_rules, replica_takes, replica_tick, replica_row}
+use Rattle.cx_model.specs.Reader.{token}
+use Rattle.cx_model.specs.Replica.{IsTied, ReplicaDurable, ReplicaVolatile, Machine, Executed, held, new_machine, acting, execute_noted, execute, execute_all, execute_value, machine_from, machine_of, results_at, results_from, read_answer_to, read_answers, apply, fetched_by, fetch_found, read_row, held_to, fetch_to, replica_rules, replica_takes, replica_tick, replica_row}
 use Rattle.cx_model.specs.Request.{same_read, request}
 use Rattle.cx_model.specs.Unbatcher.{answer_to, unbatcher_takes, unbatcher_row}
 use Rattle.cx_model.specs.World.{run, values_in}
@@ -197,15 +198,19 @@ module _ (c : Cluster) (history : List KeptRecord) (p : ℕ) (tied : IsTied (dur
   fetched v from s None = λ x k. absurd k
   fetched v from s (Some value) = Member-one (Says history) _ tt
 
+  read_took : (v : ReplicaVolatile) (r : Deferred) → Good history self (read_row self d v r)
+  read_took v r =
+      either_way (Good history self) (nat_le r.mark (held d)) _ _ (Member-one (Says history) _ (p, omega (arith, count)))
+      (either_way (Good history self) (list_any (λ (other : Deferred). same_read r.token other.token) v.deferred) _ _ (λ x k. absurd k)
+      (either_way (Good history self) (nat_le 64 (length v.deferred)) _ _ (λ x k. absurd k) (λ x k. absurd k)))
+
   replica_took : (v : ReplicaVolatile) (from : RoleId) (m : Msg) → Good history self (replica_takes c self d v from m)
   replica_took v from (msg.Chosen s value) =
       either_way (Good history self) (nat_lt s (held d)) _ _ (λ x k. absurd k)
       (either_way (Good history self) (nat_le (held d + 32) s) _ _ (λ x k. absurd k)
       (either_way (Good history self) (nat_lt (held d) s) _ _ (λ x k. absurd k) (applied v (ready_values (held d) v.early value))))
-  replica_took v from (msg.Read t n key) =
-      either_way (Good history self) (nat_le n (held d)) _ _ (Member-one (Says history) _ (p, omega (arith, count)))
-      (either_way (Good history self) (list_any (λ (other : Deferred). same_read t other.token) v.deferred) _ _ (λ x k. absurd k)
-      (either_way (Good history self) (nat_le 64 (length v.deferred)) _ _ (λ x k. absurd k) (λ x k. absurd k)))
+  replica_took v from (msg.Read t n key) = read_took v (record { token = t; mark = n; key = key })
+  replica_took v from (msg.SessRead seq n key) = read_took v (record { token = token from.index seq; mark = n; key = key })
   replica_took v from (msg.Fetch s) =
       let asked = fetched_by c self v from s in
       either_way (Good history self) (nat_lt s d.first) _ _ (λ x k. absurd k) (fetched asked from s (slice_get d.log (s - d.first)))
@@ -239,14 +244,15 @@ lands : {V : Type 0} (history : List KeptRecord) (sent : List Letter) (states : 
     → (me : RoleId) (make : V → State) (o : Outcome V) → Good history me o → Lands Within history sent states me make o
 lands history sent states told me make o good = told_lands Says (λ a r h d x. still_tells h (entry_by a r ∷ h) (log_longer a r h) d.msg x) history sent states told me make o good
 
-within_laws : (c : Cluster) → Laws c (λ e. Unit {0}) Ties Within
+within_laws : (c : Cluster) → Laws c (λ n e. Unit {0}) Ties Within
 within_laws c = record {
   same = λ history sent states others e h. h;
   start = λ states h d m. absurd m;
   stop = λ history sent states me h. h;
   wake = λ history sent states me h down. h;
-  ask = λ history sent states e allowed known h.
-      Member-both (Says history) sent (request e) h (requested (Says history) (λ from to command. tt) (λ from to seq replica key. tt) e);
+  ask = λ history sent states n e allowed known h.
+      Member-both (Says history) sent (request n e) h
+      (requested (Says history) (λ from to command. tt) (λ from to seq replica key. tt) (λ from to seq k key. tt) n e);
   batcher = λ history sent states b v i known h up given.
       lands history sent states h (role kind.Batcher b) _ _
       (sends_only _ (role kind.Batcher b) _ (batcher_kinds c (role kind.Batcher b) refl v i) (λ to. batcher_sends (TellsWithin _) (λ commands. tt)));
@@ -278,4 +284,4 @@ within_laws c = record {
 }
 
 pub within_holds : (c : Cluster) (es : List Event) → HoldsIn Within (run c es)
-within_holds c es = run_keeps c (λ e. Unit {0}) Ties Within (within_laws c) es (along c Ties (ties_hold c) [] es) (all_allowed (run c []) es)
+within_holds c es = run_keeps c (λ n e. Unit {0}) Ties Within (within_laws c) es (along c Ties (ties_hold c) [] es) (all_allowed (run c []) es)

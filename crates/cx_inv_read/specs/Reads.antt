@@ -1,5 +1,5 @@
--- What the datagrams of a read say: of the history as it was when the read was first asked for, of a read that was not asked for yet, and of how
--- many values some replica kept.
+-- What the datagrams of a read say: of the history as it was when the read was first asked for, and of a read that was not asked for; what those
+-- of a session say; on which question to a replica an answer stands, and how many values some replica kept.
 use Rattle.std.specs.Prelude.{◌≡◌, ◌⊎◌, ℕ, ◌+◌, ◌*◌, ◌<◌, ◌≤◌, false, List, length}
 use Rattle.cx_base.specs.declared.cluster.Cluster.{Cluster}
 use Rattle.cx_base.specs.declared.command.Answered.{Answered}
@@ -16,7 +16,8 @@ use Rattle.cx_msg.specs.Letter.{Letter, letter}
 use Rattle.cx_msg.specs.declared.input.KeptRecord.{KeptRecord}
 use Rattle.cx_msg.specs.declared.message.Msg.{Msg}
 use Rattle.cx_msg.specs.declared.message.Msg.TheVariants as msg
-use Rattle.cx_model.specs.Facts.{HasVoted}
+use Rattle.cx_model.specs.declared.states.Deferred.{Deferred}
+use Rattle.cx_model.specs.Facts.{HasVoted, IsReadOf}
 use Rattle.cx_model.specs.Matchmaker.{entry}
 use Rattle.cx_model.specs.Member.{Member}
 use Rattle.cx_model.specs.Promises.{IsConfig}
@@ -53,13 +54,13 @@ pub record IsReadAnswer (asked history : List KeptRecord) (m : RoleId) (water : 
   pub raised : IsRaised history water
   pub has_watermark : (water ≡ no_round) ⊎ ((g : Shape) × Member (entry water g) entries)
 
--- What a datagram of the read says. A kind that isn't named says nothing here.
+-- What a datagram of the read says, up to the question to a replica. A kind that isn't named says nothing here: of what a replica answers, and of
+-- a session, see below.
 abbrev pub ReadSays : List KeptRecord → Token → List KeptRecord → RoleId → RoleId → Msg → Type 0
 ReadSays asked t history from to (msg.MatchReadAck u w entries) = u ≡ t → IsReadAnswer asked history from w entries
 ReadSays asked t history from to (msg.PreRead u w) = u ≡ t → IsRaised history w
 ReadSays asked t history from to (msg.PreReadAck u w n) = u ≡ t → Covers asked from n × IsRaised history w
 ReadSays asked t history from to (msg.Read u n key) = u ≡ t → IsAbove asked n
-ReadSays asked t history from to (msg.ReadAnswer seq n found) = to ≡ role kind.Client t.client → seq ≡ t.seq → IsAbove asked n
 ReadSays asked t history from to other = Unit {0}
 
 -- an acceptor answered the read, asked with this watermark, by this number
@@ -99,7 +100,7 @@ pub record Reads (c : Cluster) (asked : List KeptRecord) (sent0 : List Letter) (
   pub evidence : (w : Round) → HasEvidence c asked sent0 t history sent w
   pub readers : (me : RoleId) → InReader c (states me)
 
--- a datagram that is of no read with this token
+-- a datagram that is of no read with this token, up to the question to a replica
 abbrev pub IsElse : Token → RoleId → RoleId → Msg → Type 0
 IsElse t from to (msg.ReadReq seq replica key) = token from.index seq ≡ t → ⊥
 IsElse t from to (msg.MatchRead u) = u ≡ t → ⊥
@@ -107,12 +108,36 @@ IsElse t from to (msg.MatchReadAck u w entries) = u ≡ t → ⊥
 IsElse t from to (msg.PreRead u w) = u ≡ t → ⊥
 IsElse t from to (msg.PreReadAck u w n) = u ≡ t → ⊥
 IsElse t from to (msg.Read u n key) = u ≡ t → ⊥
-IsElse t from to (msg.ReadAnswer seq n found) = to ≡ role kind.Client t.client → seq ≡ t.seq → ⊥
 IsElse t from to other = Unit {0}
 
 -- a read that nobody has asked for: no datagram of it was sent
 abbrev pub Unread : Token → List KeptRecord → List Letter → (RoleId → State) → Type 0
 Unread t history sent states = (d : Letter) → Member d sent → IsElse t d.from d.to d.msg
+
+-- a session's question with this token: the number in it is such a one. All other datagrams say nothing.
+abbrev pub SessionSays : Token → (ℕ → Type 0) → RoleId → Msg → Type 0
+SessionSays t Marks from (msg.SessRead seq n key) = token from.index seq ≡ t → Marks n
+SessionSays t Marks from other = Unit {0}
+
+abbrev pub Sessions : Token → (ℕ → Type 0) → List KeptRecord → List Letter → (RoleId → State) → Type 0
+Sessions t Marks history sent states = (d : Letter) → Member d sent → SessionSays t Marks d.from d.msg
+
+-- An answer to a client stands on a question that was sent to a replica for this client and number, by a reader or in a session: it is answered
+-- after at least as many values as were asked for.
+pub record HasQuestion (sent : List Letter) (to : RoleId) (seq n : ℕ) : Type 0 where
+  pub replica : RoleId
+  pub question : Deferred
+  pub asked : IsReadOf sent replica question
+  pub enough : question.mark ≤ n
+  pub client_is : to ≡ role kind.Client question.token.client
+  pub seq_is : seq ≡ question.token.seq
+
+abbrev pub AnswerSays : List Letter → RoleId → Msg → Type 0
+AnswerSays sent to (msg.ReadAnswer seq n found) = HasQuestion sent to seq n
+AnswerSays sent to other = Unit {0}
+
+abbrev pub AreAnswers : List KeptRecord → List Letter → (RoleId → State) → Type 0
+AreAnswers history sent states = (d : Letter) → Member d sent → AnswerSays sent d.to d.msg
 
 -- some replica kept n values
 abbrev pub IsWithin : List KeptRecord → ℕ → Type 0

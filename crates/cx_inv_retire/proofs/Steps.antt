@@ -49,7 +49,7 @@ fresh_counted c kind.Replica = tt
 fresh_counted c kind.Unbatcher = tt
 fresh_counted c kind.Reader = tt
 
-pub retire_laws : (c : Cluster) (past : List KeptRecord) (fresh : Token → Type 0) → Laws c (λ e. Unit {0}) (Known c past) (RetireFacts c past fresh)
+pub retire_laws : (c : Cluster) (past : List KeptRecord) (fresh : Token → Type 0) → Laws c (λ n e. Unit {0}) (Known c past) (RetireFacts c past fresh)
 retire_laws c past fresh = record {
   same = λ history sent states others e h. same_states c past fresh history sent states h others e;
   start = λ states first. record {
@@ -58,7 +58,7 @@ retire_laws c past fresh = record {
   };
   stop = λ history sent states me h. set c past fresh history sent states h me Down tt;
   wake = λ history sent states me h down. set c past fresh history sent states h me (fresh_state c me.kind) (fresh_counted c me.kind);
-  ask = λ history sent states e allowed known h. asked c past fresh history sent states h e;
+  ask = λ history sent states n e allowed known h. asked c past fresh history sent states h n e;
   batcher = λ history sent states b v i known h is given.
       quiet_lands c past fresh history sent states h (role kind.Batcher b) BatcherIn kind.Batcher (λ e. cc) (λ e. cc) (λ e. cc) refl
       (batcher_row c (role kind.Batcher b) tt v i) (batcher_kinds c (role kind.Batcher b) refl v i) tt;
@@ -144,5 +144,5 @@ since c es more =
     let w = run c es in
     let past = reverse w.kept in
     subst (λ x. HoldsIn (RetireFacts c past (IsFresh w.sent)) x) (sym (run_append c es more))
-    (run_from_keeps c (λ e. Unit {0}) (Known c past) (RetireFacts c past (IsFresh w.sent)) (retire_laws c past (IsFresh w.sent)) w (run_cluster c es)
+    (run_from_keeps c (λ n e. Unit {0}) (Known c past) (RetireFacts c past (IsFresh w.sent)) (retire_laws c past (IsFresh w.sent)) w (run_cluster c es)
     (now c past w.sent (states_of w.roles) (facts_hold c es) (retire_holds c es)) more (knows_along c past es more (λ k m. m)) (all_allowed w more))

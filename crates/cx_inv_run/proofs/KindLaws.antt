@@ -30,15 +30,16 @@ restated : (kept : List KeptRecord) (sent : List Letter) (states others : RoleId
 restated kept sent states others h = record { senders = h.senders; keepers = h.keepers }
 
 -- a request is of a client's kind
-requested : (e : Event) (d : Letter) → Member d (request e) → IsSender d.from.kind d.msg
-requested (event.Write command batcher) d m = Member-one (λ d. IsSender d.from.kind d.msg) _ refl d m
-requested (event.Read client seq floor reader replica key) d m = Member-one (λ d. IsSender d.from.kind d.msg) _ refl d m
-requested (event.Deliver number cut) d m = absurd m
-requested (event.Tick r) d m = absurd m
-requested (event.Order leader order cut) d m = absurd m
-requested (event.Snap p cut) d m = absurd m
-requested (event.Crash r) d m = absurd m
-requested (event.Restart r) d m = absurd m
+requested : (n : ℕ) (e : Event) (d : Letter) → Member d (request n e) → IsSender d.from.kind d.msg
+requested n (event.Write command batcher) d m = Member-one (λ d. IsSender d.from.kind d.msg) _ refl d m
+requested n (event.Read client seq floor reader replica key) d m = Member-one (λ d. IsSender d.from.kind d.msg) _ refl d m
+requested n (event.Session client seq floor replica key) d m = Member-one (λ d. IsSender d.from.kind d.msg) _ refl d m
+requested n (event.Deliver number cut) d m = absurd m
+requested n (event.Tick r) d m = absurd m
+requested n (event.Order leader order cut) d m = absurd m
+requested n (event.Snap p cut) d m = absurd m
+requested n (event.Crash r) d m = absurd m
+requested n (event.Restart r) d m = absurd m
 
 module _ (kept : List KeptRecord) (sent : List Letter) (states : RoleId → State) (h : Kinds kept sent states) where
   sent_more : (ds : List Letter) → ((d : Letter) → Member d ds → IsSender d.from.kind d.msg) → (d : Letter) → Member d (sent ++ ds) → IsSender d.from.kind d.msg
@@ -67,13 +68,13 @@ module _ (kept : List KeptRecord) (sent : List Letter) (states : RoleId → Stat
     cut = λ r e. record { senders = h.senders; keepers = kept_more me (Some r) (keeps_only me o r kinds e) };
   }
 
-pub kinds_laws : (c : Cluster) → Laws c (λ e. Unit {0}) anything Kinds
+pub kinds_laws : (c : Cluster) → Laws c (λ n e. Unit {0}) anything Kinds
 kinds_laws c = record {
   same = λ kept sent states others e h. restated kept sent states others h;
   start = λ states fresh. record { senders = λ d m. absurd m; keepers = λ k m. absurd m };
   stop = λ kept sent states me h. restated kept sent states _ h;
   wake = λ kept sent states me h e. restated kept sent states _ h;
-  ask = λ kept sent states e allowed knows h. record { senders = sent_more kept sent states h (request e) (requested e); keepers = h.keepers };
+  ask = λ kept sent states n e allowed knows h. record { senders = sent_more kept sent states h (request n e) (requested n e); keepers = h.keepers };
   batcher = λ kept sent states b v i knows h is given. landed kept sent states h (role kind.Batcher b) BatcherIn _ (batcher_kinds c (role kind.Batcher b) refl v i);
   leader = λ kept sent states l v i knows h is given.
       landed kept sent states h (role kind.Leader l) LeaderIn _ (leader_kinds c (role kind.Leader l) refl (durable_of leader_rules (role kind.Leader l) kept) v i);
@@ -90,7 +91,7 @@ kinds_laws c = record {
 }
 
 pub kinds_hold : (c : Cluster) (es : List Event) → HoldsIn Kinds (run c es)
-kinds_hold c es = run_keeps c (λ e. Unit {0}) anything Kinds (kinds_laws c) es (along_anything (run c []) es) (all_allowed (run c []) es)
+kinds_hold c es = run_keeps c (λ n e. Unit {0}) anything Kinds (kinds_laws c) es (along_anything (run c []) es) (all_allowed (run c []) es)
 
 pub kinds_are_so : KindsLaw
 kinds_are_so = record {

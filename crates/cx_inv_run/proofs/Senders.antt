@@ -44,7 +44,7 @@ use Rattle.cx_model.specs.Outcome.{Outcome, answered, replied, either_way}
 use Rattle.cx_model.specs.Plan.{promised_by, has_promised, plan, placed_from}
 use Rattle.cx_model.specs.Proxy.{ProxyVolatile, raised_to, pending_of, pending_at, phase2a_to, column_for, members_for, chosen_to, chosen_in_to, announcement, ask, propose_over, vote_for, proxy_takes, again_for, again_at, proxy_tick, proxy_row}
 use Rattle.cx_model.specs.Reader.{ReaderVolatile, Reading, reading, token, reading_of, is_matched, acked_by, has_acked, greatest_mark, match_read_to, pre_read_to, ask_matchmakers, read_req_over, send_read, read_matched, match_ack_counted, match_ack_row, pre_read_counted, pre_read_ack_row, reader_takes, reader_row}
-use Rattle.cx_model.specs.Replica.{ReplicaDurable, ReplicaVolatile, Machine, held, execute_value, machine_from, results_at, results_from, read_answer_to, read_answers, apply, fetched_by, fetch_found, held_to, fetch_to, replica_takes, replica_tick, replica_row}
+use Rattle.cx_model.specs.Replica.{ReplicaDurable, ReplicaVolatile, Machine, held, execute_value, machine_from, results_at, results_from, read_answer_to, read_answers, apply, read_row, fetched_by, fetch_found, held_to, fetch_to, replica_takes, replica_tick, replica_row}
 use Rattle.cx_model.specs.Request.{same_read}
 use Rattle.cx_model.specs.Unbatcher.{answer_to, unbatcher_takes, unbatcher_row}
 use Rattle.cx_inv_run.specs.Kinds.{IsSender, IsKeeper, OfKind}
@@ -219,15 +219,19 @@ module _ (c : Cluster) (me : RoleId) (is : me.kind ≡ kind.Replica) (d : Replic
   fetched v from s None = quiet me _ v
   fetched v from s (Some value) = replying me _ v _ (one me _ _ (inr is))
 
+  read_took : (v : ReplicaVolatile) (r : Deferred) → OfKind me (read_row me d v r)
+  read_took v r =
+      pick me (nat_le r.mark (held d)) _ _ (replying me _ v _ (one me _ _ is))
+      (pick me (list_any (λ (other : Deferred). same_read r.token other.token) v.deferred) _ _ (quiet me _ v)
+      (pick me (nat_le 64 (length v.deferred)) _ _ (quiet me _ v) (quiet me _ _)))
+
   replica_took : (v : ReplicaVolatile) (from : RoleId) (m : Msg) → OfKind me (replica_takes c me d v from m)
   replica_took v from (msg.Chosen s value) =
       pick me (nat_lt s (held d)) _ _ (quiet me _ v)
       (pick me (nat_le (held d + 32) s) _ _ (quiet me _ v)
       (pick me (nat_lt (held d) s) _ _ (quiet me _ _) (applied v (ready_values (held d) v.early value))))
-  replica_took v from (msg.Read t n key) =
-      pick me (nat_le n (held d)) _ _ (replying me _ v _ (one me _ _ is))
-      (pick me (list_any (λ (other : Deferred). same_read t other.token) v.deferred) _ _ (quiet me _ v)
-      (pick me (nat_le 64 (length v.deferred)) _ _ (quiet me _ v) (quiet me _ _)))
+  replica_took v from (msg.Read t n key) = read_took v (record { token = t; mark = n; key = key })
+  replica_took v from (msg.SessRead seq n key) = read_took v (record { token = record { client = from.index; seq = seq }; mark = n; key = key })
   replica_took v from (msg.Fetch s) =
       let asked = fetched_by c me v from s in
       pick me (nat_lt s d.first) _ _ (quiet me _ asked) (fetched asked from s (slice_get d.log (s - d.first)))

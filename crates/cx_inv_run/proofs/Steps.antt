@@ -24,6 +24,7 @@ use Rattle.cx_msg.specs.declared.kept.Record.{Record}
 use Rattle.cx_field.specs.declared.parts.Token.{Token}
 use Rattle.cx_model.specs.Acceptor.{acceptor_rules, acceptor_row}
 use Rattle.cx_model.specs.Batcher.{BatcherVolatile, batcher_rules, batcher_row}
+use Rattle.cx_model.specs.Heard.{heard_by}
 use Rattle.cx_model.specs.Leader.{LeaderVolatile, leader_rules, leader_row}
 use Rattle.cx_model.specs.Lists.{get_set_same, get_set_other, other_role, role_from_parts, number_itself, kind_same}
 use Rattle.cx_model.specs.Matchmaker.{matchmaker_rules, matchmaker_row}
@@ -31,13 +32,13 @@ use Rattle.cx_model.specs.Outcome.{Outcome}
 use Rattle.cx_model.specs.Proxy.{ProxyVolatile, proxy_rules, proxy_row}
 use Rattle.cx_model.specs.Reader.{ReaderVolatile, reader_rules, reader_row}
 use Rattle.cx_model.specs.Replica.{ReplicaVolatile, replica_rules, replica_row}
-use Rattle.cx_model.specs.Request.{is_stale, request}
+use Rattle.cx_model.specs.Request.{is_stale, request, token_of}
 use Rattle.cx_model.specs.Rules.{Rules}
 use Rattle.cx_model.specs.Turn.{Turn, turn, turn_with, whole_turn, snap_turn}
 use Rattle.cx_model.specs.Unbatcher.{unbatcher_rules, unbatcher_row}
 use Rattle.cx_model.specs.World.{World, Roles, Change, change, changed, nothing, come, act_at, act_of, turn_found, durable_part, kept_by, fresh_roles, start, step, run, run_from}
 use Rattle.cx_inv_run.specs.States.{State, Down, Plain, BatcherIn, LeaderIn, ProxyIn, ReplicaIn, ReaderIn, plain, state_of, state_found, state_in, states_of, fresh_state, set_state, entry_by, snap_by, with_written, durable_of, Given, Property, HoldsIn}
-use Rattle.cx_inv_run.specs.Laws.{Lands, Laws, anything, AllAllowed, HoldsAlong, StepLaw, RunFromLaw, RunLaw}
+use Rattle.cx_inv_run.specs.Laws.{Lands, Laws, anything, heard_of, AllAllowed, HoldsAlong, StepLaw, RunFromLaw, RunLaw}
 use Rattle.cx_inv_run.proofs.Members.{Member-at}
 use Rattle.cx_inv_run.proofs.Histories.{durable_by_time, record_written, set_running, set_same}
 
@@ -193,7 +194,7 @@ ActGiven sent me Wake = Unit {0}
 as_role : (P : RoleId → Type 0) (k : Kind) (me : RoleId) → me.kind ≡ k → P (role k me.index) → P me
 as_role P k me is h = subst P (role_from_parts k me.kind me.index me.index (sym is) refl) h
 
-module _ (c : Cluster) (Allowed : Event → Type 0) (known holds : Property) (laws : Laws c Allowed known holds) where
+module _ (c : Cluster) (Allowed : ℕ → Event → Type 0) (known holds : Property) (laws : Laws c Allowed known holds) where
   -- a turn of a role
   module _ {V : Type 0} (kept : List KeptRecord) (sent : List Letter) (states : RoleId → State) (h : holds kept sent states) (me : RoleId) (make : V → State) where
     abbrev AfterTurn : Turn V → Type 0
@@ -343,17 +344,19 @@ module _ (c : Cluster) (Allowed : Event → Type 0) (known holds : Property) (la
     asked e t stale =
         if stale
         then nothing (Some (role kind.Client t.client)) w.roles why.Stale
-        else record { who = Some (role kind.Client t.client); why = why.Sent; roles = w.roles; kept = []; sends = request e }
+        else record { who = Some (role kind.Client t.client); why = why.Sent; roles = w.roles; kept = []; sends = request (heard_by t.client w.sent w.events) e }
 
-    asks : (e : Event) (t : Token) (stale : Bool) → ((asked e t stale).why ≡ why.Sent → Allowed e) → AfterChange (asked e t stale)
+    asks : (e : Event) (t : Token) (stale : Bool) → ((asked e t stale).why ≡ why.Sent → Allowed (heard_by t.client w.sent w.events) e) → AfterChange (asked e t stale)
     asks e t true allowed = no_change
-    asks e t false allowed = laws.ask (reverse w.kept) w.sent (states_of w.roles) e (allowed refl) knows h
+    asks e t false allowed = laws.ask (reverse w.kept) w.sent (states_of w.roles) (heard_by t.client w.sent w.events) e (allowed refl) knows h
 
-    changes : (e : Event) → ((change w e).why ≡ why.Sent → Allowed e) → AfterChange (change w e)
+    changes : (e : Event) → ((change w e).why ≡ why.Sent → Allowed (heard_of w (token_of e)) e) → AfterChange (change w e)
     changes (event.Write command batcher) allowed =
         (let t : Token = record { client = command.client; seq = command.seq } in asks (event.Write command batcher) t (is_stale t (event.Write command batcher) w.events) allowed)
     changes (event.Read client seq floor reader replica key) allowed =
         (let t : Token = record { client = client; seq = seq } in asks (event.Read client seq floor reader replica key) t (is_stale t (event.Read client seq floor reader replica key) w.events) allowed)
+    changes (event.Session client seq floor replica key) allowed =
+        (let t : Token = record { client = client; seq = seq } in asks (event.Session client seq floor replica key) t (is_stale t (event.Session client seq floor replica key) w.events) allowed)
     changes (event.Deliver n cut) allowed = comes cut (slice_get w.sent n) (λ d e. (refl, Member-at d w.sent n e))
     changes (event.Tick r) allowed = acts (Give input.Tick Whole) r tt
     changes (event.Order l order cut) allowed = acts (Give (input.Order order) cut) (role kind.Leader l) tt
@@ -361,7 +364,7 @@ module _ (c : Cluster) (Allowed : Event → Type 0) (known holds : Property) (la
     changes (event.Crash r) allowed = acts Stop r tt
     changes (event.Restart r) allowed = acts Wake r tt
 
-    stepped : (e : Event) → ((change w e).why ≡ why.Sent → Allowed e) → HoldsIn holds (step w e)
+    stepped : (e : Event) → ((change w e).why ≡ why.Sent → Allowed (heard_of w (token_of e)) e) → HoldsIn holds (step w e)
     unfolding step
     stepped e allowed =
         let ch = change w e in
@@ -398,7 +401,7 @@ start_state c i kind.Replica = fresh_or_down ReplicaIn (replica_rules.fresh c) c
 start_state c i kind.Unbatcher = fresh_or_down plain tt c.unbatchers i
 start_state c i kind.Reader = fresh_or_down ReaderIn (reader_rules.fresh c) c.readers i
 
-pub start_holds : (c : Cluster) (Allowed : Event → Type 0) (known holds : Property) → Laws c Allowed known holds → HoldsIn holds (run c [])
+pub start_holds : (c : Cluster) (Allowed : ℕ → Event → Type 0) (known holds : Property) → Laws c Allowed known holds → HoldsIn holds (run c [])
 start_holds c Allowed known holds laws = laws.start (states_of ((start c).roles)) (λ a. start_state c a.index a.kind)
 
 pub run_keeps : RunLaw
@@ -432,12 +435,12 @@ along_anything w [] = tt
 along_anything w (e ∷ es) = (tt, along_anything (step w e) es)
 
 -- where every request is allowed
-pub all_allowed : (w : World) (es : List Event) → AllAllowed (λ e. Unit {0}) w es
+pub all_allowed : (w : World) (es : List Event) → AllAllowed (λ n e. Unit {0}) w es
 all_allowed w [] = tt
 all_allowed w (e ∷ es) = (λ sent. tt, all_allowed (step w e) es)
 
 -- a property whose laws rest on one that holds of every run, and let every request out, holds of every run
-pub always : (c : Cluster) (known holds : Property) → Laws c (λ e. Unit {0}) known holds → ((es : List Event) → HoldsIn known (run c es))
+pub always : (c : Cluster) (known holds : Property) → Laws c (λ n e. Unit {0}) known holds → ((es : List Event) → HoldsIn known (run c es))
     → (es : List Event) → HoldsIn holds (run c es)
 always c known holds laws knows es =
-    run_keeps c (λ e. Unit {0}) known holds laws es (along c known knows [] es) (all_allowed (run c []) es)
+    run_keeps c (λ n e. Unit {0}) known holds laws es (along c known knows [] es) (all_allowed (run c []) es)

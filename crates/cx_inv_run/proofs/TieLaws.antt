@@ -90,13 +90,13 @@ restated history sent more states others h = record { tied = h.tied }
 started : (states : RoleId → State) → Ties [] [] states
 started states = record { tied = λ p. tied_as _ _ _ _ (durable_none replica_rules (role kind.Replica p)) (log_none p) tied_none }
 
-pub ties_laws : (c : Cluster) → Laws c (λ e. Unit {0}) anything Ties
+pub ties_laws : (c : Cluster) → Laws c (λ n e. Unit {0}) anything Ties
 ties_laws c = record {
   same = λ history sent states others e h. restated history sent sent states others h;
   start = λ states fresh. started states;
   stop = λ history sent states me h. restated history sent sent states _ h;
   wake = λ history sent states me h e. restated history sent sent states _ h;
-  ask = λ history sent states e allowed knows h. restated history sent _ states states h;
+  ask = λ history sent states n e allowed knows h. restated history sent _ states states h;
   batcher = λ history sent states b v i knows h is given. landed history sent states h (role kind.Batcher b) BatcherIn _ (λ p. refl);
   leader = λ history sent states l v i knows h is given. landed history sent states h (role kind.Leader l) LeaderIn _ (λ p. refl);
   proxy = λ history sent states p v i knows h is given. landed history sent states h (role kind.Proxy p) ProxyIn _ (λ q. refl);
@@ -110,7 +110,7 @@ ties_laws c = record {
 }
 
 pub ties_hold : (c : Cluster) (es : List Event) → HoldsIn Ties (run c es)
-ties_hold c es = run_keeps c (λ e. Unit {0}) anything Ties (ties_laws c) es (along_anything (run c []) es) (all_allowed (run c []) es)
+ties_hold c es = run_keeps c (λ n e. Unit {0}) anything Ties (ties_laws c) es (along_anything (run c []) es) (all_allowed (run c []) es)
 
 -- the same, with the oldest first
 pub tied_in : (c : Cluster) (es : List Event) (p : ℕ) → IsTied (durable_part replica_rules (role kind.Replica p) (run c es).kept) (log_of p (run c es).kept)

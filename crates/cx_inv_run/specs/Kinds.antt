@@ -48,6 +48,7 @@ IsSender k (msg.PreRead t w) = k ≡ kind.Reader
 IsSender k (msg.PreReadAck t w n) = k ≡ kind.Acceptor
 IsSender k (msg.Read t n key) = k ≡ kind.Reader
 IsSender k (msg.ReadAnswer seq n found) = k ≡ kind.Replica
+IsSender k (msg.SessRead seq n key) = k ≡ kind.Client
 
 -- none keeps the records of a renewed list, which stand in the place of others
 abbrev pub IsKeeper : Kind → Record → Type 0

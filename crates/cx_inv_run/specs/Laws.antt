@@ -1,25 +1,27 @@
 -- What a property of moments needs, so that every step keeps it: one law for each kind of step, one for each kind of role's rows, and one for
 -- a replica that forgets values.
-use Rattle.std.specs.Prelude.{◌≡◌, ◌⊎◌, ℕ, List, [], ◌∷◌, ◌++◌, Some}
+use Rattle.std.specs.Prelude.{◌≡◌, ◌⊎◌, ℕ, List, [], ◌∷◌, ◌++◌, Option, None, Some}
 use Rattle.cx_base.specs.declared.cluster.Cluster.{Cluster}
 use Rattle.cx_base.specs.declared.event.Event.{Event}
 use Rattle.cx_base.specs.declared.role.Kind.TheVariants as kind
 use Rattle.cx_base.specs.declared.role.RoleId.{RoleId}
 use Rattle.cx_base.specs.declared.why.Why.TheVariants as why
 use Rattle.cx_base.specs.Role.{role}
+use Rattle.cx_field.specs.declared.parts.Token.{Token}
 use Rattle.cx_msg.specs.Letter.{Letter}
 use Rattle.cx_msg.specs.declared.input.Input.{Input}
 use Rattle.cx_msg.specs.declared.input.KeptRecord.{KeptRecord}
 use Rattle.cx_msg.specs.declared.kept.Record.{Record}
 use Rattle.cx_model.specs.Acceptor.{acceptor_rules, acceptor_row}
 use Rattle.cx_model.specs.Batcher.{BatcherVolatile, batcher_row}
+use Rattle.cx_model.specs.Heard.{heard_by}
 use Rattle.cx_model.specs.Leader.{LeaderVolatile, leader_rules, leader_row}
 use Rattle.cx_model.specs.Matchmaker.{matchmaker_rules, matchmaker_row}
 use Rattle.cx_model.specs.Outcome.{Outcome}
 use Rattle.cx_model.specs.Proxy.{ProxyVolatile, proxy_row}
 use Rattle.cx_model.specs.Reader.{ReaderVolatile, reader_row}
 use Rattle.cx_model.specs.Replica.{ReplicaVolatile, replica_rules, replica_row}
-use Rattle.cx_model.specs.Request.{request}
+use Rattle.cx_model.specs.Request.{request, token_of}
 use Rattle.cx_model.specs.Unbatcher.{unbatcher_row}
 use Rattle.cx_model.specs.World.{World, change, step, run, run_from}
 use Rattle.cx_inv_run.specs.States.{State, Down, Plain, BatcherIn, LeaderIn, ProxyIn, ReplicaIn, ReaderIn, plain, fresh_state, set_state, entry_by, snap_by, with_record, durable_of, Given, Property, HoldsIn}
@@ -29,8 +31,9 @@ pub record Lands {V : Type 0} (holds : Property) (kept : List KeptRecord) (sent 
   pub whole : holds (with_record me o.kept kept) (sent ++ o.sends) (set_state me (make o.volatile) states)
   pub cut : (r : Record) → o.kept ≡ Some r → holds (entry_by me r ∷ kept) sent (set_state me Down states)
 
--- The laws of a property over a cluster. `known` is another property that every moment is known to have, `Allowed` says which requests go out.
-pub record Laws (c : Cluster) (Allowed : Event → Type 0) (known holds : Property) : Type 0 where
+-- The laws of a property over a cluster. `known` is another property that every moment is known to have, `Allowed` says which requests go out,
+-- where their clients have heard of so many values.
+pub record Laws (c : Cluster) (Allowed : ℕ → Event → Type 0) (known holds : Property) : Type 0 where
   -- only the state of each role counts
   pub same : (kept : List KeptRecord) (sent : List Letter) (states others : RoleId → State)
       → ((a : RoleId) → states a ≡ others a) → holds kept sent states → holds kept sent others
@@ -42,9 +45,9 @@ pub record Laws (c : Cluster) (Allowed : Event → Type 0) (known holds : Proper
   -- a restart
   pub wake : (kept : List KeptRecord) (sent : List Letter) (states : RoleId → State) (me : RoleId)
       → holds kept sent states → states me ≡ Down → holds kept sent (set_state me (fresh_state c me.kind) states)
-  -- a client's request that goes out
-  pub ask : (kept : List KeptRecord) (sent : List Letter) (states : RoleId → State) (e : Event)
-      → Allowed e → known kept sent states → holds kept sent states → holds kept (sent ++ request e) states
+  -- a request of a client that has heard of `n` values
+  pub ask : (kept : List KeptRecord) (sent : List Letter) (states : RoleId → State) (n : ℕ) (e : Event)
+      → Allowed n e → known kept sent states → holds kept sent states → holds kept (sent ++ request n e) states
   -- the rows of each kind of role
   pub batcher : (kept : List KeptRecord) (sent : List Letter) (states : RoleId → State) (b : ℕ) (v : BatcherVolatile) (i : Input)
       → known kept sent states → holds kept sent states → states (role kind.Batcher b) ≡ BatcherIn v → Given sent (role kind.Batcher b) i
@@ -80,10 +83,15 @@ pub record Laws (c : Cluster) (Allowed : Event → Type 0) (known holds : Proper
 abbrev pub anything : Property
 anything kept sent states = Unit {0}
 
+-- of how many values the client of a request has heard
+abbrev pub heard_of : World → Option Token → ℕ
+heard_of w None = 0
+heard_of w (Some t) = heard_by t.client w.sent w.events
+
 -- each request of these events that goes out is allowed
-abbrev pub AllAllowed : (Event → Type 0) → World → List Event → Type 0
+abbrev pub AllAllowed : (ℕ → Event → Type 0) → World → List Event → Type 0
 AllAllowed Allowed w [] = Unit {0}
-AllAllowed Allowed w (e ∷ es) = ((change w e).why ≡ why.Sent → Allowed e) × AllAllowed Allowed (step w e) es
+AllAllowed Allowed w (e ∷ es) = ((change w e).why ≡ why.Sent → Allowed (heard_of w (token_of e)) e) × AllAllowed Allowed (step w e) es
 
 -- the property holds in a world and after each of these events
 abbrev pub HoldsAlong : Property → World → List Event → Type 0
@@ -93,17 +101,17 @@ HoldsAlong holds w (e ∷ es) = HoldsIn holds w × HoldsAlong holds (step w e) e
 -- What the laws give: an event keeps the property, the property holds of a run that begins with it, and of every run.
 abbrev pub StepLaw : Type 1
 StepLaw =
-    (c : Cluster) (Allowed : Event → Type 0) (known holds : Property) → Laws c Allowed known holds
+    (c : Cluster) (Allowed : ℕ → Event → Type 0) (known holds : Property) → Laws c Allowed known holds
     → (w : World) → w.cluster ≡ c → HoldsIn known w → HoldsIn holds w
-    → (e : Event) → ((change w e).why ≡ why.Sent → Allowed e) → HoldsIn holds (step w e)
+    → (e : Event) → ((change w e).why ≡ why.Sent → Allowed (heard_of w (token_of e)) e) → HoldsIn holds (step w e)
 
 abbrev pub RunFromLaw : Type 1
 RunFromLaw =
-    (c : Cluster) (Allowed : Event → Type 0) (known holds : Property) → Laws c Allowed known holds
+    (c : Cluster) (Allowed : ℕ → Event → Type 0) (known holds : Property) → Laws c Allowed known holds
     → (w : World) → w.cluster ≡ c → HoldsIn holds w
     → (es : List Event) → HoldsAlong known w es → AllAllowed Allowed w es → HoldsIn holds (run_from w es)
 
 abbrev pub RunLaw : Type 1
 RunLaw =
-    (c : Cluster) (Allowed : Event → Type 0) (known holds : Property) → Laws c Allowed known holds
+    (c : Cluster) (Allowed : ℕ → Event → Type 0) (known holds : Property) → Laws c Allowed known holds
     → (es : List Event) → HoldsAlong known (run c []) es → AllAllowed Allowed (run c []) es → HoldsIn holds (run c es)

@@ -90,7 +90,7 @@ batcher_told sent ds me v h = record {
 pub replica_told : (sent ds : List Letter) (me : RoleId) (v : ReplicaVolatile) → ReplicaWasTold sent me v → ReplicaWasTold (sent ++ ds) me v
 replica_told sent ds me v h = record {
   early = λ p m. let r = h.early p m in (r.0, Member-first _ sent ds r.1);
-  deferred = λ r m. let d = h.deferred r m in (d.0, Member-first _ sent ds d.1);
+  deferred = λ r m. elim (h.deferred r m) [ inl d ↦ inl (d.0, Member-first _ sent ds d.1) | inr d ↦ inr (d.0, d.1, Member-first _ sent ds d.2) ];
 }
 
 pub reader_told : (sent ds : List Letter) (me : RoleId) (v : ReaderVolatile) → ReaderWasTold sent me v → ReaderWasTold (sent ++ ds) me v

@@ -136,36 +136,40 @@ start_facts c states fresh = record {
 
 -- a request
 
-request_says : (c : Cluster) (history : List KeptRecord) (longer : List Letter) (e : Event) (d : Letter) → Member d (request e) → Says c history longer d.from d.msg
-request_says c history longer (event.Write command batcher) =
+request_says : (c : Cluster) (history : List KeptRecord) (longer : List Letter) (n : ℕ) (e : Event) (d : Letter) → Member d (request n e) → Says c history longer d.from d.msg
+request_says c history longer n (event.Write command batcher) =
     Member-one (λ (d : Letter). Says c history longer d.from d.msg) (letter (role kind.Client command.client) (role kind.Batcher batcher) (msg.Submit command)) tt
-request_says c history longer (event.Read client seq floor reader replica key) =
+request_says c history longer n (event.Read client seq floor reader replica key) =
     Member-one (λ (d : Letter). Says c history longer d.from d.msg) (letter (role kind.Client client) (role kind.Reader reader) (msg.ReadReq seq replica key)) tt
-request_says c history longer (event.Deliver number cut) = λ d m. absurd m
-request_says c history longer (event.Tick r) = λ d m. absurd m
-request_says c history longer (event.Order leader order cut) = λ d m. absurd m
-request_says c history longer (event.Crash r) = λ d m. absurd m
-request_says c history longer (event.Snap replica cut) = λ d m. absurd m
-request_says c history longer (event.Restart r) = λ d m. absurd m
+request_says c history longer n (event.Session client seq floor replica key) =
+    Member-one (λ (d : Letter). Says c history longer d.from d.msg) (letter (role kind.Client client) (role kind.Replica replica) (msg.SessRead seq n key)) tt
+request_says c history longer n (event.Deliver number cut) = λ d m. absurd m
+request_says c history longer n (event.Tick r) = λ d m. absurd m
+request_says c history longer n (event.Order leader order cut) = λ d m. absurd m
+request_says c history longer n (event.Crash r) = λ d m. absurd m
+request_says c history longer n (event.Snap replica cut) = λ d m. absurd m
+request_says c history longer n (event.Restart r) = λ d m. absurd m
 
-request_quiet : (e : Event) → QuietSends (request e)
-request_quiet (event.Write command batcher) =
+request_quiet : (n : ℕ) (e : Event) → QuietSends (request n e)
+request_quiet n (event.Write command batcher) =
     Member-one (λ (d : Letter). IsPlainMsg d.msg) (letter (role kind.Client command.client) (role kind.Batcher batcher) (msg.Submit command)) (λ i g s cw v e. cc, λ i g e. cc)
-request_quiet (event.Read client seq floor reader replica key) =
+request_quiet n (event.Read client seq floor reader replica key) =
     Member-one (λ (d : Letter). IsPlainMsg d.msg) (letter (role kind.Client client) (role kind.Reader reader) (msg.ReadReq seq replica key)) (λ i g s cw v e. cc, λ i g e. cc)
-request_quiet (event.Deliver number cut) = λ d m. absurd m
-request_quiet (event.Tick r) = λ d m. absurd m
-request_quiet (event.Order leader order cut) = λ d m. absurd m
-request_quiet (event.Crash r) = λ d m. absurd m
-request_quiet (event.Snap replica cut) = λ d m. absurd m
-request_quiet (event.Restart r) = λ d m. absurd m
+request_quiet n (event.Session client seq floor replica key) =
+    Member-one (λ (d : Letter). IsPlainMsg d.msg) (letter (role kind.Client client) (role kind.Replica replica) (msg.SessRead seq n key)) (λ i g s cw v e. cc, λ i g e. cc)
+request_quiet n (event.Deliver number cut) = λ d m. absurd m
+request_quiet n (event.Tick r) = λ d m. absurd m
+request_quiet n (event.Order leader order cut) = λ d m. absurd m
+request_quiet n (event.Crash r) = λ d m. absurd m
+request_quiet n (event.Snap replica cut) = λ d m. absurd m
+request_quiet n (event.Restart r) = λ d m. absurd m
 
-pub asked : (c : Cluster) (history : List KeptRecord) (sent : List Letter) (states : RoleId → State) (e : Event)
-    → Facts c history sent states → Facts c history (sent ++ request e) states
-asked c history sent states e facts =
+pub asked : (c : Cluster) (history : List KeptRecord) (sent : List Letter) (states : RoleId → State) (n : ℕ) (e : Event)
+    → Facts c history sent states → Facts c history (sent ++ request n e) states
+asked c history sent states n e facts =
     let client : RoleId = role kind.Client 0 in
-    same_states c history (sent ++ request e) (set_state client (states client) states) states
+    same_states c history (sent ++ request n e) (set_state client (states client) states) states
     (λ a. sym (set_same client (states client) states refl a))
-    (send_plain c history sent states client (stop c history sent states client facts) (request e) (states client)
-    (request_says c history (sent ++ request e) e) (request_quiet e)
-    (still_state c history sent (request e) (request_quiet e) client (states client) (facts.running client)))
+    (send_plain c history sent states client (stop c history sent states client facts) (request n e) (states client)
+    (request_says c history (sent ++ request n e) n e) (request_quiet n e)
+    (still_state c history sent (request n e) (request_quiet n e) client (states client) (facts.running client)))

@@ -24,6 +24,7 @@ use Rattle.cx_model.specs.Promises.{
   ReadsAreOfTheirReplica,
   ReadsComeAfterAnswers,
   ReadsComeAfterReads,
+  SessionsComeAfterHeard,
   ChosenBelow,
   HeldBelow,
   RoundsAskLater,
@@ -50,11 +51,12 @@ pub record IsLawful (c : Cluster) (es : List Event) : Type 0 where
   pub results_are_right : ResultsAreRight c es
   pub commands_were_asked : CommandsWereAsked c es
   pub order : OrderIsKept c es
-  -- fresh reads
+  -- fresh reads, and sessions
   pub reads_are_right : ReadsAreRight c es
   pub reads_of_their_replica : ReadsAreOfTheirReplica c es
   pub reads_after_answers : ReadsComeAfterAnswers c es
   pub reads_after_reads : ReadsComeAfterReads c es
+  pub sessions_after_heard : SessionsComeAfterHeard c es
   -- safe retirement
   pub chosen_below : ChosenBelow c es
   pub held : HeldBelow c es
