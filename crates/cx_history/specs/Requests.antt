@@ -18,6 +18,7 @@ asked_op (App key text) = 3 ∷ length key ∷ (key ++ text)
 abbrev pub asked : Event → List ℕ
 asked (event.Write command batcher) = asked_op command.op
 asked (event.Read client seq floor reader replica key) = 0 ∷ key
+asked (event.Session client seq floor replica key) = 4 ∷ key
 asked (event.Deliver number cut) = []
 asked (event.Tick r) = []
 asked (event.Order leader order cut) = []

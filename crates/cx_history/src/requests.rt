@@ -72,6 +72,10 @@ fn token_of(event: &Event) -> Option<Token>
             client: *client,
             seq: *seq,
         }),
+        Event::Session { client, seq, .. } => Some(Token {
+            client: *client,
+            seq: *seq,
+        }),
         _ => None,
     }
 }
@@ -93,6 +97,7 @@ fn floor_in(event: &Event) -> u64
     match event {
         Event::Write { command, .. } => command.floor,
         Event::Read { floor, .. } => *floor,
+        Event::Session { floor, .. } => *floor,
         _ => 0,
     }
 }

@@ -91,6 +91,7 @@ impl Scratch {
         match event {
             Event::Write { command, .. } => bytes.add_op(&command.op),
             Event::Read { key, .. } => bytes.add_key(0, key),
+            Event::Session { key, .. } => bytes.add_key(4, key),
             _ => {}
         }
         bytes

@@ -14,13 +14,13 @@ use Rattle.cx_base.specs.Asked.{floor_fits}
 use Rattle.cx_base.specs.declared.cluster.Cluster.{Cluster}
 use Rattle.cx_base.specs.declared.event.Event.{Event}
 use Rattle.cx_base.specs.declared.event.Event.TheVariants as event
-use Rattle.cx_base.specs.declared.event.Event.TheVariants.{Write, Read}
+use Rattle.cx_base.specs.declared.event.Event.TheVariants.{Write, Read, Session}
 use Rattle.cx_base.specs.declared.event.Order.TheVariants.{Collect}
 use Rattle.cx_base.specs.declared.event.Cut.TheVariants.{Whole}
 use Rattle.cx_base.specs.declared.role.Kind.TheVariants.{Client, Batcher, Leader, Replica, Reader}
 use Rattle.cx_script.specs.declared.fault.LineFault.{LineFault}
 use Rattle.cx_script.specs.declared.fault.LineFault.TheVariants.{Long, Number}
-use Rattle.cx_script.specs.Grammar.{◌>>=◌, next, op_at, cut_at, write_event, read_event, deliver_event, round_of, collect_event, snap_event, server_of, event_of, is_comment, event_in, line_event}
+use Rattle.cx_script.specs.Grammar.{◌>>=◌, next, op_at, cut_at, write_event, read_event, session_event, deliver_event, round_of, collect_event, snap_event, server_of, event_of, is_comment, event_in, line_event}
 use Rattle.cx_script.specs.Places.{fitting, seq_and_floor, seq_word, number_word, key_word, index_word}
 use Rattle.cx_script.specs.Requests.{has_slash, request_line, tells_no_floor, without_floor}
 use Rattle.cx_script.specs.Words.{is_blank, is_empty, number_of, parts_of, words_of}
@@ -134,6 +134,15 @@ read_plain c words free =
     then_ok _ TellsNone (next key_word words) _ (whatever (next key_word words)) (λ (key, words) n.
     ended_ok TellsNone (Read client told.0 told.1 reader replica key) words k.0)))))
 
+session_plain : (c : Cluster) (words : List (List ℕ)) → list_any has_slash words ≡ false → IfOk (session_event c words) TellsNone
+unfolding session_event
+session_plain c words free =
+    then_ok _ TellsNone (next (index_word c Client) words) _ (next_plain (λ i. ⊤) (index_word c Client) (λ word h. whatever (index_word c Client word)) words free) (λ (client, words) h.
+    then_ok _ TellsNone (next seq_word words) _ (next_plain IsPlain seq_word seq_plain words h.1) (λ (told, words) k.
+    then_ok _ TellsNone (next (index_word c Replica) words) _ (whatever (next (index_word c Replica) words)) (λ (replica, words) l.
+    then_ok _ TellsNone (next key_word words) _ (whatever (next key_word words)) (λ (key, words) m.
+    ended_ok TellsNone (Session client told.0 told.1 replica key) words k.0))))
+
 deliver_plain : (words : List (List ℕ)) → IfOk (deliver_event words) TellsNone
 unfolding deliver_event
 deliver_plain words =
@@ -160,6 +169,7 @@ event_plain c verb words free =
     let or_else : (b : Bool) (r s : Result Event LineFault) → IfOk r TellsNone → IfOk s TellsNone → IfOk (if b then r else s) TellsNone = λ b r s. either_ok TellsNone b r s in
     or_else (bytes_eq verb (codes "write")) _ _ (write_plain c words free) (
     or_else (bytes_eq verb (codes "read")) _ _ (read_plain c words free) (
+    or_else (bytes_eq verb (codes "session")) _ _ (session_plain c words free) (
     or_else (bytes_eq verb (codes "deliver")) _ _ (deliver_plain words) (
     or_else (bytes_eq verb (codes "tick")) _ _ (then_ok _ TellsNone (server_of c words) _ server (λ role h. refl)) (
     or_else (bytes_eq verb (codes "lead")) _ _ (then_ok _ TellsNone (round_of c words) _ round (λ (leader, grid, cut) h. refl)) (
@@ -167,7 +177,7 @@ event_plain c verb words free =
     or_else (bytes_eq verb (codes "collect")) _ _ (collect_plain c words) (
     or_else (bytes_eq verb (codes "snap")) _ _ (snap_plain c words) (
     or_else (bytes_eq verb (codes "crash")) _ _ (then_ok _ TellsNone (server_of c words) _ server (λ role h. refl)) (
-    or_else (bytes_eq verb (codes "restart")) _ _ (then_ok _ TellsNone (server_of c words) _ server (λ role h. refl)) tt)))))))))
+    or_else (bytes_eq verb (codes "restart")) _ _ (then_ok _ TellsNone (server_of c words) _ server (λ role h. refl)) tt))))))))))
 
 in_plain : (c : Cluster) (words : List (List ℕ)) → list_any has_slash words ≡ false → IfOk (event_in c words) (λ o. IfSome o TellsNone)
 in_plain c [] free = tt

@@ -9,7 +9,7 @@ use Rattle.cx_base.specs.Asked.{is_valid_event}
 use Rattle.cx_base.specs.declared.cluster.Cluster.{Cluster}
 use Rattle.cx_base.specs.declared.event.Event.{Event}
 use Rattle.cx_base.specs.declared.event.Event.TheVariants as event
-use Rattle.cx_base.specs.declared.event.Event.TheVariants.{Write, Read, Deliver, Tick, Snap, Crash, Restart}
+use Rattle.cx_base.specs.declared.event.Event.TheVariants.{Write, Read, Session, Deliver, Tick, Snap, Crash, Restart}
 use Rattle.cx_script.specs.declared.fault.LineFault.{LineFault}
 use Rattle.cx_script.specs.declared.fault.LineFault.TheVariants.{Word}
 use Rattle.cx_script.specs.Lines.{Spelled, with_line, lines_of}
@@ -30,6 +30,11 @@ small c (Write command batcher) client seq named is =
     let fit = c.clients_fit in
     omega (arith, own, least, fit)
 small c (Read other number floor reader replica key) client seq named is =
+    let own : other ≡ client = ap (λ (o : Option (ℕ × ℕ)). client_in o) is in
+    let least : other < c.clients = grind (arith, nat_tests) in
+    let fit = c.clients_fit in
+    omega (arith, own, least, fit)
+small c (Session other number floor replica key) client seq named is =
     let own : other ≡ client = ap (λ (o : Option (ℕ × ℕ)). client_in o) is in
     let least : other < c.clients = grind (arith, nat_tests) in
     let fit = c.clients_fit in

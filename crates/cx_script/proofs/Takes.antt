@@ -6,7 +6,7 @@ use Rattle.cx_base.specs.Asked.{is_valid_event}
 use Rattle.cx_base.specs.declared.cluster.Cluster.{Cluster}
 use Rattle.cx_base.specs.declared.event.Event.{Event}
 use Rattle.cx_base.specs.declared.event.Event.TheVariants as event
-use Rattle.cx_base.specs.declared.event.Event.TheVariants.{Write, Read, Deliver, Tick, Snap, Crash, Restart}
+use Rattle.cx_base.specs.declared.event.Event.TheVariants.{Write, Read, Session, Deliver, Tick, Snap, Crash, Restart}
 use Rattle.cx_base.specs.declared.event.Order.TheVariants.{Collect}
 use Rattle.cx_base.specs.declared.event.Cut.{Cut}
 use Rattle.cx_base.specs.declared.event.Cut.TheVariants.{Whole}
@@ -14,7 +14,7 @@ use Rattle.cx_base.specs.Grid.{Shape}
 use Rattle.cx_base.specs.declared.role.Kind.TheVariants.{Client, Batcher, Leader, Replica, Reader}
 use Rattle.cx_script.specs.declared.fault.LineFault.{LineFault}
 use Rattle.cx_script.specs.declared.fault.LineFault.TheVariants.{Long}
-use Rattle.cx_script.specs.Grammar.{◌>>=◌, next, op_at, cut_at, grid_at, write_event, read_event, deliver_event, round_of, collect_event, snap_event, server_of, event_of, is_comment, event_in, line_event}
+use Rattle.cx_script.specs.Grammar.{◌>>=◌, next, op_at, cut_at, grid_at, write_event, read_event, session_event, deliver_event, round_of, collect_event, snap_event, server_of, event_of, is_comment, event_in, line_event}
 use Rattle.cx_script.specs.Lines.{Spelled, with_line, spelled_from, lines_of, schedule_of}
 use Rattle.cx_script.specs.Names.{names_event, names_members, names_server}
 use Rattle.cx_script.specs.Places.{seq_word, number_word, key_word, index_word, server_word}
@@ -47,6 +47,15 @@ read_ok c words =
     then_ok _ (IsGood c) (next (index_word c Replica) words) _ (next_ok _ (index_word c Replica) (index_ok c Replica) words) (λ (replica, words) m.
     then_ok _ (IsGood c) (next key_word words) _ (whatever (next key_word words)) (λ (key, words) n.
     ended_ok (IsGood c) (Read client told.0 told.1 reader replica key) words (record { taken = k; named = rw (h, l, m) refl }))))))
+
+session_ok : (c : Cluster) (words : List (List ℕ)) → IfOk (session_event c words) (IsGood c)
+unfolding session_event
+session_ok c words =
+    then_ok _ (IsGood c) (next (index_word c Client) words) _ (next_ok _ (index_word c Client) (index_ok c Client) words) (λ (client, words) h.
+    then_ok _ (IsGood c) (next seq_word words) _ (next_ok _ seq_word seq_ok words) (λ (told, words) k.
+    then_ok _ (IsGood c) (next (index_word c Replica) words) _ (next_ok _ (index_word c Replica) (index_ok c Replica) words) (λ (replica, words) l.
+    then_ok _ (IsGood c) (next key_word words) _ (whatever (next key_word words)) (λ (key, words) m.
+    ended_ok (IsGood c) (Session client told.0 told.1 replica key) words (record { taken = k; named = rw (h, l) refl })))))
 
 deliver_ok : (c : Cluster) (words : List (List ℕ)) → IfOk (deliver_event words) (IsGood c)
 unfolding deliver_event
@@ -91,6 +100,7 @@ event_ok c verb words =
     let or_else : (b : Bool) (r s : Result Event LineFault) → IfOk r (IsGood c) → IfOk s (IsGood c) → IfOk (if b then r else s) (IsGood c) = λ b r s. either_ok (IsGood c) b r s in
     or_else (bytes_eq verb (codes "write")) _ _ (write_ok c words) (
     or_else (bytes_eq verb (codes "read")) _ _ (read_ok c words) (
+    or_else (bytes_eq verb (codes "session")) _ _ (session_ok c words) (
     or_else (bytes_eq verb (codes "deliver")) _ _ (deliver_ok c words) (
     or_else (bytes_eq verb (codes "tick")) _ _ (then_ok _ (IsGood c) (server_of c words) _ server (λ role h. record { taken = refl; named = h })) (
     or_else (bytes_eq verb (codes "lead")) _ _ (then_ok _ (IsGood c) (round_of c words) _ round (λ (leader, grid, cut) h. record { taken = refl; named = h })) (
@@ -98,7 +108,7 @@ event_ok c verb words =
     or_else (bytes_eq verb (codes "collect")) _ _ (collect_ok c words) (
     or_else (bytes_eq verb (codes "snap")) _ _ (snap_ok c words) (
     or_else (bytes_eq verb (codes "crash")) _ _ (then_ok _ (IsGood c) (server_of c words) _ server (λ role h. record { taken = refl; named = h })) (
-    or_else (bytes_eq verb (codes "restart")) _ _ (then_ok _ (IsGood c) (server_of c words) _ server (λ role h. record { taken = refl; named = h })) tt)))))))))
+    or_else (bytes_eq verb (codes "restart")) _ _ (then_ok _ (IsGood c) (server_of c words) _ server (λ role h. record { taken = refl; named = h })) tt))))))))))
 
 -- the event of a line, if it has one
 abbrev IsGoodLine : Cluster → Option Event → Type 0

@@ -9,7 +9,7 @@ use Rattle.cx_base.specs.declared.event.Cut.{Cut}
 use Rattle.cx_base.specs.declared.event.Cut.TheVariants.{Whole, Torn, Kept}
 use Rattle.cx_base.specs.declared.event.Event.{Event}
 use Rattle.cx_base.specs.declared.event.Event.TheVariants as event
-use Rattle.cx_base.specs.declared.event.Event.TheVariants.{Write, Read, Deliver, Tick, Snap, Crash, Restart}
+use Rattle.cx_base.specs.declared.event.Event.TheVariants.{Write, Read, Session, Deliver, Tick, Snap, Crash, Restart}
 use Rattle.cx_base.specs.declared.event.Order.TheVariants.{Lead, Change, Collect}
 use Rattle.cx_base.specs.declared.role.Kind.TheVariants.{Client, Batcher, Leader, Replica, Reader}
 use Rattle.cx_base.specs.declared.role.RoleId.{RoleId}
@@ -86,6 +86,15 @@ read_event c words =
     next key_word words >>= (λ (key, words).
     ended (Read client told.0 told.1 reader replica key) words)))))
 
+-- client:C SEQ replica:P K
+unfoldable pub session_event : Cluster → List (List ℕ) → Result Event LineFault
+session_event c words =
+    next (index_word c Client) words >>= (λ (client, words).
+    next seq_word words >>= (λ (told, words).
+    next (index_word c Replica) words >>= (λ (replica, words).
+    next key_word words >>= (λ (key, words).
+    ended (Session client told.0 told.1 replica key) words))))
+
 -- N, and a cut
 unfoldable pub deliver_event : List (List ℕ) → Result Event LineFault
 deliver_event words =
@@ -121,6 +130,7 @@ unfoldable pub event_of : Cluster → List ℕ → List (List ℕ) → Result Ev
 event_of c verb words =
     if bytes_eq verb (codes "write") then write_event c words
     else if bytes_eq verb (codes "read") then read_event c words
+    else if bytes_eq verb (codes "session") then session_event c words
     else if bytes_eq verb (codes "deliver") then deliver_event words
     else if bytes_eq verb (codes "tick") then server_of c words >>= (λ role. Ok (Tick role))
     else if bytes_eq verb (codes "lead") then round_of c words >>= (λ (leader, grid, cut). Ok (event.Order leader (Lead grid) cut))

@@ -4,7 +4,7 @@ use Rattle.std.specs.List.{list_all}
 use Rattle.cx_base.specs.declared.cluster.Cluster.{Cluster}
 use Rattle.cx_base.specs.declared.event.Event.{Event}
 use Rattle.cx_base.specs.declared.event.Event.TheVariants as event
-use Rattle.cx_base.specs.declared.event.Event.TheVariants.{Write, Read, Deliver, Tick, Snap, Crash, Restart}
+use Rattle.cx_base.specs.declared.event.Event.TheVariants.{Write, Read, Session, Deliver, Tick, Snap, Crash, Restart}
 use Rattle.cx_base.specs.declared.event.Order.{Order}
 use Rattle.cx_base.specs.declared.event.Order.TheVariants.{Lead, Change, Collect}
 use Rattle.cx_base.specs.declared.role.Kind.{Kind}
@@ -41,6 +41,7 @@ names_order c Collect = true
 abbrev pub names_event : Cluster → Event → Bool
 names_event c (Write command batcher) = nat_lt command.client c.clients && nat_lt batcher c.batchers
 names_event c (Read client seq floor reader replica key) = nat_lt client c.clients && nat_lt reader c.readers && nat_lt replica c.replicas
+names_event c (Session client seq floor replica key) = nat_lt client c.clients && nat_lt replica c.replicas
 names_event c (Deliver number cut) = true
 names_event c (Tick role) = names_server c role
 names_event c (event.Order leader order cut) = nat_lt leader c.leaders && names_order c order

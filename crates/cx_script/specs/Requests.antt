@@ -4,7 +4,7 @@ use Rattle.std.specs.List.{list_all, list_any}
 use Rattle.cx_base.specs.declared.cluster.Cluster.{Cluster}
 use Rattle.cx_base.specs.declared.event.Event.{Event}
 use Rattle.cx_base.specs.declared.event.Event.TheVariants as event
-use Rattle.cx_base.specs.declared.event.Event.TheVariants.{Write, Read, Deliver, Tick, Snap, Crash, Restart}
+use Rattle.cx_base.specs.declared.event.Event.TheVariants.{Write, Read, Session, Deliver, Tick, Snap, Crash, Restart}
 use Rattle.cx_script.specs.declared.fault.LineFault.{LineFault}
 use Rattle.cx_script.specs.declared.fault.LineFault.TheVariants.{Number, Word}
 use Rattle.cx_script.specs.Grammar.{line_event}
@@ -15,6 +15,7 @@ use Rattle.cx_script.specs.Names.{names_event}
 abbrev pub asker : Event → Option (ℕ × ℕ)
 asker (Write command batcher) = Some (command.client, command.seq)
 asker (Read client seq floor reader replica key) = Some (client, seq)
+asker (Session client seq floor replica key) = Some (client, seq)
 asker (Deliver number cut) = None
 asker (Tick role) = None
 asker (event.Order leader order cut) = None
@@ -98,6 +99,7 @@ script_of client events = filter (asks client) events
 abbrev pub tells_no_floor : Event → Bool
 tells_no_floor (Write command batcher) = command.floor + 1 == command.seq
 tells_no_floor (Read client seq floor reader replica key) = floor + 1 == seq
+tells_no_floor (Session client seq floor replica key) = floor + 1 == seq
 tells_no_floor (Deliver number cut) = true
 tells_no_floor (Tick role) = true
 tells_no_floor (event.Order leader order cut) = true

@@ -1,7 +1,7 @@
 //! The event of a line.
 
 ghost use Rattle.std.specs.Prelude.{◌≡◌};
-ghost use Rattle.cx_script.specs.Grammar.{write_event, read_event, deliver_event, round_of, collect_event, snap_event, server_of, event_of, line_event};
+ghost use Rattle.cx_script.specs.Grammar.{write_event, read_event, session_event, deliver_event, round_of, collect_event, snap_event, server_of, event_of, line_event};
 
 use crate::fault::LineFault;
 use crate::place::is;
@@ -44,6 +44,24 @@ fn read_event(cluster: &Cluster, mut words: Words) -> Result<Event, LineFault>
         seq,
         floor,
         reader,
+        replica,
+        key,
+    })
+}
+
+#[tactic(auto, unfolding(crate::specs::Grammar::session_event))]
+fn session_event(cluster: &Cluster, mut words: Words) -> Result<Event, LineFault>
+    ensures { result ≡ session_event cluster.now words.entry }
+{
+    let client = words.index(cluster, Kind::Client)?;
+    let (seq, floor) = words.seq()?;
+    let replica = words.index(cluster, Kind::Replica)?;
+    let key = words.key()?;
+    words.end()?;
+    Ok(Event::Session {
+        client,
+        seq,
+        floor,
         replica,
         key,
     })
@@ -108,6 +126,8 @@ fn event(cluster: &Cluster, verb: &[u8], words: Words) -> Result<Event, LineFaul
         write_event(cluster, words)
     } else if is(verb, "read") {
         read_event(cluster, words)
+    } else if is(verb, "session") {
+        session_event(cluster, words)
     } else if is(verb, "deliver") {
         deliver_event(words)
     } else if is(verb, "tick") {
@@ -140,6 +160,7 @@ fn event(cluster: &Cluster, verb: &[u8], words: Words) -> Result<Event, LineFaul
 ///
 /// - `write client:C SEQ batcher:B put K T`, the same with `app K T` and with `del K`
 /// - `read client:C SEQ reader:R replica:P K`
+/// - `session client:C SEQ replica:P K`
 /// - `deliver N`, `deliver N torn`, `deliver N kept`
 /// - `lead leader:L RxC A,B,..` and `change leader:L RxC A,B,..`, the same with `torn` or `kept`
 /// - `collect leader:L`

@@ -17,6 +17,7 @@ fn asker(event: &Event) -> Option<(u16, u64)>
     match event {
         Event::Write { command, .. } => Some((command.client, command.seq)),
         Event::Read { client, seq, .. } => Some((*client, *seq)),
+        Event::Session { client, seq, .. } => Some((*client, *seq)),
         _ => None,
     }
 }

@@ -12,7 +12,7 @@ use Rattle.cx_base.specs.declared.role.Kind.TheVariants.{Client, Leader, Replica
 use Rattle.cx_msg.specs.Letter.{Letter, body}
 use Rattle.cx_msg.specs.Names.{name_of_message}
 use Rattle.cx_msg.specs.declared.message.Msg.{Msg}
-use Rattle.cx_msg.specs.declared.message.Msg.TheVariants.{Submit, Batch, Leads, MatchA, MatchB, MatchNack, Phase1A, Phase1B, Nack, Propose, Phase2A, Phase2B, Chosen, ChosenIn, Results, Answer, Held, Fetch, Inform, Informed, GarbageA, GarbageB, ReadReq, MatchRead, MatchReadAck, PreRead, PreReadAck, Read, ReadAnswer}
+use Rattle.cx_msg.specs.declared.message.Msg.TheVariants.{Submit, Batch, Leads, MatchA, MatchB, MatchNack, Phase1A, Phase1B, Nack, Propose, Phase2A, Phase2B, Chosen, ChosenIn, Results, Answer, Held, Fetch, Inform, Informed, GarbageA, GarbageB, ReadReq, MatchRead, MatchReadAck, PreRead, PreReadAck, Read, SessRead, ReadAnswer}
 use Rattle.cx_trace.specs.Put.{hex}
 use Rattle.cx_trace.specs.Reply.{reply_text, found_text}
 use Rattle.cx_trace.specs.declared.effect.Effect.{Effect}
@@ -43,6 +43,7 @@ reached_text (Some who) = codes " " ++ role_text who
 abbrev pub happening_text : Event → Option RoleId → List ℕ
 happening_text (event.Write command batcher) who = codes "write " ++ request_text command.client command.seq command.floor
 happening_text (event.Read client seq floor reader replica key) who = codes "read " ++ request_text client seq floor
+happening_text (event.Session client seq floor replica key) who = codes "session " ++ request_text client seq floor
 happening_text (event.Deliver number cut) who = codes "deliver " ++ decimal number ++ reached_text who
 happening_text (event.Tick r) who = codes "tick " ++ role_text r
 happening_text (event.Order leader order cut) who = order_text order ++ role_text (role Leader leader)
@@ -60,7 +61,7 @@ unfoldable pub answer_line : ℕ → ℕ → ℕ → List ℕ → List ℕ
 answer_line client seq at reply =
     codes "answer " ++ answered_text client seq ++ codes " at " ++ decimal at ++ codes " " ++ reply ++ codes "\n"
 
--- the line of a client's read
+-- the line of what a client's read or session found
 unfoldable pub read_line : ℕ → ℕ → ℕ → List ℕ → List ℕ
 read_line client seq mark found =
     codes "read " ++ answered_text client seq ++ codes " at " ++ decimal mark ++ codes " " ++ found ++ codes "\n"
@@ -96,6 +97,7 @@ told_text client (MatchReadAck a b c) = []
 told_text client (PreRead a b) = []
 told_text client (PreReadAck a b c) = []
 told_text client (Read a b c) = []
+told_text client (SessRead a b c) = []
 
 -- what a datagram tells the client that gets it
 unfoldable pub told_of : Letter → List ℕ

@@ -49,6 +49,15 @@ fn put_happening(text: &mut Vec<u8>, event: &Event, who: Option<RoleId>) -> Resu
             put(text, b"read ")?;
             put_request(text, *client, *seq, *floor)
         }
+        Event::Session {
+            client,
+            seq,
+            floor,
+            ..
+        } => {
+            put(text, b"session ")?;
+            put_request(text, *client, *seq, *floor)
+        }
         Event::Deliver { number, .. } => {
             put(text, b"deliver ")?;
             put_number(text, *number)?;

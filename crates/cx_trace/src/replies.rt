@@ -1,4 +1,4 @@
-//! What commands and reads are answered, as text.
+//! What commands, reads and sessions are answered, as text.
 
 ghost use Rattle.std.specs.Prelude.{◌≡◌, ◌++◌, length, take, OnErr, OnOk};
 ghost use Rattle.cx_trace.specs.Reply.{reply_text, found_text};
@@ -60,7 +60,7 @@ pub fn put_answer(
     put(text, b"\n")
 }
 
-// The line of a client's read.
+// The line of what a client's read or session found.
 #[tactic(auto, unfolding(crate::specs::Trace::read_line))]
 pub fn put_read(
     text: &mut Vec<u8>,
