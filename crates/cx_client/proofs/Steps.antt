@@ -1,5 +1,5 @@
 -- What each step of a client sends and completes.
-use Rattle.std.proofs.Common.{◌≡◌, ◌⊎◌, ◌≤◌, ◌<◌, ◌+◌, ◌-◌, ◌&&◌, get_or, inl, inr, ℕ, suc, Bool, true, false, not, nat_lt, List, [], ◌∷◌, ◌++◌, append_assoc, drop, filter, length, take, Option, None, Some, refl, sym, subst, ap, ◌∙◌, eqb-true, arith}
+use Rattle.std.proofs.Common.{◌≡◌, ◌⊎◌, ◌≤◌, ◌<◌, ◌+◌, ◌-◌, ◌&&◌, get_or, inl, inr, ℕ, suc, Bool, true, false, not, nat_lt, List, [], ◌∷◌, ◌++◌, append_assoc, drop, filter, length, max, take, Option, None, Some, refl, sym, subst, ap, ◌∙◌, eqb-true, arith}
 use Rattle.std.specs.List.{list_all, position}
 use Rattle.std.proofs.lemmas.Bool.{and_from, and_parts, cases_Bool}
 use Rattle.std.proofs.lemmas.Bool.Decides.{nat_tests}
@@ -12,16 +12,21 @@ use Rattle.cx_base.specs.declared.role.Kind.TheVariants.{Client}
 use Rattle.cx_base.specs.declared.why.Why.{Why}
 use Rattle.cx_base.specs.Role.{role, same_role}
 use Rattle.cx_inv_run.proofs.Members.{Member-all, Member-any, Member-filter, Member-first, Member-second, all-Member, any-Member, filter-Member}
+use Rattle.cx_wire.specs.Format.{u64}
+use Rattle.cx_field.specs.Fields.{at, mark}
+use Rattle.cx_model.specs.Heard.{mark_told}
 use Rattle.cx_model.specs.Lists.{number_itself}
 use Rattle.cx_model.specs.Member.{Member}
 use Rattle.cx_model.specs.Names.{names}
 use Rattle.cx_model.specs.Outcome.{by_test}
 use Rattle.cx_model.specs.Request.{request}
 use Rattle.cx_msg.specs.Letter.{Letter}
+use Rattle.cx_msg.specs.declared.message.Msg.{Msg}
+use Rattle.cx_msg.specs.declared.message.Msg.TheVariants as msg
 use Rattle.cx_script.specs.Names.{names_event}
-use Rattle.cx_script.specs.Requests.{IsScript, asks, number_of}
-use Rattle.cx_client.specs.Client.{ClientMoved, ClientState, IsClient, Moves, answer_number, client_completes, client_hears, client_opened, client_start, client_takes, client_ticks, client_told, client_waits, completed, is_finished, left, stays}
-use Rattle.cx_client.specs.Completes.{Answers, Completes, IsOwn, IsSent, TellsFloor, tells}
+use Rattle.cx_script.specs.Requests.{IsScript, asks, number_of, rise_above}
+use Rattle.cx_client.specs.Client.{ClientMoved, ClientState, IsClient, Moves, answer_number, client_completes, client_hears, client_opened, client_start, client_takes, client_ticks, client_told, client_waits, completed, hearing, is_finished, left, stays}
+use Rattle.cx_client.specs.Completes.{Answers, Completes, IsOwn, IsSent, TellsFloor, TellsHeard, heard_after, tells, tells_heard}
 use Rattle.cx_client.specs.Window.{floor_for, has_number, is_outstanding, newly, outstanding, requests_of, telling, without}
 use Rattle.cx_client.proofs.Windows.{all_above, all_below, at_place, filter_rises, first_is, is_left, last_or, newly_is, none_found, one_number, only_one, some_of, without_at}
 use Rattle.cx_base.specs.declared.why.Why.TheVariants.{Heard, Idle, Resent, Stranger}
@@ -32,81 +37,142 @@ abbrev Pass : (Letter → Bool) → List Letter → Type 0
 Pass p ds = list_all p ds ≡ true
 
 -- what requests send passes a test where the datagram of each does
-each_pass : (p : Letter → Bool) (floor : ℕ) (es : List Event) → ((e : Event) → Member e es → Pass p (request (telling floor e))) → Pass p (requests_of floor es)
-each_pass p floor [] each = refl
-each_pass p floor (e ∷ es) each =
-    list_all-append p (request (telling floor e)) (requests_of floor es)
-    ∙ and_from (list_all p (request (telling floor e))) (list_all p (requests_of floor es)) (each e (inl refl)) (each_pass p floor es (λ x m. each x (inr m)))
+each_pass : (p : Letter → Bool) (heard floor : ℕ) (es : List Event) → ((e : Event) → Member e es → Pass p (request heard (telling floor e))) → Pass p (requests_of heard floor es)
+each_pass p heard floor [] each = refl
+each_pass p heard floor (e ∷ es) each =
+    list_all-append p (request heard (telling floor e)) (requests_of heard floor es)
+    ∙ and_from (list_all p (request heard (telling floor e))) (list_all p (requests_of heard floor es)) (each e (inl refl)) (each_pass p heard floor es (λ x m. each x (inr m)))
 
-request_own : (index floor : ℕ) (e : Event) → asks index e ≡ true → Pass (λ (d : Letter). same_role d.from (role Client index)) (request (telling floor e))
-request_own index floor (event.Write command batcher) is = rw is refl
-request_own index floor (event.Read client seq before reader replica key) is = rw is refl
-request_own index floor (event.Deliver number cut) is = refl
-request_own index floor (event.Tick r) is = refl
-request_own index floor (event.Order leader order cut) is = refl
-request_own index floor (event.Snap replica cut) is = refl
-request_own index floor (event.Crash r) is = refl
-request_own index floor (event.Restart r) is = refl
+request_own : (index heard floor : ℕ) (e : Event) → asks index e ≡ true → Pass (λ (d : Letter). same_role d.from (role Client index)) (request heard (telling floor e))
+request_own index heard floor (event.Write command batcher) is = rw is refl
+request_own index heard floor (event.Read client seq before reader replica key) is = rw is refl
+request_own index heard floor (event.Session client seq before replica key) is = rw is refl
+request_own index heard floor (event.Deliver number cut) is = refl
+request_own index heard floor (event.Tick r) is = refl
+request_own index heard floor (event.Order leader order cut) is = refl
+request_own index heard floor (event.Snap replica cut) is = refl
+request_own index heard floor (event.Crash r) is = refl
+request_own index heard floor (event.Restart r) is = refl
 
-request_named : (c : Cluster) (floor : ℕ) (e : Event) → names_event c e ≡ true → Pass (names c) (request (telling floor e))
-request_named c floor (event.Write command batcher) is = (let parts = and_parts (nat_lt command.client c.clients) (nat_lt batcher c.batchers) is in rw (parts.0, parts.1) refl)
-request_named c floor (event.Read client seq before reader replica key) is = rw is refl
-request_named c floor (event.Deliver number cut) is = refl
-request_named c floor (event.Tick r) is = refl
-request_named c floor (event.Order leader order cut) is = refl
-request_named c floor (event.Snap replica cut) is = refl
-request_named c floor (event.Crash r) is = refl
-request_named c floor (event.Restart r) is = refl
+request_named : (c : Cluster) (heard floor : ℕ) (e : Event) → names_event c e ≡ true → Pass (names c) (request heard (telling floor e))
+request_named c heard floor (event.Write command batcher) is = (let parts = and_parts (nat_lt command.client c.clients) (nat_lt batcher c.batchers) is in rw (parts.0, parts.1) refl)
+request_named c heard floor (event.Read client seq before reader replica key) is = rw is refl
+request_named c heard floor (event.Session client seq before replica key) is = rw is refl
+request_named c heard floor (event.Deliver number cut) is = refl
+request_named c heard floor (event.Tick r) is = refl
+request_named c heard floor (event.Order leader order cut) is = refl
+request_named c heard floor (event.Snap replica cut) is = refl
+request_named c heard floor (event.Crash r) is = refl
+request_named c heard floor (event.Restart r) is = refl
 
-request_told : (floor : ℕ) (e : Event) → Pass (λ (d : Letter). tells floor d.msg) (request (telling floor e))
-request_told floor (event.Write command batcher) = rw (number_itself floor) refl
-request_told floor (event.Read client seq before reader replica key) = refl
-request_told floor (event.Deliver number cut) = refl
-request_told floor (event.Tick r) = refl
-request_told floor (event.Order leader order cut) = refl
-request_told floor (event.Snap replica cut) = refl
-request_told floor (event.Crash r) = refl
-request_told floor (event.Restart r) = refl
+request_told : (heard floor : ℕ) (e : Event) → Pass (λ (d : Letter). tells floor d.msg) (request heard (telling floor e))
+request_told heard floor (event.Write command batcher) = rw (number_itself floor) refl
+request_told heard floor (event.Read client seq before reader replica key) = refl
+request_told heard floor (event.Session client seq before replica key) = refl
+request_told heard floor (event.Deliver number cut) = refl
+request_told heard floor (event.Tick r) = refl
+request_told heard floor (event.Order leader order cut) = refl
+request_told heard floor (event.Snap replica cut) = refl
+request_told heard floor (event.Crash r) = refl
+request_told heard floor (event.Restart r) = refl
 
-all_told : (floor : ℕ) (es : List Event) → Pass (λ (d : Letter). tells floor d.msg) (requests_of floor es)
-all_told floor es = each_pass (λ (d : Letter). tells floor d.msg) floor es (λ e m. request_told floor e)
+request_marked : (heard floor : ℕ) (e : Event) → Pass (λ (d : Letter). tells_heard heard d.msg) (request heard (telling floor e))
+request_marked heard floor (event.Write command batcher) = refl
+request_marked heard floor (event.Read client seq before reader replica key) = refl
+request_marked heard floor (event.Session client seq before replica key) = rw (number_itself heard) refl
+request_marked heard floor (event.Deliver number cut) = refl
+request_marked heard floor (event.Tick r) = refl
+request_marked heard floor (event.Order leader order cut) = refl
+request_marked heard floor (event.Snap replica cut) = refl
+request_marked heard floor (event.Crash r) = refl
+request_marked heard floor (event.Restart r) = refl
 
-all_own : (s : ClientState) → IsClient s → (floor : ℕ) (es : List Event) → ((e : Event) → Member e es → Member e (left s)) → IsOwn s (requests_of floor es)
-all_own s is floor es here = record {
+all_told : (heard floor : ℕ) (es : List Event) → Pass (λ (d : Letter). tells floor d.msg) (requests_of heard floor es)
+all_told heard floor es = each_pass (λ (d : Letter). tells floor d.msg) heard floor es (λ e m. request_told heard floor e)
+
+all_marked : (s : ClientState) (floor : ℕ) (es : List Event) → TellsHeard s (requests_of s.heard floor es)
+all_marked s floor es = each_pass (λ (d : Letter). tells_heard s.heard d.msg) s.heard floor es (λ e m. request_marked s.heard floor e)
+
+all_own : (s : ClientState) → IsClient s → (heard floor : ℕ) (es : List Event) → ((e : Event) → Member e es → Member e (left s)) → IsOwn s (requests_of heard floor es)
+all_own s is heard floor es here = record {
   own = rw is.me
-      (each_pass (λ (d : Letter). same_role d.from (role Client s.me.index)) floor es
-      (λ e m. request_own s.me.index floor e (all-Member (asks s.me.index) (left s) is.script.own e (here e m))));
-  named = each_pass (names s.cluster) floor es (λ e m. request_named s.cluster floor e (all-Member (names_event s.cluster) (left s) is.script.named e (here e m)));
+      (each_pass (λ (d : Letter). same_role d.from (role Client s.me.index)) heard floor es
+      (λ e m. request_own s.me.index heard floor e (all-Member (asks s.me.index) (left s) is.script.own e (here e m))));
+  named = each_pass (names s.cluster) heard floor es
+      (λ e m. request_named s.cluster heard floor e (all-Member (names_event s.cluster) (left s) is.script.named e (here e m)));
 }
 
 nothing_own : (s : ClientState) → IsOwn s []
 nothing_own s = record { own = refl; named = refl }
 
-all_sent : (floor : ℕ) (es : List Event) (e : Event) → Member e es → (d : Letter) → Member d (request (telling floor e)) → Member d (requests_of floor es)
-all_sent floor [] e m d sent = absurd m
-all_sent floor (x ∷ es) e (inl same) d sent =
-    Member-first d (request (telling floor x)) (requests_of floor es) (subst (λ (y : Event). Member d (request (telling floor y))) same sent)
-all_sent floor (x ∷ es) e (inr m) d sent = Member-second d (request (telling floor x)) (requests_of floor es) (all_sent floor es e m d sent)
+all_sent : (heard floor : ℕ) (es : List Event) (e : Event) → Member e es → (d : Letter) → Member d (request heard (telling floor e)) → Member d (requests_of heard floor es)
+all_sent heard floor [] e m d sent = absurd m
+all_sent heard floor (x ∷ es) e (inl same) d sent =
+    Member-first d (request heard (telling floor x)) (requests_of heard floor es) (subst (λ (y : Event). Member d (request heard (telling floor y))) same sent)
+all_sent heard floor (x ∷ es) e (inr m) d sent =
+    Member-second d (request heard (telling floor x)) (requests_of heard floor es) (all_sent heard floor es e m d sent)
 
 -- ---- the steps, by cases
 
--- what holds of staying as it is, and of completing an outstanding request that is answered, holds of a datagram's step
-takes_by : (P : ClientMoved → Type 0) (s : ClientState) (d : Letter) → ((w : Why) → P (stays w s))
-    → ((n : ℕ) → same_role d.to s.me ≡ true → names s.cluster d ≡ true → answer_number d.msg ≡ Some n → is_outstanding s.window (left s) n ≡ true → P (client_completes n s))
+-- what is no answer tells nothing
+no_mark : (m : Msg) → answer_number m ≡ None → mark_told m ≡ 0
+no_mark (msg.Submit c) none = refl
+no_mark (msg.Batch cs) none = refl
+no_mark (msg.Leads r) none = refl
+no_mark (msg.MatchA r g) none = refl
+no_mark (msg.MatchB r w es) none = refl
+no_mark (msg.MatchNack r why o) none = refl
+no_mark (msg.Phase1A r) none = refl
+no_mark (msg.Phase1B r cw vs) none = refl
+no_mark (msg.Nack r p) none = refl
+no_mark (msg.Propose r g s cw v) none = refl
+no_mark (msg.Phase2A r s cw v) none = refl
+no_mark (msg.Phase2B r s) none = refl
+no_mark (msg.Chosen s v) none = refl
+no_mark (msg.ChosenIn r s) none = refl
+no_mark (msg.Results s answers) none = refl
+no_mark (msg.Answer seq at reply) none = cc
+no_mark (msg.Held n) none = refl
+no_mark (msg.Fetch n) none = refl
+no_mark (msg.Inform r n) none = refl
+no_mark (msg.Informed r n) none = refl
+no_mark (msg.GarbageA r g) none = refl
+no_mark (msg.GarbageB r) none = refl
+no_mark (msg.ReadReq seq replica key) none = refl
+no_mark (msg.MatchRead t) none = refl
+no_mark (msg.MatchReadAck t w es) none = refl
+no_mark (msg.PreRead t w) none = refl
+no_mark (msg.PreReadAck t w n) none = refl
+no_mark (msg.Read t n key) none = refl
+no_mark (msg.ReadAnswer seq n found) none = cc
+no_mark (msg.SessRead seq n key) none = refl
+
+-- What holds of a stranger's datagram, of an answer that completes nothing, and of one that completes an outstanding request, holds of a
+-- datagram's step.
+takes_by : (P : ClientMoved → Type 0) (s : ClientState) (d : Letter) → (heard_after s d ≡ s.heard → P (stays Stranger s))
+    → (heard_after s d ≡ max s.heard (mark_told d.msg) → P (stays Heard (hearing (mark_told d.msg) s)))
+    → ((n : ℕ) → same_role d.to s.me ≡ true → names s.cluster d ≡ true → answer_number d.msg ≡ Some n → is_outstanding s.window (left s) n ≡ true
+    → P (client_completes n (hearing (mark_told d.msg) s)))
     → P (client_takes s d)
-takes_by P s d stay complete =
-    by_test P (same_role d.to s.me && names s.cluster d) (client_told s (answer_number d.msg)) (stays Stranger s)
-    (λ mine. (let parts = and_parts (same_role d.to s.me) (names s.cluster d) mine in told (answer_number d.msg) (complete_of parts.0 parts.1))) (λ other. stay Stranger)
+takes_by P s d stay hear complete =
+    by_test P (same_role d.to s.me && names s.cluster d) (client_told s (mark_told d.msg) (answer_number d.msg)) (stays Stranger s)
+    (λ mine. (let parts = and_parts (same_role d.to s.me) (names s.cluster d) mine in told (answer_number d.msg) refl (rw mine refl) (complete_of parts.0 parts.1)))
+    (λ other. stay (rw other refl))
   where
-    complete_of : same_role d.to s.me ≡ true → names s.cluster d ≡ true → (n : ℕ) → answer_number d.msg ≡ Some n → is_outstanding s.window (left s) n ≡ true → P (client_completes n s)
+    complete_of : same_role d.to s.me ≡ true → names s.cluster d ≡ true → (n : ℕ) → answer_number d.msg ≡ Some n → is_outstanding s.window (left s) n ≡ true
+        → P (client_completes n (hearing (mark_told d.msg) s))
     complete_of mine known n is out = complete n mine known is out
 
-    told : (o : Option ℕ) → ((n : ℕ) → o ≡ Some n → is_outstanding s.window (left s) n ≡ true → P (client_completes n s)) → P (client_told s o)
-    told None each = stay Stranger
-    told (Some n) each = by_test P (is_outstanding s.window (left s) n) (client_completes n s) (stays Heard s) (λ out. each n refl out) (λ out. stay Heard)
+    told : (o : Option ℕ) → answer_number d.msg ≡ o → heard_after s d ≡ max s.heard (mark_told d.msg)
+        → ((n : ℕ) → answer_number d.msg ≡ Some n → is_outstanding s.window (left s) n ≡ true → P (client_completes n (hearing (mark_told d.msg) s)))
+        → P (client_told s (mark_told d.msg) o)
+    told None is heard each = stay (heard ∙ (let none = no_mark d.msg is in omega (arith, none)))
+    told (Some n) is heard each =
+        by_test P (is_outstanding s.window (left s) n) (client_completes n (hearing (mark_told d.msg) s)) (stays Heard (hearing (mark_told d.msg) s))
+        (λ out. each n is out) (λ out. hear heard)
 
 -- what holds of a client that waits for nothing, and of one that sends what is outstanding, holds of a tick
-ticks_by : (P : ClientMoved → Type 0) (s : ClientState) → ((w : Why) → P (stays w s)) → ((w : Why) (es : List Event) → es ≡ outstanding s.window (left s) → P (record { why = w; state = s; sends = requests_of (floor_for (left s)) es; completes = false }))
+ticks_by : (P : ClientMoved → Type 0) (s : ClientState) → ((w : Why) → P (stays w s)) → ((w : Why) (es : List Event) → es ≡ outstanding s.window (left s) → P (record { why = w; state = s; sends = requests_of s.heard (floor_for (left s)) es; completes = false }))
     → P (client_ticks s)
 ticks_by P s stay send = go (outstanding s.window (left s)) refl
   where
@@ -141,8 +207,32 @@ found s n is out =
 
 -- ---- a client with a script of its own stays one
 
+max_fits : (a b : ℕ) → mark.fits a ≡ true → mark.fits b ≡ true → mark.fits (max a b) ≡ true
+unfolding mark u64
+max_fits a b first second = grind (arith, nat_tests, first, second)
+
+-- the number of an answer is a number of values
+pub at_fits : (n : ℕ) → at.fits n ≡ true → mark.fits n ≡ true
+unfolding at mark u64
+at_fits n fit = grind (arith, nat_tests, fit)
+
+zero_fits : mark.fits 0 ≡ true
+unfolding mark u64
+zero_fits = refl
+
+pub hearing_is_client : (s : ClientState) (at : ℕ) → mark.fits at ≡ true → IsClient s → IsClient (hearing at s)
+hearing_is_client s at fits is = record {
+  me = is.me;
+  completed = is.completed;
+  script = is.script;
+  done = is.done;
+  some_window = is.some_window;
+  window_fits = is.window_fits;
+  heard = max_fits s.heard at is.heard fits;
+}
+
 pub opened_is_client : (c : Cluster) (index : ℕ) (script : List Event) (window : ℕ) → IsScript c index script → 1 ≤ window → window ≤ 64 → IsClient (client_opened c (role Client index) script window)
-opened_is_client c index script window is some fits = record { me = refl; completed = refl; script = is; done = omega arith; some_window = some; window_fits = fits }
+opened_is_client c index script window is some fits = record { me = refl; completed = refl; script = is; done = omega arith; some_window = some; window_fits = fits; heard = zero_fits }
 
 pub completed_is_client : (s : ClientState) (n : ℕ) (e : Event) → IsClient s → Member e (left s) → number_of e ≡ n → IsClient (completed n s)
 completed_is_client s n e is here number = go (is_completed s n e is here number)
@@ -173,26 +263,30 @@ completed_is_client s n e is here number = go (is_completed s n e is here number
           done = omega (arith, count, front);
           some_window = is.some_window;
           window_fits = is.window_fits;
+          heard = is.heard;
         }
 
 heard_is_client : (s : ClientState) (n : ℕ) → IsClient s → is_outstanding s.window (left s) n ≡ true → IsClient (completed n s)
 heard_is_client s n is out = (let f = found s n is out in completed_is_client s n f.0 is (is_left s.window (left s) f.0 f.1) f.2)
 
-pub takes_stays : (s : ClientState) (d : Letter) → IsClient s → IsClient (client_takes s d).state
-takes_stays s d is = takes_by (λ (m : ClientMoved). IsClient m.state) s d (λ w. is) (λ n mine known number out. heard_is_client s n is out)
+pub takes_stays : (s : ClientState) (d : Letter) → mark.fits (mark_told d.msg) ≡ true → IsClient s → IsClient (client_takes s d).state
+takes_stays s d fits is =
+    let t = hearing (mark_told d.msg) s in
+    let after : IsClient t = hearing_is_client s (mark_told d.msg) fits is in
+    takes_by (λ (m : ClientMoved). IsClient m.state) s d (λ h. is) (λ h. after) (λ n mine known number out. heard_is_client t n after out)
 
 -- ---- a client sends requests of its own, with their names in the cluster
 
 pub starts_own : (s : ClientState) → IsClient s → IsOwn s (client_start s)
-starts_own s is = all_own s is (floor_for (left s)) (outstanding s.window (left s)) (is_left s.window (left s))
+starts_own s is = all_own s is s.heard (floor_for (left s)) (outstanding s.window (left s)) (is_left s.window (left s))
 
 pub ticks_own : (s : ClientState) → IsClient s → IsOwn s (client_ticks s).sends
-ticks_own s is = ticks_by (λ (m : ClientMoved). IsOwn s m.sends) s (λ w. nothing_own s) (λ w es same. subst (λ (xs : List Event). IsOwn s (requests_of (floor_for (left s)) xs)) (sym same) (starts_own s is))
+ticks_own s is = ticks_by (λ (m : ClientMoved). IsOwn s m.sends) s (λ w. nothing_own s) (λ w es same. subst (λ (xs : List Event). IsOwn s (requests_of s.heard (floor_for (left s)) xs)) (sym same) (starts_own s is))
 
 pub takes_own : (s : ClientState) (d : Letter) → IsClient s → IsOwn s (client_takes s d).sends
 takes_own s d is =
-    takes_by (λ (m : ClientMoved). IsOwn s m.sends) s d (λ w. nothing_own s)
-    (λ n mine known number out. all_own s is (floor_for (without n (left s))) (newly s.window n (left s)) (λ e m. newly_left n e m))
+    takes_by (λ (m : ClientMoved). IsOwn s m.sends) s d (λ h. nothing_own s) (λ h. nothing_own s)
+    (λ n mine known number out. all_own s is (max s.heard (mark_told d.msg)) (floor_for (without n (left s))) (newly s.window n (left s)) (λ e m. newly_left n e m))
   where
     newly_left : (n : ℕ) (e : Event) → Member e (newly s.window n (left s)) → Member e (left s)
     newly_left n e m =
@@ -203,17 +297,24 @@ takes_own s d is =
 
 pub takes_one : (s : ClientState) (d : Letter) → IsClient s → (client_takes s d).completes ≡ true → Completes s d (client_takes s d).state
 takes_one s d is =
-    takes_by (λ (m : ClientMoved). m.completes ≡ true → Completes s d m.state) s d (λ w h. cc) (λ n mine known number out h. go n mine known number (found s n is out))
+    takes_by (λ (m : ClientMoved). m.completes ≡ true → Completes s d m.state) s d (λ heard h. cc) (λ heard h. cc)
+    (λ n mine known number out h. go n mine known number (found s n is out))
   where
     go : (n : ℕ) → same_role d.to s.me ≡ true → names s.cluster d ≡ true → answer_number d.msg ≡ Some n
-        → (e : Event) × Member e (outstanding s.window (left s)) × (number_of e ≡ n) × IsCompleted n e s → Completes s d (completed n s)
-    go n mine known number (e, here, of_number, i) = record {
-      answers = record { request = e; outstanding = here; number = number ∙ ap (λ (k : ℕ). Some k) (sym of_number); received = mine; named = known };
-      state = ap (λ (es : List Event). record s { script = es; done = s.done + 1 }) (subst (λ (k : ℕ). (completed n s).script ≡ take s.done s.script ++ e ∷ without k (left s)) (sym of_number) i.script);
-    }
+        → (e : Event) × Member e (outstanding s.window (left s)) × (number_of e ≡ n) × IsCompleted n e s → Completes s d (completed n (hearing (mark_told d.msg) s))
+    go n mine known number (e, here, of_number, i) =
+        let heard : max s.heard (mark_told d.msg) ≡ heard_after s d = rw (mine, known) refl in
+        let script : (completed n s).script ≡ take s.done s.script ++ e ∷ without (number_of e) (left s) =
+        subst (λ (k : ℕ). (completed n s).script ≡ take s.done s.script ++ e ∷ without k (left s)) (sym of_number) i.script in
+        record {
+          answers = record { request = e; outstanding = here; number = number ∙ ap (λ (k : ℕ). Some k) (sym of_number); received = mine; named = known };
+          state = λ j. record s { script = script j; done = s.done + 1; heard = heard j };
+        }
 
-pub takes_none : (s : ClientState) (d : Letter) → (client_takes s d).completes ≡ false → (client_takes s d).state ≡ s
-takes_none s d = takes_by (λ (m : ClientMoved). m.completes ≡ false → m.state ≡ s) s d (λ w h. refl) (λ n mine known number out h. cc)
+pub takes_none : (s : ClientState) (d : Letter) → (client_takes s d).completes ≡ false → (client_takes s d).state ≡ record s { heard = heard_after s d }
+takes_none s d =
+    takes_by (λ (m : ClientMoved). m.completes ≡ false → m.state ≡ record s { heard = heard_after s d }) s d
+    (λ heard h. ap (λ (n : ℕ). record s { heard = n }) (sym heard)) (λ heard h. ap (λ (n : ℕ). record s { heard = n }) (sym heard)) (λ n mine known number out h. cc)
 
 pub answer_completes : (s : ClientState) (d : Letter) → Answers s d → (client_takes s d).completes ≡ true
 answer_completes s d a =
@@ -226,32 +327,56 @@ ticks_same s = ticks_by (λ (m : ClientMoved). m.state ≡ s) s (λ w. refl) (λ
 
 -- ---- the floors that are sent
 
-tells_of : (s : ClientState) → IsClient s → (es : List Event) → TellsFloor s (requests_of (floor_for (left s)) es)
-tells_of s is es = record { told = all_told (floor_for (left s)) es; below = all_below (left s) is.script.rising }
+tells_of : (s : ClientState) → rise_above 0 (left s) ≡ true → (heard : ℕ) (es : List Event) → TellsFloor s (requests_of heard (floor_for (left s)) es)
+tells_of s rising heard es = record { told = all_told heard (floor_for (left s)) es; below = all_below (left s) rising }
 
-nothing_tells : (s : ClientState) → IsClient s → TellsFloor s []
-nothing_tells s is = record { told = refl; below = all_below (left s) is.script.rising }
+nothing_tells : (s : ClientState) → rise_above 0 (left s) ≡ true → TellsFloor s []
+nothing_tells s rising = record { told = refl; below = all_below (left s) rising }
 
 pub starts_tell : (s : ClientState) → IsClient s → TellsFloor s (client_start s)
-starts_tell s is = tells_of s is (outstanding s.window (left s))
+starts_tell s is = tells_of s is.script.rising s.heard (outstanding s.window (left s))
 
 pub ticks_tell : (s : ClientState) → IsClient s → TellsFloor s (client_ticks s).sends
-ticks_tell s is = ticks_by (λ (m : ClientMoved). TellsFloor s m.sends) s (λ w. nothing_tells s is) (λ w es same. tells_of s is es)
+ticks_tell s is =
+    ticks_by (λ (m : ClientMoved). TellsFloor s m.sends) s (λ w. nothing_tells s is.script.rising) (λ w es same. tells_of s is.script.rising s.heard es)
 
 pub takes_tell : (s : ClientState) (d : Letter) → IsClient s → TellsFloor (client_takes s d).state (client_takes s d).sends
 takes_tell s d is =
-    takes_by (λ (m : ClientMoved). TellsFloor m.state m.sends) s d (λ w. nothing_tells s is)
+    takes_by (λ (m : ClientMoved). TellsFloor m.state m.sends) s d (λ h. nothing_tells s is.script.rising)
+    (λ h. nothing_tells (hearing (mark_told d.msg) s) is.script.rising) (λ n mine known number out. go n (found s n is out).3.left (heard_is_client s n is out).script.rising)
+  where
+    go : (n : ℕ) → left (completed n s) ≡ without n (left s) → rise_above 0 (left (completed n s)) ≡ true
+        → TellsFloor (completed n (hearing (mark_told d.msg) s)) (client_completes n (hearing (mark_told d.msg) s)).sends
+    go n gone rising =
+        let t = hearing (mark_told d.msg) s in
+        subst (λ (es : List Event). TellsFloor (completed n t) (requests_of t.heard (floor_for es) (newly s.window n (left s)))) gone
+        (tells_of (completed n t) rising t.heard (newly s.window n (left s)))
+
+-- ---- what sessions tell
+
+pub takes_heard : (s : ClientState) (d : Letter) → (client_takes s d).state.heard ≡ heard_after s d
+takes_heard s d =
+    takes_by (λ (m : ClientMoved). m.state.heard ≡ heard_after s d) s d (λ heard. sym heard) (λ heard. sym heard) (λ n mine known number out. rw (mine, known) refl)
+
+pub starts_marked : (s : ClientState) → TellsHeard s (client_start s)
+starts_marked s = all_marked s (floor_for (left s)) (outstanding s.window (left s))
+
+pub ticks_marked : (s : ClientState) → TellsHeard s (client_ticks s).sends
+ticks_marked s = ticks_by (λ (m : ClientMoved). TellsHeard s m.sends) s (λ w. refl) (λ w es same. all_marked s (floor_for (left s)) es)
+
+pub takes_marked : (s : ClientState) (d : Letter) → TellsHeard (client_takes s d).state (client_takes s d).sends
+takes_marked s d =
+    takes_by (λ (m : ClientMoved). TellsHeard m.state m.sends) s d (λ h. refl) (λ h. refl)
     (λ n mine known number out.
-    subst (λ (es : List Event). TellsFloor (completed n s) (requests_of (floor_for es) (newly s.window n (left s)))) (found s n is out).3.left
-    (tells_of (completed n s) (heard_is_client s n is out) (newly s.window n (left s))))
+    all_marked (hearing (mark_told d.msg) s) (floor_for (without n (left s))) (newly s.window n (left s)))
 
 -- ---- what becomes outstanding is sent
 
 pub takes_sent : (s : ClientState) (d : Letter) (e : Event) → IsClient s → Member e (outstanding s.window (left (client_takes s d).state))
     → Member e (outstanding s.window (left s)) ⊎ IsSent (client_takes s d).state (client_takes s d).sends e
 takes_sent s d e is =
-    takes_by (λ (m : ClientMoved). Member e (outstanding s.window (left m.state)) → Member e (outstanding s.window (left s)) ⊎ IsSent m.state m.sends e) s d (λ w m. inl m)
-    (λ n mine known number out m. go n out (found s n is out) m)
+    takes_by (λ (m : ClientMoved). Member e (outstanding s.window (left m.state)) → Member e (outstanding s.window (left s)) ⊎ IsSent m.state m.sends e) s d (λ h m. inl m)
+    (λ h m. inl m) (λ n mine known number out m. go (mark_told d.msg) n out (found s n is out) m)
   where
     was_out : (n : ℕ) → Member e (outstanding s.window (without n (left s))) → (o : Event) × Member o (outstanding s.window (left s)) × (has_number (number_of e) o ≡ true)
         → Member e (outstanding s.window (left s))
@@ -260,9 +385,11 @@ takes_sent s d e is =
         let number : number_of o ≡ number_of e = eqb-true (number_of o) (number_of e) same in
         subst (λ (x : Event). Member x (outstanding s.window (left s))) (one_number 0 (left s) is.script.rising o e (is_left s.window (left s) o here) e_left number) here
 
-    go : (n : ℕ) → is_outstanding s.window (left s) n ≡ true → (o : Event) × Member o (outstanding s.window (left s)) × (number_of o ≡ n) × IsCompleted n o s
-        → Member e (outstanding s.window (left (completed n s))) → Member e (outstanding s.window (left s)) ⊎ IsSent (completed n s) (client_completes n s).sends e
-    go n out (o, here, of_number, i) m =
+    go : (at n : ℕ) → is_outstanding s.window (left s) n ≡ true → (o : Event) × Member o (outstanding s.window (left s)) × (number_of o ≡ n) × IsCompleted n o s
+        → Member e (outstanding s.window (left (completed n (hearing at s))))
+        → Member e (outstanding s.window (left s)) ⊎ IsSent (completed n (hearing at s)) (client_completes n (hearing at s)).sends e
+    go at n out (o, here, of_number, i) m =
+        let t = hearing at s in
         let after : Member e (outstanding s.window (without n (left s))) = subst (λ (es : List Event). Member e (outstanding s.window es)) i.left m in
         elim (cases_Bool (is_outstanding s.window (left s) (number_of e))) [
           | inl was ↦ inl (was_out n after (any-Member (has_number (number_of e)) (outstanding s.window (left s)) was))
@@ -270,19 +397,21 @@ takes_sent s d e is =
               let test : not (is_outstanding s.window (left s) (number_of e)) ≡ true = rw new refl in
               let here : Member e (newly s.window n (left s)) =
               filter-Member (λ (x : Event). not (is_outstanding s.window (left s) (number_of x))) e (outstanding s.window (without n (left s))) after test in
-              inr (subst (λ (es : List Event). (x : Letter) → Member x (request (telling (floor_for es) e)) → Member x (client_completes n s).sends) (sym i.left)
-              (all_sent (floor_for (without n (left s))) (newly s.window n (left s)) e here))
+              inr (subst (λ (es : List Event). (x : Letter) → Member x (request t.heard (telling (floor_for es) e)) → Member x (client_completes n t).sends) (sym i.left)
+              (all_sent t.heard (floor_for (without n (left s))) (newly s.window n (left s)) e here))
         ]
 
 -- ---- the steps of the code
 
 -- all outstanding requests went out
 pub sent_all : (s : ClientState) (before sent : List Letter) → IsClient s → before ≡ []
-    → sent ≡ before ++ requests_of (floor_for (left s)) (filter (λ (e : Event). nat_lt 0 (number_of e)) (outstanding s.window (left s))) → sent ≡ client_start s
-sent_all s before sent is none sends = sends ∙ ap (λ (ds : List Letter). ds ++ requests_of (floor_for (left s)) (filter (λ (e : Event). nat_lt 0 (number_of e)) (outstanding s.window (left s)))) none
-    ∙ ap (requests_of (floor_for (left s))) (all_above s.window (left s) is.script.rising)
+    → sent ≡ before ++ requests_of s.heard (floor_for (left s)) (filter (λ (e : Event). nat_lt 0 (number_of e)) (outstanding s.window (left s))) → sent ≡ client_start s
+sent_all s before sent is none sends =
+    sends ∙ ap (λ (ds : List Letter). ds ++ requests_of s.heard (floor_for (left s)) (filter (λ (e : Event). nat_lt 0 (number_of e)) (outstanding s.window (left s)))) none
+    ∙ ap (requests_of s.heard (floor_for (left s))) (all_above s.window (left s) is.script.rising)
 
-waits_again : (s : ClientState) (es : List Event) (e : Event) (sent : List Letter) → Member e es → sent ≡ requests_of (floor_for (left s)) es → Moves (client_waits s es) Resent false s sent
+waits_again : (s : ClientState) (es : List Event) (e : Event) (sent : List Letter) → Member e es → sent ≡ requests_of s.heard (floor_for (left s)) es
+    → Moves (client_waits s es) Resent false s sent
 waits_again s [] e sent m is = absurd m
 waits_again s (x ∷ es) e sent m is = record { why = refl; completes = refl; state = refl; sends = is }
 
@@ -301,25 +430,26 @@ ticks_again s sent is unfinished sends = go (left s) refl
         waits_again s (outstanding s.window (left s)) e sent (subst (λ (xs : List Event). Member e (outstanding s.window xs)) (sym here) (first_is s.window e es is.some_window)) sends
 
 -- no outstanding request has the number that was heard
-pub hears_none : (s : ClientState) (n : ℕ) (sent : List Letter) → position (has_number n) (outstanding s.window (left s)) ≡ None → sent ≡ [] → Moves (client_hears s n) Heard false s sent
-hears_none s n sent is none =
+pub hears_none : (s : ClientState) (n : ℕ) (after : ClientState) (sent : List Letter) → after ≡ s → position (has_number n) (outstanding s.window (left s)) ≡ None → sent ≡ []
+    → Moves (client_hears s n) Heard false after sent
+hears_none s n after sent state is none =
     let out : is_outstanding s.window (left s) n ≡ false = none_found (has_number n) (outstanding s.window (left s)) is in
-    rw out (record { why = refl; completes = refl; state = refl; sends = none })
+    rw out (record { why = refl; completes = refl; state = state; sends = none })
 
 -- one has it
 pub hears_one : (s : ClientState) (n last : ℕ) (after : ClientState) (before sent : List Letter) → IsClient s → is_outstanding s.window (left s) n ≡ true → after ≡ completed n s
     → last ≡ last_or 0 (outstanding s.window (left s)) → before ≡ []
-    → sent ≡ before ++ requests_of (floor_for (left after)) (filter (λ (e : Event). nat_lt last (number_of e)) (outstanding after.window (left after)))
+    → sent ≡ before ++ requests_of after.heard (floor_for (left after)) (filter (λ (e : Event). nat_lt last (number_of e)) (outstanding after.window (left after)))
     → Moves (client_hears s n) Heard true after sent
 hears_one s n last after before sent is out state end none sends =
     let gone : left (completed n s) ≡ without n (left s) = (found s n is out).3.left in
     let news : filter (λ (e : Event). nat_lt last (number_of e)) (outstanding s.window (without n (left s))) ≡ newly s.window n (left s) = newly_is s.window n (left s) last is.script.rising end in
     let all : sent ≡ (client_completes n s).sends =
     sends
-    ∙ ap (λ (ds : List Letter). ds ++ requests_of (floor_for (left after)) (filter (λ (e : Event). nat_lt last (number_of e)) (outstanding after.window (left after)))) none
-    ∙ ap (λ (t : ClientState). requests_of (floor_for (left t)) (filter (λ (e : Event). nat_lt last (number_of e)) (outstanding t.window (left t)))) state
-    ∙ ap (λ (es : List Event). requests_of (floor_for es) (filter (λ (e : Event). nat_lt last (number_of e)) (outstanding s.window es))) gone
-    ∙ ap (requests_of (floor_for (without n (left s)))) news in
+    ∙ ap (λ (ds : List Letter). ds ++ requests_of after.heard (floor_for (left after)) (filter (λ (e : Event). nat_lt last (number_of e)) (outstanding after.window (left after)))) none
+    ∙ ap (λ (t : ClientState). requests_of t.heard (floor_for (left t)) (filter (λ (e : Event). nat_lt last (number_of e)) (outstanding t.window (left t)))) state
+    ∙ ap (λ (es : List Event). requests_of s.heard (floor_for es) (filter (λ (e : Event). nat_lt last (number_of e)) (outstanding s.window es))) gone
+    ∙ ap (requests_of s.heard (floor_for (without n (left s)))) news in
     rw out (record { why = refl; completes = refl; state = state; sends = all })
 
 -- the request at a place of those that are left was brought forward

@@ -164,6 +164,7 @@ first_is (suc n) e left some =
 valid_telling : (floor : ℕ) (e : Event) → floor_fits (number_of e) floor ≡ true → is_valid_event (telling floor e) ≡ true
 valid_telling floor (event.Write command batcher) fits = fits
 valid_telling floor (event.Read client seq before reader replica key) fits = fits
+valid_telling floor (event.Session client seq before replica key) fits = fits
 valid_telling floor (event.Deliver number cut) fits = refl
 valid_telling floor (event.Tick role) fits = refl
 valid_telling floor (event.Order leader order cut) fits = refl

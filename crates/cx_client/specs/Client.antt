@@ -1,5 +1,5 @@
 -- A client with its script: up to a window of requests outstanding at a time.
-use Rattle.std.specs.Prelude.{◌≡◌, ◌≤◌, ℕ, ◌+◌, Bool, true, false, ◌==◌, ◌&&◌, List, [], ◌∷◌, ◌++◌, drop, filter, length, take, Option, None, Some, if◌then◌else◌}
+use Rattle.std.specs.Prelude.{◌≡◌, ◌≤◌, ℕ, ◌+◌, Bool, true, false, ◌==◌, ◌&&◌, max, List, [], ◌∷◌, ◌++◌, drop, filter, length, take, Option, None, Some, IsTrue, if◌then◌else◌}
 use Rattle.std.specs.List.{list_all}
 use Rattle.cx_base.specs.declared.cluster.Cluster.{Cluster}
 use Rattle.cx_base.specs.declared.event.Event.{Event}
@@ -9,26 +9,30 @@ use Rattle.cx_base.specs.declared.why.Why.{Why}
 use Rattle.cx_base.specs.declared.why.Why.TheVariants.{Heard, Idle, Resent, Stranger}
 use Rattle.cx_base.specs.Role.{role, same_role}
 use Rattle.cx_client.specs.Window.{floor_for, has_number, is_outstanding, newly, outstanding, requests_of, without}
+use Rattle.cx_field.specs.Fields.{mark}
+use Rattle.cx_model.specs.Heard.{mark_told}
 use Rattle.cx_model.specs.Names.{names}
 use Rattle.cx_msg.specs.Letter.{Letter}
 use Rattle.cx_msg.specs.declared.message.Msg.{Msg}
 use Rattle.cx_msg.specs.declared.message.Msg.TheVariants as msg
 use Rattle.cx_script.specs.Requests.{IsScript, asks}
 
--- a client, its requests, how many of them are completed, and how many of the others may be outstanding at a time. The completed ones
--- come first, in the order in which they were completed; then the others, in the order of their numbers.
+-- A client, its requests, how many of them are completed, how many of the others may be outstanding at a time, and the greatest number
+-- that an answer told it: of so many values it has heard. The completed requests come first, in the order in which they were completed;
+-- then the others, in the order of their numbers.
 pub record ClientState : Type 0 where
   pub cluster : Cluster
   pub me : RoleId
   pub script : List Event
   pub done : ℕ
   pub window : ℕ
+  pub heard : ℕ
 
 -- the uncompleted requests
 abbrev pub left : ClientState → List Event
 left s = drop s.done s.script
 
--- a client of the cluster with a script of its own, of which no more is completed than there is
+-- a client of the cluster with a script of its own, of which no more is completed than there is, and no more heard than a list has values
 pub record IsClient (s : ClientState) : Type 0 where
   pub me : s.me ≡ role Client s.me.index
   pub completed : list_all (asks s.me.index) (take s.done s.script) ≡ true
@@ -36,10 +40,11 @@ pub record IsClient (s : ClientState) : Type 0 where
   pub done : s.done ≤ length s.script
   pub some_window : 1 ≤ s.window
   pub window_fits : s.window ≤ 64
+  pub heard : IsTrue (mark.fits s.heard)
 
 -- a client at its beginning
 abbrev pub client_opened : Cluster → RoleId → List Event → ℕ → ClientState
-client_opened c me script window = record { cluster = c; me = me; script = script; done = 0; window = window }
+client_opened c me script window = record { cluster = c; me = me; script = script; done = 0; window = window; heard = 0 }
 
 abbrev pub is_finished : ClientState → Bool
 is_finished s = s.done == length s.script
@@ -57,7 +62,7 @@ stays w s = record { why = w; state = s; sends = []; completes = false }
 
 -- what is sent first: the outstanding requests
 abbrev pub client_start : ClientState → List Letter
-client_start s = requests_of (floor_for (left s)) (outstanding s.window (left s))
+client_start s = requests_of s.heard (floor_for (left s)) (outstanding s.window (left s))
 
 -- the client once the request of this number is completed
 abbrev pub completed : ℕ → ClientState → ClientState
@@ -69,11 +74,15 @@ client_completes n s =
     record {
       why = Heard;
       state = completed n s;
-      sends = requests_of (floor_for (without n (left s))) (newly s.window n (left s));
+      sends = requests_of s.heard (floor_for (without n (left s))) (newly s.window n (left s));
       completes = true;
     }
 
--- an answer to the request of this number
+-- the client once an answer told it this number
+abbrev pub hearing : ℕ → ClientState → ClientState
+hearing at s = record s { heard = max s.heard at }
+
+-- an answer to the request of this number, of which the client has heard
 abbrev pub client_hears : ClientState → ℕ → ClientMoved
 client_hears s n = if is_outstanding s.window (left s) n then client_completes n s else stays Heard s
 
@@ -83,18 +92,19 @@ answer_number (msg.Answer seq at reply) = Some seq
 answer_number (msg.ReadAnswer seq n text) = Some seq
 answer_number other = None
 
-abbrev pub client_told : ClientState → Option ℕ → ClientMoved
-client_told s None = stays Stranger s
-client_told s (Some n) = client_hears s n
+-- a message that tells this number, of which the client hears where it is an answer, whether or not that completes a request
+abbrev pub client_told : ClientState → ℕ → Option ℕ → ClientMoved
+client_told s at None = stays Stranger s
+client_told s at (Some n) = client_hears (hearing at s) n
 
 -- a datagram; it is a stranger's where it isn't to this client, is no answer, or names what lies outside the cluster
 abbrev pub client_takes : ClientState → Letter → ClientMoved
-client_takes s d = if same_role d.to s.me && names s.cluster d then client_told s (answer_number d.msg) else stays Stranger s
+client_takes s d = if same_role d.to s.me && names s.cluster d then client_told s (mark_told d.msg) (answer_number d.msg) else stays Stranger s
 
 -- a tick sends the outstanding requests again
 abbrev pub client_waits : ClientState → List Event → ClientMoved
 client_waits s [] = stays Idle s
-client_waits s (e ∷ es) = record { why = Resent; state = s; sends = requests_of (floor_for (left s)) (e ∷ es); completes = false }
+client_waits s (e ∷ es) = record { why = Resent; state = s; sends = requests_of s.heard (floor_for (left s)) (e ∷ es); completes = false }
 
 abbrev pub client_ticks : ClientState → ClientMoved
 client_ticks s = client_waits s (outstanding s.window (left s))

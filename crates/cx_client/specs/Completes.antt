@@ -1,10 +1,11 @@
 -- What a client sends, and when a datagram completes a request.
-use Rattle.std.specs.Prelude.{◌≡◌, ℕ, ◌+◌, ◌==◌, Bool, true, nat_lt, List, ◌∷◌, ◌++◌, take, Some}
+use Rattle.std.specs.Prelude.{◌≡◌, ℕ, ◌+◌, ◌==◌, ◌&&◌, max, Bool, true, nat_lt, List, ◌∷◌, ◌++◌, take, Some, if◌then◌else◌}
 use Rattle.std.specs.List.{list_all}
 use Rattle.cx_base.specs.declared.event.Event.{Event}
 use Rattle.cx_base.specs.Role.{same_role}
 use Rattle.cx_client.specs.Client.{ClientState, answer_number, left}
 use Rattle.cx_client.specs.Window.{floor_for, outstanding, telling, without}
+use Rattle.cx_model.specs.Heard.{mark_told}
 use Rattle.cx_model.specs.Member.{Member}
 use Rattle.cx_model.specs.Names.{names}
 use Rattle.cx_model.specs.Request.{request}
@@ -26,10 +27,15 @@ pub record Answers (s : ClientState) (d : Letter) : Type 0 where
   pub received : same_role d.to s.me ≡ true
   pub named : names s.cluster d ≡ true
 
+-- How many values a client has heard of once it takes a datagram: the greatest number that an answer told it, also one that completes
+-- nothing. A stranger's datagram tells it nothing.
+abbrev pub heard_after : ClientState → Letter → ℕ
+heard_after s d = if same_role d.to s.me && names s.cluster d then max s.heard (mark_told d.msg) else s.heard
+
 -- a datagram answers an outstanding request, which then is behind those completed before it; the others stay as they are
 pub record Completes (s : ClientState) (d : Letter) (after : ClientState) : Type 0 where
   pub answers : Answers s d
-  pub state : after ≡ record s { script = take s.done s.script ++ answers.request ∷ without (number_of answers.request) (left s); done = s.done + 1 }
+  pub state : after ≡ record s { script = take s.done s.script ++ answers.request ∷ without (number_of answers.request) (left s); done = s.done + 1; heard = heard_after s d }
 
 -- whether a command, if it is one, tells this floor
 abbrev pub tells : ℕ → Msg → Bool
@@ -41,6 +47,15 @@ pub record TellsFloor (s : ClientState) (ds : List Letter) : Type 0 where
   pub told : list_all (λ (d : Letter). tells (floor_for (left s)) d.msg) ds ≡ true
   pub below : list_all (λ (e : Event). nat_lt (floor_for (left s)) (number_of e)) (left s) ≡ true
 
--- a request is sent, telling the floor of the client
+-- whether a session, if it is one, tells of so many values
+abbrev pub tells_heard : ℕ → Msg → Bool
+tells_heard heard (msg.SessRead seq n key) = n == heard
+tells_heard heard other = true
+
+-- each session that is sent tells of how many values the client has heard
+abbrev pub TellsHeard : ClientState → List Letter → Type 0
+TellsHeard s ds = list_all (λ (d : Letter). tells_heard s.heard d.msg) ds ≡ true
+
+-- a request is sent, telling the floor of the client, and what it has heard
 abbrev pub IsSent : ClientState → List Letter → Event → Type 0
-IsSent s ds e = (d : Letter) → Member d (request (telling (floor_for (left s)) e)) → Member d ds
+IsSent s ds e = (d : Letter) → Member d (request s.heard (telling (floor_for (left s)) e)) → Member d ds

@@ -1,16 +1,18 @@
--- Worked steps of a client with the requests 1, 3, 64, 65 and 66 and a window of 4. What is expected was worked out by hand.
-use Rattle.std.specs.Prelude.{◌≡◌, ℕ, ◌-◌, false, List, [], ◌∷◌, map}
+-- Worked steps of a client with the requests 1, 3, 64, 65 and 66 and a window of 4, and of one whose sessions are 1 and 3, one outstanding at a
+-- time. What is expected was worked out by hand.
+use Rattle.std.specs.Prelude.{◌≡◌, ℕ, ◌-◌, false, List, [], ◌∷◌, map, None}
 use Rattle.std.specs.List.{flat_map}
 use Rattle.cx_base.specs.declared.command.Op.TheVariants.{Del}
 use Rattle.cx_base.specs.declared.event.Event.{Event}
 use Rattle.cx_base.specs.declared.event.Event.TheVariants as event
-use Rattle.cx_base.specs.declared.role.Kind.TheVariants.{Client}
+use Rattle.cx_base.specs.declared.command.Reply.TheVariants.{Absent}
+use Rattle.cx_base.specs.declared.role.Kind.TheVariants.{Client, Replica, Unbatcher}
 use Rattle.cx_base.specs.Role.{role}
 use Rattle.cx_model.specs.Examples.{one_of_each}
-use Rattle.cx_msg.specs.Letter.{Letter}
+use Rattle.cx_msg.specs.Letter.{Letter, letter}
 use Rattle.cx_msg.specs.declared.message.Msg.{Msg}
 use Rattle.cx_msg.specs.declared.message.Msg.TheVariants as msg
-use Rattle.cx_client.specs.Client.{ClientState, client_hears, client_opened, client_start, client_ticks}
+use Rattle.cx_client.specs.Client.{ClientState, client_hears, client_opened, client_start, client_takes, client_ticks}
 
 -- the request of a number
 abbrev write : ℕ → Event
@@ -32,6 +34,28 @@ numbers_in other = []
 abbrev told : List Letter → List (ℕ × ℕ)
 told ds = flat_map (λ (d : Letter). numbers_in d.msg) ds
 
+abbrev session : ℕ → Event
+session seq = event.Session 0 seq (seq - 1) 0 (97 ∷ [])
+
+abbrev reader : ClientState
+reader = client_opened one_of_each (role Client 0) (map session (1 ∷ 3 ∷ [])) 1
+
+-- an answer to a command that isn't outstanding
+abbrev answer : ℕ → Letter
+answer client = letter (role Unbatcher 0) (role Client client) (msg.Answer 9 5 Absent)
+
+-- the client after it
+abbrev reader_told : ClientState
+reader_told = (client_takes reader (answer 0)).state
+
+-- the number and the mark of a session
+abbrev marks_in : Msg → List (ℕ × ℕ)
+marks_in (msg.SessRead seq n key) = (seq, n) ∷ []
+marks_in other = []
+
+abbrev marked : List Letter → List (ℕ × ℕ)
+marked ds = flat_map (λ (d : Letter). marks_in d.msg) ds
+
 pub record Worked : Type 0 where
   pub start : told (client_start client) ≡ (1, 0) ∷ (3, 0) ∷ (64, 0) ∷ []
   -- 65 is above 1 + 63
@@ -42,3 +66,10 @@ pub record Worked : Type 0 where
   pub first : told (client_hears (after (3 ∷ 66 ∷ []) client) 1).sends ≡ (65, 63) ∷ (66, 63) ∷ []
   pub middle : told (client_hears (after (3 ∷ 66 ∷ 1 ∷ []) client) 65).sends ≡ []
   pub later_tick : told (client_ticks (after (3 ∷ 66 ∷ 1 ∷ 65 ∷ []) client)).sends ≡ (64, 63) ∷ (66, 63) ∷ []
+  pub session : marked (client_start reader) ≡ (1, 0) ∷ []
+  -- what completes nothing is heard
+  pub session_again : marked (client_ticks reader_told).sends ≡ (1, 5) ∷ []
+  -- 2 isn't the greatest
+  pub session_next : marked (client_takes reader_told (letter (role Replica 0) (role Client 0) (msg.ReadAnswer 1 2 None))).sends ≡ (3, 5) ∷ []
+  -- a stranger's
+  pub stranger : (client_takes reader (answer 1)).state.heard ≡ 0

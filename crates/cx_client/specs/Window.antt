@@ -43,6 +43,7 @@ newly window n left = filter (λ (e : Event). not (is_outstanding window left (n
 abbrev pub telling : ℕ → Event → Event
 telling floor (event.Write command batcher) = event.Write (record command { floor = floor }) batcher
 telling floor (event.Read client seq before reader replica key) = event.Read client seq floor reader replica key
+telling floor (event.Session client seq before replica key) = event.Session client seq floor replica key
 telling floor (event.Deliver number cut) = event.Deliver number cut
 telling floor (event.Tick r) = event.Tick r
 telling floor (event.Order leader order cut) = event.Order leader order cut
@@ -50,6 +51,6 @@ telling floor (event.Snap replica cut) = event.Snap replica cut
 telling floor (event.Crash r) = event.Crash r
 telling floor (event.Restart r) = event.Restart r
 
--- the datagrams of requests that tell this floor, one after the other
-abbrev pub requests_of : ℕ → List Event → List Letter
-requests_of floor es = flat_map (λ (e : Event). request (telling floor e)) es
+-- the datagrams of requests of a client that has heard of so many values, each telling this floor, one after the other
+abbrev pub requests_of : ℕ → ℕ → List Event → List Letter
+requests_of heard floor es = flat_map (λ (e : Event). request heard (telling floor e)) es

@@ -3,8 +3,9 @@
 ghost use Rattle.std.specs.Prelude.{◌≡◌, ◌≤◌, ◌<◌, ◌+◌, ◌-◌, ◌++◌, ◌∷◌, [], drop, filter, get_or, length, nat_lt, slice_get, take, IfOk, IfSome, OnErr, OnOk, IsTrue, false};
 ghost use Rattle.cx_base.specs.declared.event.Event.{Event as Happening};
 ghost use Rattle.cx_base.specs.declared.role.Kind.TheVariants as kind;
-ghost use Rattle.cx_client.specs.Client.{Moves, completed, client_hears, client_opened, client_start, client_takes, client_ticks, is_finished, left};
+ghost use Rattle.cx_client.specs.Client.{Moves, completed, client_hears, client_opened, client_start, client_takes, client_ticks, hearing, is_finished, left};
 ghost use Rattle.cx_client.specs.Window.{floor_for, outstanding, requests_of};
+ghost use Rattle.cx_field.specs.Fields as field;
 ghost use Rattle.cx_model.specs.Names.{names_role};
 ghost use Rattle.cx_script.specs.Requests.{IsScript, number_of};
 
@@ -24,7 +25,8 @@ pub struct Taken {
 
 /// A client and its script. Of its uncompleted requests the first ones are outstanding, as many as its window has room for, but none whose
 /// number is more than 63 above the first (this project's own). Each is sent when it becomes so and at each tick, until an answer has its
-/// number; its floor is the number just below the first uncompleted one, as of that sending.
+/// number; its floor is the number just below the first uncompleted one, as of that sending. A session tells the greatest number that an
+/// answer told the client, as of that sending.
 #[derive(Drop)]
 pub struct Client {
     cluster: Cluster,
@@ -33,6 +35,8 @@ pub struct Client {
     script: Vec<Event>,
     done: usize,
     window: u8,
+    // The greatest number that an answer told it.
+    heard: u64,
 }
 
 impl Model for Client {
@@ -48,6 +52,7 @@ impl Model for Client {
       script = c.script.items;
       done = c.done;
       window = c.window;
+      heard = c.heard;
     } };
 
     ghost invariant = { λ c. IsClient
@@ -57,6 +62,7 @@ impl Model for Client {
           script = c.script.items;
           done = c.done;
           window = c.window;
+          heard = c.heard;
         }) };
 }
 
@@ -101,6 +107,7 @@ impl Client {
             script,
             done: 0,
             window,
+            heard: 0,
         }
     }
 
@@ -114,11 +121,17 @@ impl Client {
     // The outstanding requests whose numbers are above `sent` go out. It takes no memory.
     fn send_above(&self, sent: u64, out: &mut Outbox)
         requires room { self.now.window ≤ out.old.spare }
-        ensures { out.new.list ≡ out.old.list ++ requests_of (floor_for (left self.now))
+        ensures { out.new.list ≡ out.old.list ++ requests_of self.now.heard (floor_for (left self.now))
             (filter (λ (e : Happening). nat_lt sent (number_of e))
             (outstanding self.now.window (left self.now))) }
     {
-        send_outstanding(&self.script[self.done..], self.window as usize, sent, out);
+        send_outstanding(
+            &self.script[self.done..],
+            self.window as usize,
+            sent,
+            self.heard,
+            out,
+        );
     }
 
     /// The outstanding requests are sent: the first ones of the script.
@@ -141,11 +154,20 @@ impl Client {
         self.done += 1;
     }
 
-    // An answer to the request of this number.
-    fn hear(&mut self, number: u64, out: &mut Outbox) -> Result<Taken, NoMemory>
+    // An answer told it this number.
+    fn raise(&mut self, at: u64)
+        requires { IsTrue (field.mark.fits at) }
+        ensures { self.new ≡ hearing at self.old }
+    {
+        self.heard = self.heard.max(at);
+    }
+
+    // An answer to the request of this number tells the number `at`.
+    fn hear(&mut self, number: u64, at: u64, out: &mut Outbox) -> Result<Taken, NoMemory>
+        requires at { IsTrue (field.mark.fits at) }
         requires empty { out.old.list ≡ [] }
         ensures ok { IfOk result
-            (λ taken. Moves (client_hears self.old number) taken.why taken.completes self.new
+            (λ taken. Moves (client_hears (hearing at self.old) number) taken.why taken.completes self.new
             out.new.list) }
         ensures no_memory { OnErr result (self.new ≡ self.old) }
         ensures nothing { OnErr result (out.new.list ≡ []) }
@@ -153,6 +175,7 @@ impl Client {
         let why = Why::Heard;
         let outstanding = self.outstanding();
         let Some(place) = place_of(outstanding, number) else {
+            self.raise(at);
             return Ok(Taken {
                 why,
                 completes: false,
@@ -160,6 +183,7 @@ impl Client {
         };
         let sent = last_number(outstanding);
         out.room(self.window as usize)?;
+        self.raise(at);
         self.complete(place);
         self.send_above(sent, out);
         Ok(Taken {
@@ -169,8 +193,8 @@ impl Client {
     }
 
     /// One datagram. It is a stranger's, and nothing changes, where it isn't to this client, is no answer, or a name in it lies
-    /// outside the cluster; any other is heard. An answer with the number of an outstanding request completes that one, and the
-    /// requests that become outstanding are sent. Out of memory, nothing changes.
+    /// outside the cluster; any other is heard, and raises the number that sessions tell. An answer with the number of an
+    /// outstanding request completes that one, and the requests that become outstanding are sent. Out of memory, nothing changes.
     pub fn take(&mut self, datagram: &Datagram, out: &mut Outbox) -> Result<Taken, NoMemory>
         requires empty { out.old.list ≡ [] }
         ensures ok { IfOk result
@@ -188,8 +212,8 @@ impl Client {
             return Ok(stranger);
         }
         match datagram.msg() {
-            Msg::Answer { seq, .. } => self.hear(*seq, out),
-            Msg::ReadAnswer { seq, .. } => self.hear(*seq, out),
+            Msg::Answer { seq, at, .. } => self.hear(*seq, *at, out),
+            Msg::ReadAnswer { seq, mark, .. } => self.hear(*seq, *mark, out),
             _ => Ok(stranger),
         }
     }

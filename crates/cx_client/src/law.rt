@@ -1,24 +1,27 @@
 //! What is true of every step of a client.
 
-ghost use Rattle.std.specs.Prelude.{◌≡◌, ◌⊎◌, ◌≤◌, ℕ, List, ◌∷◌, true, false};
+ghost use Rattle.std.specs.Prelude.{◌≡◌, ◌⊎◌, ◌≤◌, ℕ, List, ◌∷◌, true, false, IsTrue};
 ghost use Rattle.cx_base.specs.Asked.{floor_fits};
 ghost use Rattle.cx_base.specs.declared.cluster.Cluster.{Cluster};
 ghost use Rattle.cx_base.specs.declared.event.Event.{Event};
 ghost use Rattle.cx_base.specs.declared.role.Kind.TheVariants as kind;
 ghost use Rattle.cx_base.specs.Role.{role};
 ghost use Rattle.cx_client.specs.Client.{ClientState, IsClient, client_opened, client_start, client_takes, client_ticks, left};
-ghost use Rattle.cx_client.specs.Completes.{Answers, Completes, IsOwn, IsSent, TellsFloor};
+ghost use Rattle.cx_client.specs.Completes.{Answers, Completes, IsOwn, IsSent, TellsFloor, TellsHeard, heard_after};
 ghost use Rattle.cx_client.specs.Window.{floor_for, outstanding};
+ghost use Rattle.cx_field.specs.Fields as field;
+ghost use Rattle.cx_model.specs.Heard.{mark_told};
 ghost use Rattle.cx_model.specs.Member.{Member};
 ghost use Rattle.cx_msg.specs.Letter.{Letter};
 ghost use Rattle.cx_script.specs.Requests.{IsScript, number_of};
 
-/// A law: a client with a script of its own stays one.
+/// A law: a client with a script of its own stays one, at datagrams that tell of no more values than a list has.
 pub fn clients_stay()
     ensures opened { (c : Cluster) (index : ℕ) (script : List Event) (window : ℕ)
         → IsScript c index script → 1 ≤ window → window ≤ 64
         → IsClient (client_opened c (role kind.Client index) script window) }
-    ensures takes { (s : ClientState) (letter : Letter) → IsClient s → IsClient (client_takes s letter).state }
+    ensures takes { (s : ClientState) (letter : Letter) → IsTrue (field.mark.fits (mark_told letter.msg)) → IsClient s
+        → IsClient (client_takes s letter).state }
 {}
 
 /// A law: whatever a client sends is from itself, and each name in it lies in the cluster.
@@ -28,12 +31,13 @@ pub fn sends_are_own()
     ensures ticks { (s : ClientState) → IsClient s → IsOwn s (client_ticks s).sends }
 {}
 
-/// A law: a datagram completes one request or none: an outstanding one, exactly where it answers that one. A tick completes none.
+/// A law: a datagram completes one request or none: an outstanding one, exactly where it answers that one. One that completes none changes
+/// at most what the client has heard. A tick completes none.
 pub fn completes_once()
     ensures one { (s : ClientState) (letter : Letter) → IsClient s
         → (client_takes s letter).completes ≡ true → Completes s letter (client_takes s letter).state }
     ensures none { (s : ClientState) (letter : Letter) → (client_takes s letter).completes ≡ false
-        → (client_takes s letter).state ≡ s }
+        → (client_takes s letter).state ≡ record s { heard = heard_after s letter } }
     ensures answered { (s : ClientState) (letter : Letter) → Answers s letter
         → (client_takes s letter).completes ≡ true }
     ensures ticks { (s : ClientState) → (client_ticks s).state ≡ s }
@@ -46,6 +50,16 @@ pub fn floors_are_below()
     ensures takes { (s : ClientState) (letter : Letter) → IsClient s
         → TellsFloor (client_takes s letter).state (client_takes s letter).sends }
     ensures ticks { (s : ClientState) → IsClient s → TellsFloor s (client_ticks s).sends }
+{}
+
+/// A law: what a client has heard is the greatest number that an answer told it, and each session that it sends tells that number, as of the
+/// end of the step.
+pub fn sessions_tell_what_was_heard()
+    ensures heard { (s : ClientState) (letter : Letter) → (client_takes s letter).state.heard ≡ heard_after s letter }
+    ensures starts { (s : ClientState) → TellsHeard s (client_start s) }
+    ensures takes { (s : ClientState) (letter : Letter)
+        → TellsHeard (client_takes s letter).state (client_takes s letter).sends }
+    ensures ticks { (s : ClientState) → TellsHeard s (client_ticks s).sends }
 {}
 
 /// A law: the first uncompleted request is outstanding, each outstanding one may tell the client's floor, and what is outstanding after a

@@ -4,7 +4,8 @@
 //! Its theorems are: each call is the model's step; what a client sends is its own
 //! (`sends_are_own`); a datagram completes an outstanding request exactly where it answers it, and
 //! no other (`completes_once`); no uncompleted number is at or below a floor that is sent
-//! (`floors_are_below`); and what becomes outstanding is sent (`windows_move`).
+//! (`floors_are_below`); what becomes outstanding is sent (`windows_move`); and a session tells the
+//! greatest number that an answer told its client (`sessions_tell_what_was_heard`).
 #![tactic(auto)]
 
 mod client;
@@ -15,4 +16,7 @@ mod window;
 
 pub use client::{Client, Taken};
 pub use examples::worked;
-pub use law::{clients_stay, completes_once, floors_are_below, sends_are_own, windows_move};
+pub use law::{
+    clients_stay, completes_once, floors_are_below, sends_are_own, sessions_tell_what_was_heard,
+    windows_move,
+};

@@ -7,6 +7,7 @@ ghost use Rattle.cx_base.specs.Role.{role};
 ghost use Rattle.cx_base.specs.declared.event.Event.{Event as Happening};
 ghost use Rattle.cx_base.specs.declared.role.Kind.TheVariants as kind;
 ghost use Rattle.cx_client.specs.Window.{floor_for, outstanding, requests_of, telling};
+ghost use Rattle.cx_field.specs.Fields as field;
 ghost use Rattle.cx_model.specs.Request.{request};
 ghost use Rattle.cx_msg.specs.declared.message.Msg.TheVariants as msg;
 ghost use Rattle.cx_msg.specs.Letter.{letter};
@@ -14,7 +15,7 @@ ghost use Rattle.cx_script.specs.Requests.{number_of, rise_above};
 
 use crate::window::{first_of, number_of, outstanding};
 use cx_base::{Command, Event, Op};
-use cx_msg::{Datagram, read_req, submit};
+use cx_msg::{Datagram, read_req, sess_read, submit};
 use cx_role::Outbox;
 
 // A command for a batcher; its numbers are taken by value, so that their range is known.
@@ -36,12 +37,14 @@ fn submission(client: u16, seq: u64, floor: u64, op: Op, batcher: u16) -> Datagr
     )
 }
 
-// The datagram of a request that tells this floor goes out. It takes no memory.
+// The datagram of a request goes out, which tells this floor, or in a session how many values the client has heard of. It takes
+// no memory.
 #[tactic(auto, unfolding(cx_field::specs::Fields::seq, cx_wire::specs::Format::u64))]
-fn send(event: &Event, floor: u64, out: &mut Outbox)
+fn send(event: &Event, floor: u64, heard: u64, out: &mut Outbox)
+    requires heard { IsTrue (field.mark.fits heard) }
     requires room { 0 < out.old.spare }
     requires taken { IsTrue (is_valid_event (telling floor event.now)) }
-    ensures list { out.new.list ≡ out.old.list ++ request (telling floor event.now) }
+    ensures list { out.new.list ≡ out.old.list ++ request heard (telling floor event.now) }
     ensures spare { out.old.spare ≤ out.new.spare + 1 }
 {
     match event {
@@ -60,31 +63,41 @@ fn send(event: &Event, floor: u64, out: &mut Outbox)
             key,
             ..
         } => out.push(read_req(*client, *reader, *seq, *replica, *key)),
+        Event::Session {
+            client,
+            seq,
+            replica,
+            key,
+            ..
+        } => out.push(sess_read(*client, *replica, *seq, heard, *key)),
         _ => {}
     }
 }
 
-// The requests whose numbers are above `sent` go out, in their order, each telling this floor. It takes no memory.
-fn send_above(requests: &[Event], sent: u64, floor: u64, out: &mut Outbox)
+// The requests whose numbers are above `sent` go out, in their order, each telling this floor or this mark. It takes no memory.
+fn send_above(requests: &[Event], sent: u64, floor: u64, heard: u64, out: &mut Outbox)
+    requires heard { IsTrue (field.mark.fits heard) }
     requires room { length requests.now ≤ out.old.spare }
     requires taken { IsTrue (list_all (λ (e : Happening). is_valid_event (telling floor e)) requests.now) }
-    ensures { out.new.list ≡ out.old.list ++ requests_of floor
+    ensures { out.new.list ≡ out.old.list ++ requests_of heard floor
         (filter (λ (e : Happening). nat_lt sent (number_of e)) requests.now) }
 {
     for event in requests {
         if sent < number_of(event) {
-            send(event, floor, out);
+            send(event, floor, heard, out);
         }
     }
 }
 
-/// The outstanding ones of the requests that are left go out, but for those up to the number `sent`. It takes no memory.
-pub fn send_outstanding(left: &[Event], window: usize, sent: u64, out: &mut Outbox)
+/// The outstanding ones of the requests that are left go out, but for those up to the number `sent`, of a client that has heard of so many
+/// values. It takes no memory.
+pub fn send_outstanding(left: &[Event], window: usize, sent: u64, heard: u64, out: &mut Outbox)
+    requires heard { IsTrue (field.mark.fits heard) }
     requires rising { IsTrue (rise_above 0 left.now) }
     requires room { window ≤ out.old.spare }
-    ensures { out.new.list ≡ out.old.list ++ requests_of (floor_for left.now)
+    ensures { out.new.list ≡ out.old.list ++ requests_of heard (floor_for left.now)
         (filter (λ (e : Happening). nat_lt sent (number_of e)) (outstanding window left.now)) }
 {
     let floor = first_of(left).saturating_sub(1);
-    send_above(outstanding(left, window), sent, floor, out);
+    send_above(outstanding(left, window), sent, floor, heard, out);
 }

@@ -15,6 +15,7 @@ pub fn number_of(event: &Event) -> u64
     match event {
         Event::Write { command, .. } => command.seq,
         Event::Read { seq, .. } => *seq,
+        Event::Session { seq, .. } => *seq,
         _ => 0,
     }
 }

@@ -32,8 +32,8 @@ pub fn drop_answered(deferred: &mut Vec<Deferred>, held: u64)
 }
 
 impl Replica {
-    /// A reader asks for a key's text, once the slots that it names are held. It is answered at once where they are,
-    /// and else waits.
+    /// A reader, or a client in a session, asks for a key's text, once the slots that it names are held. It is answered at
+    /// once where they are, and else waits.
     #[tactic(auto, using(crate::proofs::Values::mark_fits))]
     pub(crate) fn read(&mut self, one: Deferred, out: &mut Outbox) -> Result<Why, NoMemory>
         requires token { IsTrue (field.token.fits one.token) }

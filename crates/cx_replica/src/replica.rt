@@ -1,14 +1,16 @@
 //! A replica's state, and how it is opened.
 
-ghost use Rattle.std.specs.Prelude.{◌≡◌, ◌<◌, [], true, false, is_some, IfOk, IfSome};
+ghost use Rattle.std.specs.Prelude.{◌≡◌, ◌<◌, [], true, false, is_some, IfOk, IfSome, IsTrue};
 ghost use Rattle.cx_base.specs.declared.role.Kind.TheVariants as kind;
+ghost use Rattle.cx_field.specs.Fields as field;
 ghost use Rattle.cx_model.specs.Replica.{ReplicaDurable, ReplicaVolatile, held, is_whole, replica_rules};
 ghost use Rattle.cx_model.specs.Rules.{opened};
 
 use crate::machine::Machine;
 use crate::sending::{ask_next, tell_held};
 use crate::wanted::Wanted;
-use cx_base::{Cluster, NoMemory, Order, RoleId, Why};
+use cx_base::{Cluster, Key, NoMemory, Order, RoleId, Why};
+use cx_field::Token;
 use cx_keeper::Keeper;
 use cx_model::Deferred;
 use cx_msg::{Datagram, Msg, Record};
@@ -45,6 +47,20 @@ impl Model for Replica {
         replica_view r.cluster r.me r.live r.log r.machine.left r.wanted r.deferred.items r.fetched };
 
     ghost invariant = { λ r. IsSound r.cluster r.me r.live r.log r.machine.left r.wanted r.deferred.items };
+}
+
+// What a client asks for in a session, once so many slots are held: it is the client's that sent it.
+#[tactic(auto, unfolding(cx_field::specs::Fields::token, cx_wire::specs::Format::u16))]
+fn session(client: u16, seq: u64, mark: u64, key: Key) -> Deferred
+    requires { IsTrue (field.seq.fits seq) }
+    ensures read { result ≡ record { token = record { client = client; seq = seq }; mark = mark; key = key } }
+    ensures fits { IsTrue (field.token.fits result.token) }
+{
+    Deferred {
+        token: Token { client, seq },
+        mark,
+        key,
+    }
 }
 
 impl Replica {
@@ -151,6 +167,10 @@ impl Role for Replica {
                     mark: *mark,
                     key: *key,
                 };
+                Ok(self.read(one, out)?)
+            }
+            Msg::SessRead { seq, mark, key } => {
+                let one = session(datagram.from().index, *seq, *mark, *key);
                 Ok(self.read(one, out)?)
             }
             Msg::Fetch { mark } => Ok(self.fetch(datagram.from(), *mark, out)?),

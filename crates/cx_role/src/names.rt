@@ -136,7 +136,11 @@ fn names_body(cluster: &Cluster, msg: &Msg) -> bool
         Msg::Chosen { value, .. } => names_value(cluster, value),
         Msg::ChosenIn { round, .. } => names_round(cluster, *round),
         Msg::Results { answers, .. } => names_answers(cluster, answers.as_slice()),
-        Msg::Answer { .. } | Msg::Held { .. } | Msg::Fetch { .. } | Msg::ReadAnswer { .. } => true,
+        Msg::Answer { .. }
+        | Msg::Held { .. }
+        | Msg::Fetch { .. }
+        | Msg::ReadAnswer { .. }
+        | Msg::SessRead { .. } => true,
         Msg::Inform { round, .. } | Msg::Informed { round, .. } => names_round(cluster, *round),
         Msg::GarbageA { round, grid } => names_round(cluster, *round) && names_grid(cluster, grid),
         Msg::GarbageB { round } => names_round(cluster, *round),

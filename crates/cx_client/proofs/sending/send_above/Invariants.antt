@@ -8,5 +8,5 @@ use Rattle.cx_client.proofs.sending.send_above.Given as goal
 
 abbrev pub invariant-loop-event : goal.invariant-loop-event
 invariant-loop-event l =
-    (l.out.list ++ requests_of l.floor (filter (λ (e : Event). nat_lt l.sent (number_of e)) (drop l.event-index l.requests)) ≡ l.fn.out.list ++ requests_of l.floor (filter (λ (e : Event). nat_lt l.sent (number_of e)) l.requests))
+    (l.out.list ++ requests_of l.heard l.floor (filter (λ (e : Event). nat_lt l.sent (number_of e)) (drop l.event-index l.requests)) ≡ l.fn.out.list ++ requests_of l.heard l.floor (filter (λ (e : Event). nat_lt l.sent (number_of e)) l.requests))
     × (length (drop l.event-index l.requests) ≤ l.out.spare) × (list_all (λ (e : Event). is_valid_event (telling l.floor e)) (drop l.event-index l.requests) ≡ true)
