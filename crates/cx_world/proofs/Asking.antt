@@ -1,5 +1,5 @@
 -- What an event does, said of every world.
-use Rattle.std.proofs.Common.{◌≡◌, true, false, List, [], Option, None, Some, sym, subst, append-nil, refl}
+use Rattle.std.proofs.Common.{◌≡◌, ℕ, true, false, List, [], Option, None, Some, sym, subst, append-nil, refl}
 use Rattle.cx_base.specs.declared.event.Event.{Event}
 use Rattle.cx_base.specs.declared.event.Happened.{Happened}
 use Rattle.cx_base.specs.declared.role.Kind.TheVariants as kind
@@ -7,6 +7,7 @@ use Rattle.cx_base.specs.declared.role.RoleId.{RoleId}
 use Rattle.cx_base.specs.declared.why.Why.{Why}
 use Rattle.cx_base.specs.declared.why.Why.TheVariants as why
 use Rattle.cx_base.specs.Role.{role}
+use Rattle.cx_model.specs.Heard.{heard_by}
 use Rattle.cx_model.specs.Request.{is_stale, request}
 use Rattle.cx_model.specs.World.{World, Change, nothing, ask, act_at}
 use Rattle.cx_msg.specs.Letter.{Letter}
@@ -31,9 +32,9 @@ pub asked_stale : (t : Token) (e : Event) (events : List Happened) (w : World) �
     → ask w e (Some t) ≡ nothing (Some (role kind.Client t.client)) w.roles why.Stale
 asked_stale t e events w same stale = rw (same, stale) refl
 
-pub asked_sent : (t : Token) (e : Event) (events : List Happened) (w : World) → w.events ≡ events → is_stale t e events ≡ false
-    → ◌≡◌ {A = Change} (ask w e (Some t)) (record { who = Some (role kind.Client t.client); why = why.Sent; roles = w.roles; kept = []; sends = request e })
-asked_sent t e events w same fresh = rw (same, fresh) refl
+pub asked_sent : (t : Token) (e : Event) (heard : ℕ) (events : List Happened) (w : World) → w.events ≡ events → heard ≡ heard_by t.client w.sent w.events → is_stale t e events ≡ false
+    → ◌≡◌ {A = Change} (ask w e (Some t)) (record { who = Some (role kind.Client t.client); why = why.Sent; roles = w.roles; kept = []; sends = request heard e })
+asked_sent t e heard events w same hears fresh = rw (hears, same, fresh) refl
 
 -- the same act at the same role
 pub act_from : (w : World) (P : Change → Type 0) (a b : Act) (r s : RoleId) → a ≡ b → r ≡ s → P (act_at w a r) → P (act_at w b s)

@@ -1,5 +1,5 @@
 -- The world after an event is the model's step, and what was true of the world before is true of it.
-use Rattle.std.proofs.Common.{◌≡◌, ◌+◌, ◌*◌, true, List, [], ◌∷◌, ◌++◌, Option, ap, sym, ◌∙◌, subst, refl}
+use Rattle.std.proofs.Common.{◌≡◌, ◌+◌, ◌*◌, ℕ, true, List, [], ◌∷◌, ◌++◌, length, Option, ap, sym, ◌∙◌, subst, refl}
 use Rattle.std.specs.List.{list_all}
 use Rattle.std.proofs.lemmas.List.Folds.{list_all-append}
 use Rattle.std.specs.Option.{option_to_list}
@@ -21,8 +21,11 @@ use Rattle.cx_model.specs.Unbatcher.{unbatcher_rules}
 use Rattle.cx_model.specs.World.{World, Roles, change, step, start, fresh_roles, run, run_from, event_list}
 use Rattle.cx_msg.specs.Letter.{Letter}
 use Rattle.cx_msg.specs.declared.input.KeptRecord.{KeptRecord}
+use Rattle.cx_model.specs.Heard.{heard_at}
+use Rattle.cx_world.specs.Heard.{Hears, Raised, heard_below}
 use Rattle.cx_world.specs.Seat.{AreSeats}
 use Rattle.cx_world.specs.World.{SeatLists, IsChange, Holds, are_taken, roles_of, volatiles}
+use Rattle.cx_world.proofs.Hearing.{change_hears, hears_after, heard_below_after}
 
 run_one : (w : World) (es : List Event) (e : Event) → run_from w (es ++ e ∷ []) ≡ step (run_from w es) e
 run_one w [] e = refl
@@ -46,17 +49,20 @@ all_taken_after old new e u taken valid more =
 
 pub held_after : (w : World) (e : Event) (at : Option RoleId) (u : Why) (r : Option KeptRecord) (seats : SeatLists) (sends : List Letter)
     → IsChange w (change w e) at u r seats sends → w ≡ run w.cluster (event_list w.events) → are_taken w.events ≡ true → is_valid_event e ≡ true
+    → (numbers raised : List ℕ) → Hears numbers w.sent w.events → list_all (heard_below (length w.sent)) w.events ≡ true
+    → Raised numbers raised (λ client. heard_at client w.sent (record { event = e; why = u }))
     → (events : List Happened) (kept : List KeptRecord) (sent out : List Letter)
     → events ≡ w.events ++ record { event = e; why = u } ∷ [] → kept ≡ w.kept ++ option_to_list r → sent ≡ w.sent ++ sends → out ≡ []
-    → Holds (make_world w.cluster (roles_of seats) events kept sent) seats out
+    → Holds (make_world w.cluster (roles_of seats) events kept sent) seats raised out
 unfolding step
-held_after w e at u r seats sends ch ran taken valid events kept sent out same_events same_kept same_sent empty =
+held_after w e at u r seats sends ch ran taken valid numbers raised hears all told events kept sent out same_events same_kept same_sent empty =
     let to = change w e in
     let all_kept : kept ≡ w.kept ++ to.kept = same_kept ∙ ap (λ l. w.kept ++ l) ch.kept in
     let stepped : make_world w.cluster (roles_of seats) events kept sent ≡ step w e =
     same_world w.cluster (roles_of seats) to.roles events (w.events ++ record { event = e; why = to.why } ∷ []) kept (w.kept ++ to.kept) sent (w.sent ++ to.sends)
     (sym ch.seats.roles) (same_events ∙ ap (λ x. w.events ++ record { event = e; why = x } ∷ []) ch.why) all_kept (same_sent ∙ ap (λ l. w.sent ++ l) ch.sends) in
     let listed : event_list events ≡ event_list w.events ++ e ∷ [] = ap (λ l. event_list l) same_events ∙ event_list_one w.events (record { event = e; why = u }) in
+    let one : heard_below (length w.sent) (record { event = e; why = u }) ≡ true = change_hears w e u ch.why in
     record {
       out = empty;
       seats = record {
@@ -70,6 +76,10 @@ held_after w e at u r seats sends ch ran taken valid events kept sent out same_e
         unbatchers = subst (λ l. AreSeats unbatcher_rules w.cluster kind.Unbatcher l seats.unbatchers) (sym all_kept) ch.seats.unbatchers;
         readers = subst (λ l. AreSeats reader_rules w.cluster kind.Reader l seats.readers) (sym all_kept) ch.seats.readers;
       };
+      hears = subst (λ l. Hears raised l events) (sym same_sent) (subst (λ l. Hears raised (w.sent ++ sends) l) (sym same_events)
+          (hears_after numbers raised w.sent sends w.events (record { event = e; why = u }) hears all one told));
+      hears_sent = subst (λ l. list_all (heard_below (length l)) events ≡ true) (sym same_sent) (subst (λ l. list_all (heard_below (length (w.sent ++ sends))) l ≡ true) (sym same_events)
+          (heard_below_after w.sent sends w.events (record { event = e; why = u }) all one));
       ran = stepped ∙ ap (λ x. step x e) ran ∙ sym (run_one _ (event_list w.events) e) ∙ ap (λ l. run w.cluster l) (sym listed);
       taken = all_taken_after w.events events e u taken valid same_events;
     }

@@ -4,7 +4,7 @@ use Rattle.cx_history.specs.Answers.{answers_in, read_answers_in}
 use Rattle.cx_model.specs.World.{World}
 use Rattle.cx_world.specs.declared.counts.Counts.{Counts}
 
--- the events, the datagrams, the answers and the answers to reads that were sent, and the changes of stores
+-- the events, the datagrams, the answers and the answers to reads and session reads that were sent, and the changes of stores
 abbrev pub counts_of : World → Counts
 counts_of w =
     record {

@@ -1,5 +1,5 @@
 -- The world as contracts see it: the model's world, and whether a step was cut off.
-use Rattle.std.specs.Prelude.{◌≡◌, Bool, true, List, [], ◌++◌, Option, length, option_to_list}
+use Rattle.std.specs.Prelude.{◌≡◌, ℕ, Bool, true, List, [], ◌++◌, Option, length, option_to_list}
 use Rattle.std.specs.List.{list_all}
 use Rattle.cx_base.specs.Asked.{is_valid_event}
 use Rattle.cx_base.specs.declared.cluster.Cluster.{Cluster}
@@ -10,6 +10,7 @@ use Rattle.cx_base.specs.declared.role.RoleId.{RoleId}
 use Rattle.cx_base.specs.declared.why.Why.{Why}
 use Rattle.cx_model.specs.Acceptor.{AcceptorDurable, acceptor_rules}
 use Rattle.cx_model.specs.Batcher.{BatcherVolatile, batcher_rules}
+use Rattle.cx_model.specs.Heard.{heard_by}
 use Rattle.cx_model.specs.Leader.{LeaderDurable, LeaderVolatile, leader_rules}
 use Rattle.cx_model.specs.Matchmaker.{MatchmakerDurable, matchmaker_rules}
 use Rattle.cx_model.specs.Proxy.{ProxyVolatile, proxy_rules}
@@ -22,6 +23,7 @@ use Rattle.cx_model.specs.World.{World, Roles, Change, change, step, run, event_
 use Rattle.cx_msg.specs.Letter.{Letter}
 use Rattle.cx_msg.specs.declared.input.KeptRecord.{KeptRecord}
 use Rattle.cx_trace.specs.declared.effect.Effect.{Effect}
+use Rattle.cx_world.specs.Heard.{Hears, heard_below}
 use Rattle.cx_world.specs.Seat.{Seat, AreSeats, roles_in}
 use Rattle.cx_world.specs.declared.turned.Changed.{Changed}
 use Rattle.cx_world.specs.declared.change.Seats.{Seats}
@@ -117,18 +119,20 @@ abbrev pub ChangesAfter : (World → Change) → List Letter → List Happened �
 ChangesAfter change sent events old changed new sends =
     (w : World) → w.sent ≡ sent → w.events ≡ events → HasSeats w.cluster w.roles w.kept (lists_of old) → IsChange w (change w) changed.who changed.why changed.kept (lists_of new) sends
 
--- the same, of every world that has this history of events: whatever its seats are, they stay
-abbrev pub AsksAfter : (World → Change) → List Happened → Changed → List Letter → Type 0
-AsksAfter change events changed sends =
-    (w : World) → w.events ≡ events → (seats : SeatLists) → HasSeats w.cluster w.roles w.kept seats → IsChange w (change w) changed.who changed.why changed.kept seats sends
+-- the same, of every world that has this history of events and in which this client has heard of so many values: whatever its seats are, they stay
+abbrev pub AsksAfter : (World → Change) → ℕ → ℕ → List Happened → Changed → List Letter → Type 0
+AsksAfter change client heard events changed sends =
+    (w : World) → w.events ≡ events → heard ≡ heard_by client w.sent w.events → (seats : SeatLists) → HasSeats w.cluster w.roles w.kept seats → IsChange w (change w) changed.who changed.why changed.kept seats sends
 
 -- whether each of these events is one that the world takes
 abbrev pub are_taken : List Happened → Bool
 are_taken events = list_all is_valid_event (event_list events)
 
 -- what is true of every world that isn't spent
-pub record Holds (w : World) (own : SeatLists) (sends : List Letter) : Type 0 where
+pub record Holds (w : World) (own : SeatLists) (numbers : List ℕ) (sends : List Letter) : Type 0 where
   pub out : sends ≡ []
   pub seats : HasSeats w.cluster w.roles w.kept own
+  pub hears : Hears numbers w.sent w.events
+  pub hears_sent : list_all (heard_below (length w.sent)) w.events ≡ true
   pub ran : w ≡ run w.cluster (event_list w.events)
   pub taken : are_taken w.events ≡ true

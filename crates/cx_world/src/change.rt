@@ -5,11 +5,14 @@ ghost use Rattle.cx_base.specs.Asked.{is_valid_event};
 ghost use Rattle.cx_model.specs.Request.{request};
 ghost use Rattle.cx_model.specs.World.{act_at, ask, change, come, kept_by};
 ghost use Rattle.cx_base.specs.Role.{role};
+ghost use Rattle.cx_field.specs.Fields.{mark};
 ghost use Rattle.cx_base.specs.declared.role.Kind.TheVariants as kind;
 ghost use Rattle.cx_msg.specs.declared.input.Act.TheVariants.{Give, Snap};
+ghost use Rattle.cx_world.specs.Heard.{Hears};
 ghost use Rattle.cx_world.specs.Seat.{is_snap};
 ghost use Rattle.cx_world.specs.World.{AsksAfter, Changes, ChangesAfter};
 
+use crate::heard::Heard;
 use crate::seat::{Seat, act_at, snap_at};
 use crate::turned::{Changed, Turned};
 use cx_acceptor::Acceptor;
@@ -19,7 +22,7 @@ use cx_field::Token;
 use cx_history::{Events, Sent};
 use cx_leader::Leader;
 use cx_match::Matchmaker;
-use cx_msg::{Act, Datagram, Input, KeptRecord, read_req, submit};
+use cx_msg::{Act, Datagram, Input, KeptRecord, read_req, sess_read, submit};
 use cx_proxy::Proxy;
 use cx_reader::Reader;
 use cx_replica::Replica;
@@ -116,12 +119,13 @@ fn snap(seats: &mut Seats, replica: u16, cut: Cut, out: &mut Outbox) -> Result<C
     Ok(of_role(who, turned))
 }
 
-// The datagram of a request goes out.
+// The datagram of a request goes out; in a session it tells of how many values the client has heard.
 #[tactic(auto, unfolding(cx_field::specs::Fields::seq, cx_wire::specs::Format::u64))]
-fn send(event: &Event, out: &mut Outbox) -> Result<(), NoMemory>
+fn send(heard: u64, event: &Event, out: &mut Outbox) -> Result<(), NoMemory>
+    requires mark { IsTrue (mark.fits heard) }
     requires empty { out.old.list ≡ [] }
     requires taken { IsTrue (is_valid_event event.now) }
-    ensures { OnOk result (out.new.list ≡ request event.now) }
+    ensures { OnOk result (out.new.list ≡ request heard event.now) }
 {
     match event {
         Event::Write { command, batcher } => {
@@ -139,22 +143,40 @@ fn send(event: &Event, out: &mut Outbox) -> Result<(), NoMemory>
             out.room(1)?;
             out.push(read_req(*client, *reader, *seq, *replica, *key));
         }
+        Event::Session {
+            client,
+            seq,
+            replica,
+            key,
+            ..
+        } => {
+            out.room(1)?;
+            out.push(sess_read(*client, *replica, *seq, heard, *key));
+        }
         _ => {}
     }
     Ok(())
 }
 
-// A client asks.
-fn ask(token: Token, event: &Event, events: &Events, out: &mut Outbox) -> Result<Changed, NoMemory>
+// A client asks, which has heard of so many values.
+fn ask(
+    token: Token,
+    event: &Event,
+    events: &Events,
+    heard: u64,
+    out: &mut Outbox,
+) -> Result<Changed, NoMemory>
+    requires mark { IsTrue (mark.fits heard) }
     requires empty { out.old.list ≡ [] }
     requires taken { IsTrue (is_valid_event event.now) }
-    ensures { IfOk result (λ changed. AsksAfter (λ w. ask w event.now (Some token)) events.now changed out.new.list) }
+    ensures { IfOk result (λ changed. AsksAfter (λ w. ask w event.now (Some token)) token.client heard events.now
+        changed out.new.list) }
 {
     let who = RoleId::new(Kind::Client, token.client);
     if events.is_stale(token, event) {
         return Ok(nothing(Some(who), Why::Stale));
     }
-    send(event, out)?;
+    send(heard, event, out)?;
     Ok(nothing(Some(who), Why::Sent))
 }
 
@@ -187,9 +209,11 @@ pub fn change(
     seats: &mut Seats,
     sent: &Sent,
     events: &Events,
+    heard: &Heard,
     event: &Event,
     out: &mut Outbox,
 ) -> Result<Changed, NoMemory>
+    requires hears { Hears heard.now sent.now events.now }
     requires empty { out.old.list ≡ [] }
     requires taken { IsTrue (is_valid_event event.now) }
     ensures { IfOk result (λ changed. ChangesAfter (λ w. change w event.now) sent.now events.now
@@ -201,14 +225,21 @@ pub fn change(
                 client: command.client,
                 seq: command.seq,
             };
-            ask(token, event, events, out)
+            ask(token, event, events, heard.by(command.client), out)
         }
         Event::Read { client, seq, .. } => {
             let token = Token {
                 client: *client,
                 seq: *seq,
             };
-            ask(token, event, events, out)
+            ask(token, event, events, heard.by(*client), out)
+        }
+        Event::Session { client, seq, .. } => {
+            let token = Token {
+                client: *client,
+                seq: *seq,
+            };
+            ask(token, event, events, heard.by(*client), out)
         }
         Event::Deliver { number, cut } => match sent.get(*number)? {
             None => Ok(nothing(None, Why::Absent)),

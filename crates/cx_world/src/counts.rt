@@ -5,7 +5,7 @@ ghost use Rattle.cx_history.specs.Answers.{answers_in, read_answers_in};
 
 use cx_history::{Events, Kept, Sent};
 
-/// How many events, datagrams, answers, answers to reads and changes of stores there are.
+/// How many events, datagrams, answers, answers to reads and session reads, and changes of stores there are.
 #[derive(Clone, Copy)]
 pub struct Counts {
     pub events: u64,

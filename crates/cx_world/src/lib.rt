@@ -8,6 +8,7 @@
 mod change;
 mod counts;
 mod folded;
+mod heard;
 mod last_keeper;
 mod seat;
 mod turned;

@@ -14,6 +14,7 @@ ghost use Rattle.cx_world.specs.World.{BeginWith, are_taken, effect_of};
 use crate::change::{Seats, change};
 use crate::counts::{Counts, count};
 use crate::folded::folded;
+use crate::heard::{Heard, hear};
 use crate::seat::open_all;
 use crate::turned::Changed;
 use cx_base::{Cluster, Event, Happened, Kind, NoMemory, Why};
@@ -35,6 +36,7 @@ pub struct World {
     events: Events,
     kept: Kept,
     sent: Sent,
+    heard: Heard,
     out: Outbox,
     spent: bool,
 }
@@ -65,7 +67,7 @@ impl Model for World {
           events = w.events;
           kept = w.kept;
           sent = w.sent;
-        }) (lists_of w.seats) w.out.list };
+        }) (lists_of w.seats) w.heard w.out.list };
 }
 
 // Notes the change of a store, where there was one.
@@ -129,6 +131,7 @@ impl World {
             events: Events::new(alloc),
             kept: Kept::new(alloc),
             sent: Sent::new(alloc),
+            heard: Heard::new(),
             out: Outbox::new(alloc),
             spent: false,
         })
@@ -153,9 +156,11 @@ impl World {
             &mut self.seats,
             &self.sent,
             &self.events,
+            &self.heard,
             event,
             &mut self.out,
         )?;
+        hear(&mut self.heard, &self.sent, event, why)?;
         note(
             &mut self.events,
             &mut self.kept,

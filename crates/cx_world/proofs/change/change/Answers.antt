@@ -1,23 +1,38 @@
+use Rattle.std.proofs.Common.{◌≡◌, ℕ, List, get_or, ◌∙◌, refl}
+use Rattle.cx_base.specs.declared.event.Happened.{Happened}
 use Rattle.cx_base.specs.declared.role.Kind.TheVariants as kind
 use Rattle.cx_base.specs.Role.{role}
-use Rattle.cx_model.specs.World.{change}
+use Rattle.cx_model.specs.Heard.{heard_by}
+use Rattle.cx_model.specs.World.{World, change}
 use Rattle.cx_msg.specs.declared.input.Act.TheVariants.{Give}
 use Rattle.cx_msg.specs.declared.input.Input.TheVariants as input
+use Rattle.cx_msg.specs.Letter.{Letter}
+use Rattle.cx_world.specs.Heard.{Hears}
 use Rattle.cx_world.specs.declared.turned.Changed.{Changed}
 use Rattle.cx_world.specs.World.{ChangesAfter, IsChange, lists_of}
 use Rattle.cx_world.proofs.Answered.{ok_then}
 use Rattle.cx_world.proofs.Asking.{act_from}
 use Rattle.cx_world.proofs.change.change.Goals as goal
 
+-- so many values the client has heard of in each world with these histories
+heard_in : (numbers : List ℕ) (sent : List Letter) (events : List Happened) (client heard : ℕ) → Hears numbers sent events → heard ≡ get_or numbers client 0
+    → (w : World) → w.sent ≡ sent → w.events ≡ events → heard ≡ heard_by client w.sent w.events
+heard_in numbers sent events client heard hears is w same known = is ∙ hears client ∙ rw (same, known) refl
+
 pub returns-in-Write : goal.returns-in-Write
 returns-in-Write c =
     ok_then _ (λ (x : Changed). ChangesAfter (λ w. change w c.args.event.now) c.args.sent.now c.args.events.now c.args.seats.now x c.args.seats.now c.ask.new.out.list) c.ask.result
-    (λ x h w same known has. rw c.in-Write.is (rw c.in-Write.is at (h w known (lists_of c.args.seats.now) has))) c.ask.ensures
+    (λ x h w same known has. rw c.in-Write.is (rw c.in-Write.is at (h w known (heard_in c.args.heard.now c.args.sent.now c.args.events.now _ _ c.requires.hears c.by.ensures.number w same known) (lists_of c.args.seats.now) has))) c.ask.ensures
 
 pub returns-in-Read : goal.returns-in-Read
 returns-in-Read c =
     ok_then _ (λ (x : Changed). ChangesAfter (λ w. change w c.args.event.now) c.args.sent.now c.args.events.now c.args.seats.now x c.args.seats.now c.ask-in-Read.new.out.list) c.ask-in-Read.result
-    (λ x h w same known has. rw c.in-Read.is (rw c.in-Read.is at (h w known (lists_of c.args.seats.now) has))) c.ask-in-Read.ensures
+    (λ x h w same known has. rw c.in-Read.is (rw c.in-Read.is at (h w known (heard_in c.args.heard.now c.args.sent.now c.args.events.now _ _ c.requires.hears c.by-in-Read.ensures.number w same known) (lists_of c.args.seats.now) has))) c.ask-in-Read.ensures
+
+pub returns-in-Session : goal.returns-in-Session
+returns-in-Session c =
+    ok_then _ (λ (x : Changed). ChangesAfter (λ w. change w c.args.event.now) c.args.sent.now c.args.events.now c.args.seats.now x c.args.seats.now c.ask-in-Session.new.out.list) c.ask-in-Session.result
+    (λ x h w same known has. rw c.in-Session.is (rw c.in-Session.is at (h w known (heard_in c.args.heard.now c.args.sent.now c.args.events.now _ _ c.requires.hears c.by-in-Session.ensures.number w same known) (lists_of c.args.seats.now) has))) c.ask-in-Session.ensures
 
 pub returns-in-Order : goal.returns-in-Order
 returns-in-Order c =

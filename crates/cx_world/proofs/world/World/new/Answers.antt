@@ -25,7 +25,7 @@ invariant_of-result c =
       readers = c.in_ok-open_all-8.field-0.items;
     } in
     λ _. rw (c.new.ensures, c.new-2.ensures, c.new-3.ensures) (record {
-      out = ap (λ (out : Outgoing). out.list) c.new-4.ensures;
+      out = ap (λ (out : Outgoing). out.list) c.new-5.ensures;
       seats = record {
         roles = refl;
         batchers = batchers.seats;
@@ -37,6 +37,8 @@ invariant_of-result c =
         unbatchers = unbatchers.seats;
         readers = readers.seats;
       };
+      hears = λ client. c.new-4.ensures client;
+      hears_sent = refl;
       ran = same_start c.args.cluster lists batchers.roles leaders.roles proxies.roles acceptors.roles matchmakers.roles replicas.roles unbatchers.roles readers.roles;
       taken = refl;
     })
