@@ -152,6 +152,7 @@ cut_change w (event.Snap p cut) me what may h =
     (slice_get w.roles.replicas p) h
 cut_change w (event.Write command batcher) me what may h = absurd may
 cut_change w (event.Read client seq floor reader replica key) me what may h = absurd may
+cut_change w (event.Session client seq floor replica key) me what may h = absurd may
 cut_change w (event.Tick who) me what may h = absurd may
 cut_change w (event.Crash who) me what may h = absurd may
 cut_change w (event.Restart who) me what may h = absurd may

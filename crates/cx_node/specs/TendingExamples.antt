@@ -67,7 +67,7 @@ pub record Waits : Type 0 where
 -- a client that has completed n requests, and waits for the answer to a read
 abbrev pub client_with : ℕ → ℕ → Hosted
 client_with index n =
-    ClientAt (record { cluster = one_of_each; me = role Client index; script = replicate (suc n) (event.Read index 1 0 0 0 []); done = n; window = 1 })
+    ClientAt (record { cluster = one_of_each; me = role Client index; script = replicate (suc n) (event.Read index 1 0 0 0 []); done = n; window = 1; heard = 0 })
 
 -- the read that it sends
 abbrev pub asks : ℕ → Letter

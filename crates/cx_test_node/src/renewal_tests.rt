@@ -22,6 +22,10 @@ const LAST: &str = "write client:0 3 batcher:0 app a y\n";
 
 const LAST_ANSWER: &str = "answer client:0 3 at 3 len 3\n";
 
+const SESSION: &str = "session client:0 4 replica:0 a\n";
+
+const SESSION_ANSWER: &str = "read client:0 4 at 3 is 1xy\n";
+
 // How a run over these lines ends, and what it prints. One without lines has no client.
 fn ended(alloc: Global, depot: &mut MemDepot, lines: &str) -> Result<(Status, Vec<u8>), Fail>
     requires { depot_out depot.old ≡ [] }
@@ -77,6 +81,7 @@ fn a_node_goes_on_with_a_list_that_was_put_anew(rt: HostRuntime) -> Result<(), F
     assert!(rt; holds(&depot, 0, &OLD));
     assert!(rt; holds(&depot, 1, &NEW));
     assert!(rt; is_done(alloc, &mut depot, LAST, LAST_ANSWER)?);
+    assert!(rt; is_done(alloc, &mut depot, SESSION, SESSION_ANSWER)?);
     Ok(())
 }
 
