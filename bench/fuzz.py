@@ -52,7 +52,7 @@ STORED = ["leader", "acceptor", "match", "replica"]
 NUMBERS = [0, 1, 2, 31, 32, 33, 63, 64, 255, 256, 65535, 65536, 2**32 - 1, 2**32, 2**40, 2**63, 2**64 - 1, 2**64, 10**40]
 PIECES = [b"\r", b"\n", b"\r\n", b"\t", b" ", b"  ", b"\0", b"\xff", b"#", b"---", b"---\n", b"=", b"'", b'"', b"[a]\n", b"a.b = 1\n",
           b"-1", b"+1", b"0x10", b"1_000", b"1.5", b"torn", b"kept", b"noop", b":", b",", b"1x1", b"0x0", b"17x17", b"client:0",
-          b"replica:0", b"match:0", b"acceptor:64", b"write", b"read", b"put", b"del", b"app", b"deliver", b"\xe2\x82\xac",
+          b"replica:0", b"match:0", b"acceptor:64", b"write", b"read", b"session", b"put", b"del", b"app", b"deliver", b"\xe2\x82\xac",
           b"x" * 1024 + b"\n", b"x" * 1025 + b"\n", b"# " + b"y" * 1023 + b"\n", b"z" * 17000]
 
 
@@ -86,6 +86,8 @@ def request(rng, values, number):
     key = "k" + str(rng.randrange(4))
     if rng.random() < 0.3:
         return f"read {client} {number} {role(rng, values, ['reader'])} {role(rng, values, ['replica'])} {key}"
+    if rng.random() < 0.2:
+        return f"session {client} {number} {role(rng, values, ['replica'])} {key}"
     rest = rng.choice([f"put {key} v{number % 10}", f"del {key}", f"app {key} v{number % 10}"])
     return f"write {client} {number} {role(rng, values, ['batcher'])} {rest}"
 

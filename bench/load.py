@@ -1,12 +1,14 @@
 #!/usr/bin/env python3
 """Puts a cluster under load for some seconds, and prints one line of figures; bench/node.sh calls it for each of its lines.
 
-Use: bench/load.py [--seconds S] [--folder F] [--clients-tend N] compax PROGRAM one|five CLIENTS BATCH [WORD..]
+Use: bench/load.py [--seconds S] [--folder F] [--clients-tend N] [--asks KIND] compax PROGRAM one|five CLIENTS BATCH [WORD..]
      bench/load.py [--seconds S] [--folder F] idle PROGRAM [WORD..]
      bench/load.py [--seconds S] [--folder F] etcd CLIENTS
      bench/load.py [--folder F] starts PROGRAM [WORD..]
 
 The words, as `--tend 1024`, are passed to each node. With --clients-tend a process of clients alone has this number in place of theirs.
+Clients put; with `--asks reads` or `--asks sessions` each puts once, and then asks for keys, of the one or the other replica, by a reader
+or in a session.
 """
 import argparse
 import base64
@@ -53,6 +55,26 @@ def writes(clients):
     for number in range(1, LINES // clients + 1):
         for client in range(clients):
             yield f"write client:{client} {number} batcher:0 put k{number % 8} v{number}\n"
+
+
+def questions(clients, line):
+    """Each client puts once. Then come its questions, each the line of a client and a number."""
+    for client in range(clients):
+        yield f"write client:{client} 1 batcher:0 put k{client % 8} v{client}\n"
+    for number in range(2, LINES // clients + 1):
+        for client in range(clients):
+            yield line(client, number)
+
+
+def reads(clients):
+    return questions(clients, lambda client, number: f"read client:{client} {number} reader:0 replica:{client % 2} k{number % 8}\n")
+
+
+def sessions(clients):
+    return questions(clients, lambda client, number: f"session client:{client} {number} replica:{client % 2} k{number % 8}\n")
+
+
+ASKED = {"puts": writes, "reads": reads, "sessions": sessions}
 
 
 def processor_time(process):
@@ -154,14 +176,14 @@ def clients_words(words, tend):
     return [*words[:at], str(tend), *words[at + 1:]]
 
 
-def compax(folder, seconds, program, layout, clients, batch, words, tend=None):
+def compax(folder, seconds, program, layout, clients, batch, words, tend=None, asks="puts"):
     own = " ".join(f"client:{client}" for client in range(clients))
     servers = SERVERS if layout == "five" else {}
     roles = own if servers else " ".join([own, *SERVERS.values()])
     head = header(clients, batch)
     nothing, asked = pathlib.Path(folder, "nothing"), pathlib.Path(folder, "writes")
     nothing.write_text(head)
-    asked.write_text(head + "".join(writes(clients)))
+    asked.write_text(head + "".join(ASKED[asks](clients)))
     times, slots = Times(), 0
     with processes() as (start, running):
         for server in servers.values():
@@ -184,7 +206,10 @@ def compax(folder, seconds, program, layout, clients, batch, words, tend=None):
         spent = sum(processor_time(process) for process in running)
         written = sum(writes_of(process) for process in running)
     count = max(times.count, 1)
-    figures = times.figures(f"compax in {layout:>4}, {clients:2} clients, batch {batch}", ended, spent, clients)
+    what = f"batch {batch}" if asks == "puts" else f"{asks:>8}"
+    figures = times.figures(f"compax in {layout:>4}, {clients:2} clients, {what}", ended, spent, clients)
+    if asks != "puts":
+        return figures
     return dataclasses.replace(figures, slots=slots / count, syncs=(written - times.count) / count)
 
 
@@ -301,6 +326,7 @@ def parsed():
     parser.add_argument("--seconds", type=float, default=3)
     parser.add_argument("--folder", default=None)
     parser.add_argument("--clients-tend", type=int, default=None)
+    parser.add_argument("--asks", choices=[*ASKED], default="puts")
     kinds = parser.add_subparsers(dest="kind", required=True)
     one = kinds.add_parser("compax")
     one.add_argument("program")
@@ -321,7 +347,7 @@ def parsed():
 def measured(args, folder):
     match args.kind:
         case "compax":
-            return compax(folder, args.seconds, args.program, args.layout, args.clients, args.batch, args.words, args.clients_tend)
+            return compax(folder, args.seconds, args.program, args.layout, args.clients, args.batch, args.words, args.clients_tend, args.asks)
         case "idle":
             return idle_line(idle(folder, args.seconds, args.program, args.words))
         case "starts":

@@ -30,14 +30,17 @@ class Way:
 
 @dataclass(frozen=True)
 class Command:
-    """What is asked: `put`, `app`, `del` or `get`, with a key, and of the first two a text."""
+    """What is asked: `put`, `app`, `del` or `get`, with a key, of the first two a text, and of the last whether in a session."""
 
     verb: str
     key: str
     text: str = ""
+    session: bool = False
 
     def line(self, client: int, number: int, way: Way) -> str:
-        """The line of a node's input."""
+        """The line of a node's input. A session of one node alone has heard of nothing, so any replica answers it at once."""
+        if self.session:
+            return f"session client:{client} {number} replica:{way.replica} {self.key}"
         if self.verb == "get":
             return f"read client:{client} {number} reader:{way.reader} replica:{way.replica} {self.key}"
         return f"write client:{client} {number} batcher:{way.batcher} {self.verb} {self.key} {self.text}".rstrip()

@@ -6,7 +6,7 @@ from pages import BESIDE, EDGE, MARK, SIZES, Page, Room, cut, marks, row_text, s
 from traces import STOPS, stops_of
 
 ROUNDS = {"Leads", "MatchA", "MatchB", "MatchNack", "Phase1A", "Phase1B", "Nack", "Inform", "Informed", "GarbageA", "GarbageB"}
-READS = {"ReadReq", "MatchRead", "MatchReadAck", "PreRead", "PreReadAck", "Read", "ReadAnswer"}
+READS = {"ReadReq", "MatchRead", "MatchReadAck", "PreRead", "PreReadAck", "Read", "ReadAnswer", "SessRead"}
 COLOURS = {"command": "#0072b2", "round": "#b34700", "read": "#007a5a"}     # dark in print, and told apart by the colour-blind
 
 STYLE = "\n".join([

@@ -12,7 +12,8 @@ from xml.etree import ElementTree
 TOP = pathlib.Path(__file__).resolve().parent.parent
 RUNS = TOP / "crates/compax/runs"
 DRAW = TOP / "tools/draw"
-COUNTED = ["torn-vote", "collection", "snapshot-kept", "random-small-too", "random-usual", "random-with-bad-line", "floor-lets-both-act"]
+COUNTED = ["torn-vote", "collection", "snapshot-kept", "random-small-too", "random-usual", "random-with-bad-line", "floor-lets-both-act",
+           "session"]
 SVG = "{http://www.w3.org/2000/svg}"
 
 

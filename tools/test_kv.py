@@ -9,7 +9,7 @@ import subprocess
 import unittest
 from unittest import mock
 
-from asking import Command, ask
+from asking import Command, Way, ask
 from headers import Header, Role, program
 from trials import LONGEST, SMALL, TOOLS, Trial
 
@@ -36,6 +36,20 @@ class KvTest(Trial):
                  f"get a", f"put {long} 1", f"get {long}"]
         answers = ["none", "ok", "is 1", "len 3", "is 123", "was 123", "none", "none", "len 3", "ok", "full", f"is {full}", "ok", "is 1"]
         self.assertEqual([self.kv(*words.split()) for words in asked], answers)
+
+    def test_session(self) -> None:
+        """One replica answers alone, what it has; here it is the only one."""
+        self.up()
+        answers = [self.kv(*words.split()) for words in ("get a --session", "put a 1", "get a", "get a --session", "get --session a")]
+        self.assertEqual(answers, ["none", "ok", "is 1", "is 1", "is 1"])
+
+    def test_line(self) -> None:
+        """The line of each command, as a node reads it."""
+        way = Way(batcher=1, reader=2, replica=3)
+        lines = [command.line(4, 5, way) for command in (Command("put", "a", "1"), Command("del", "a"), Command("get", "a"),
+                                                         Command("get", "a", session=True))]
+        self.assertEqual(lines, ["write client:4 5 batcher:1 put a 1", "write client:4 5 batcher:1 del a",
+                                 "read client:4 5 reader:2 replica:3 a", "session client:4 5 replica:3 a"])
 
     def test_each_client_in_turn(self) -> None:
         self.up()
@@ -66,7 +80,7 @@ class KvTest(Trial):
             self.fails(8, "^kv: nothing answered within 1.5 s", "kv", *words)
 
     def test_bad_words(self) -> None:
-        for words in ("", "put", "put a", "put a b c", "get", "get a b", "del a b", "move a b", "get a/b", "put a b=c", f"get {'k' * 33}",
+        for words in ("", "put", "put a", "put a b c", "put a b --session", "get", "get a b", "del a b", "move a b", "get a/b", "put a b=c", f"get {'k' * 33}",
                       f"put a {'x' * 65}", "--client x get a", "--seconds 0 get a", "--seconds no get a", "--client 8 get a", "--client -1 get a"):
             with self.subTest(words=words):
                 self.fails(2, "^kv( \\w+)?: ", "kv", "--cluster", self.file, *words.split())

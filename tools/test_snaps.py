@@ -1,11 +1,13 @@
 """Tests of tools/snaps: what its schedules are made for happens, and a reference that says something else is told apart."""
 
 import pathlib
+import random
 import shlex
 import tempfile
 import unittest
 
 from headers import program
+from schedules import schedule
 from trials import MEMORY, run, tool_of
 
 BEHIND = ["applied", "fetched", "opened", "past"]
@@ -41,7 +43,7 @@ class SnapsTest(unittest.TestCase):
             status, lines = self.compared(script, "--first", 7, "--runs", 1, "--events", 100)
             kept = self.room / "kept/7.schedule"
             self.assertEqual((status, lines[0], lines[-1]), (1, f"{kept}: other {what}", "1 schedules, 1 differ"))
-            self.assertEqual(kept.read_text(), tool_of("snaps").schedule([str(program())], 7, 100))
+            self.assertEqual(kept.read_text(), schedule([str(program())], tool_of("snaps").Maker, random.Random("snaps 7"), 100))
 
 
 if __name__ == "__main__":

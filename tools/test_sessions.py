@@ -1,0 +1,44 @@
+"""Tests of tools/sessions: what its schedules are made for happens, and a reference that says something else is told apart."""
+
+import pathlib
+import shlex
+import tempfile
+import unittest
+
+from headers import program
+from trials import MEMORY, run
+
+COUNTED = ["answers that were absent before", "clients that ask several replicas", "reads that had waited", "session reads behind what was heard",
+           *(f"session {word}" for word in ("sent", "stale")), *(f"session read {word}" for word in ("answered", "deferred", "full", "same"))]
+
+
+class SessionsTest(unittest.TestCase):
+    def setUp(self) -> None:
+        self.room = pathlib.Path(self.enterContext(tempfile.TemporaryDirectory(prefix="compax-sessions-", dir=MEMORY)))
+
+    def compared(self, script: str, *words: object) -> tuple[int, list[str]]:
+        """The status and the lines for a reference that hands what the program does to a shell's commands."""
+        reference = self.room / "reference"
+        reference.write_text(f"#!/bin/sh\n{shlex.quote(str(program()))} \"$@\" {script}\n")
+        reference.chmod(0o755)
+        status, out, said = run("sessions", reference, "--keep", self.room / "kept", *words)
+        self.assertEqual(said, "")
+        return status, out.splitlines()
+
+    def test_clients_ask_in_sessions(self) -> None:
+        status, lines = self.compared("", "--runs", 12, "--events", 300)
+        counts = {name: int(count) for name, _, count in (line.rpartition(": ") for line in lines[:-1])}
+        self.assertEqual((status, lines[-1]), (0, "12 schedules, 0 differ"))
+        for name in COUNTED:
+            self.assertGreater(counts.get(name, 0), 0, name)
+        self.assertEqual((counts["status 0"], counts["events"]), (12, 12 * 300))
+
+    def test_a_difference_is_told(self) -> None:
+        status, lines = self.compared("| sed 's/ deferred$/ answered/'", "--runs", 4)
+        self.assertEqual(status, 1)
+        self.assertIn(f"{self.room / 'kept'}", lines[0])
+        self.assertTrue(lines[0].endswith(": other standard output"))
+
+
+if __name__ == "__main__":
+    unittest.main()
