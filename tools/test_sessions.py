@@ -1,29 +1,15 @@
 """Tests of tools/sessions: what its schedules are made for happens, and a reference that says something else is told apart."""
 
-import pathlib
-import shlex
-import tempfile
 import unittest
 
-from headers import program
-from trials import MEMORY, run
+from trials import Comparison
 
 COUNTED = ["answers that were absent before", "clients that ask several replicas", "reads that had waited", "session reads behind what was heard",
            *(f"session {word}" for word in ("sent", "stale")), *(f"session read {word}" for word in ("answered", "deferred", "full", "same"))]
 
 
-class SessionsTest(unittest.TestCase):
-    def setUp(self) -> None:
-        self.room = pathlib.Path(self.enterContext(tempfile.TemporaryDirectory(prefix="compax-sessions-", dir=MEMORY)))
-
-    def compared(self, script: str, *words: object) -> tuple[int, list[str]]:
-        """The status and the lines for a reference that hands what the program does to a shell's commands."""
-        reference = self.room / "reference"
-        reference.write_text(f"#!/bin/sh\n{shlex.quote(str(program()))} \"$@\" {script}\n")
-        reference.chmod(0o755)
-        status, out, said = run("sessions", reference, "--keep", self.room / "kept", *words)
-        self.assertEqual(said, "")
-        return status, out.splitlines()
+class SessionsTest(Comparison):
+    tool = "sessions"
 
     def test_clients_ask_in_sessions(self) -> None:
         status, lines = self.compared("", "--runs", 12, "--events", 300)

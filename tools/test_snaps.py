@@ -1,31 +1,18 @@
 """Tests of tools/snaps: what its schedules are made for happens, and a reference that says something else is told apart."""
 
-import pathlib
 import random
-import shlex
-import tempfile
 import unittest
 
 from headers import program
 from schedules import schedule
-from trials import MEMORY, run, tool_of
+from trials import Comparison, tool_of
 
 BEHIND = ["applied", "fetched", "opened", "past"]
 WORDS = ["down", "idle", "kept", "snapped", "torn"]
 
 
-class SnapsTest(unittest.TestCase):
-    def setUp(self) -> None:
-        self.room = pathlib.Path(self.enterContext(tempfile.TemporaryDirectory(prefix="compax-snaps-", dir=MEMORY)))
-
-    def compared(self, script: str, *words: object) -> tuple[int, list[str]]:
-        """The status and the lines for a reference that hands what the program does to a shell's commands."""
-        reference = self.room / "reference"
-        reference.write_text(f"#!/bin/sh\n{shlex.quote(str(program()))} \"$@\" {script}\n")
-        reference.chmod(0o755)
-        status, out, said = run("snaps", reference, "--keep", self.room / "kept", *words)
-        self.assertEqual(said, "")
-        return status, out.splitlines()
+class SnapsTest(Comparison):
+    tool = "snaps"
 
     def test_replicas_forget(self) -> None:
         status, lines = self.compared("", "--runs", 12, "--events", 300)

@@ -7,6 +7,7 @@ import importlib.util
 import io
 import os
 import pathlib
+import shlex
 import tempfile
 import time
 import types
@@ -50,6 +51,24 @@ def until(holds: Callable[[], bool], what: str) -> None:
         if time.monotonic() > end:
             raise AssertionError(f"not within {LONGEST:g} s: {what}")
         time.sleep(0.1)
+
+
+class Comparison(unittest.TestCase):
+    """A test of a tool that compares the program with a reference on random schedules."""
+
+    tool: str
+
+    def setUp(self) -> None:
+        self.room = pathlib.Path(self.enterContext(tempfile.TemporaryDirectory(prefix=f"compax-{self.tool}-", dir=MEMORY)))
+
+    def compared(self, script: str, *words: object) -> tuple[int, list[str]]:
+        """The status and the lines for a reference that hands what the program does to a shell's commands."""
+        reference = self.room / "reference"
+        reference.write_text(f"#!/bin/sh\n{shlex.quote(str(program()))} \"$@\" {script}\n")
+        reference.chmod(0o755)
+        status, out, said = run(self.tool, reference, "--keep", self.room / "kept", *words)
+        self.assertEqual(said, "")
+        return status, out.splitlines()
 
 
 class Trial(unittest.TestCase):
