@@ -33,7 +33,8 @@ pub enum Order {
     Collect,
 }
 
-/// One event of a run. The atomic step: one role takes one datagram, tick or order.
+/// One event of a run, and its atomic step: a client asks, or one role takes a datagram, a tick or an order, snaps, crashes or
+/// is opened again.
 #[derive(Clone, Copy, Debug, PartialEq, Eq)]
 pub enum Event {
     /// A client hands its command to a batcher.
@@ -50,7 +51,7 @@ pub enum Event {
         replica: u16,
         key: Key,
     },
-    /// A client asks one replica for a key, to be answered once it holds as many values as the client has heard of.
+    /// A client asks one replica for a key, to be answered once that replica holds as many values as the client has heard of.
     Session {
         client: u16,
         seq: u64,

@@ -39,8 +39,8 @@ pub const IDS: usize = 64;
 /// The most members of a grid, so that a grid is a value that is copied.
 pub const MEMBERS: usize = 16;
 
-/// The most rounds that a matchmaker has at once; it refuses a further one until some are retired. This bounds its answers,
-/// each of which has all of them.
+/// A matchmaker that has this many rounds refuses a further one until some are retired. This bounds its answers, each of which
+/// has all of them.
 pub const ROUNDS: usize = 16;
 
 /// The most rounds in a message: those of a matchmaker, and the one for which it forgot earlier ones.
@@ -58,8 +58,8 @@ pub const NOTES: usize = OUTSTANDING as usize;
 /// The most commands of a batch, which is the value of one slot: the values of a whole window fit one datagram.
 pub const BATCH: usize = 8;
 
-/// The most reads that a reader has in progress, and the most that a replica defers until it holds the slots. A further one
-/// is refused, so what they hold is bounded.
+/// The most reads that a reader has in progress, and the most reads and session reads that a replica defers until it holds the
+/// slots. A further one is refused, so what they hold is bounded.
 pub const READS: usize = 64;
 
 /// The most bytes of a key, so that keys are copied and take no memory.

@@ -10,7 +10,7 @@ pub enum Why {
     Absent,
     /// The pending read begins anew.
     Again,
-    /// The read was answered.
+    /// The read, or session read, was answered.
     Answered,
     /// The values in order were kept and executed.
     Applied,
@@ -32,7 +32,7 @@ pub enum Why {
     Counted,
     /// The role stopped.
     Crashed,
-    /// The read waits until enough is executed.
+    /// The read, or session read, waits until enough is executed.
     Deferred,
     /// All was announced before.
     Done,

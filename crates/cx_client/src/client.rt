@@ -10,7 +10,7 @@ ghost use Rattle.cx_model.specs.Names.{names_role};
 ghost use Rattle.cx_script.specs.Requests.{IsScript, number_of};
 
 use crate::sending::send_outstanding;
-use crate::window::{number_of, outstanding, place_of};
+use crate::window::{first_of, number_of, outstanding, place_of};
 use cx_base::{Cluster, Event, Kind, NoMemory, RoleId, Why};
 use cx_msg::{Datagram, Msg};
 use cx_role::{Outbox, is_for};
@@ -230,6 +230,14 @@ impl Client {
         out.room(self.window as usize)?;
         self.send_above(0, out);
         Ok(Why::Resent)
+    }
+
+    /// The number below which the client is done with all: that of its first uncompleted request, less 1; 0 where all are
+    /// completed. A request that is sent now tells it as its floor. It takes no memory.
+    pub fn floor(&self) -> u64
+        ensures { result ≡ floor_for (left self.now) }
+    {
+        first_of(&self.script[self.done..]).saturating_sub(1)
     }
 
     /// How many requests are completed. It takes no memory.

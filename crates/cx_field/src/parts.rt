@@ -37,7 +37,7 @@ impl Duplicate for Vote {
     }
 }
 
-/// A read of a client: the client, and its number, which is 1 or more.
+/// A request of a client: the client, and its number, which is 1 or more.
 #[derive(Clone, Copy, PartialEq, Eq)]
 pub struct Token {
     pub client: u16,

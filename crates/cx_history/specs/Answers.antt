@@ -12,7 +12,7 @@ abbrev pub is_read_answer : Msg → Bool
 is_read_answer (ReadAnswer seq mark text) = true
 is_read_answer other = false
 
--- how many of these datagrams answer a command, and how many a read
+-- how many of these datagrams answer a command, and how many a read or a session read
 abbrev pub answers_in : List Letter → ℕ
 answers_in ds = length (filter (λ (d : Letter). is_answer d.msg) ds)
 

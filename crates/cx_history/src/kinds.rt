@@ -12,7 +12,7 @@ pub fn is_answer(datagram: &Datagram) -> bool
     matches!(datagram.msg(), Msg::Answer { .. })
 }
 
-/// Whether a datagram answers a read.
+/// Whether a datagram answers a read or a session read.
 pub fn is_read_answer(datagram: &Datagram) -> bool
     ensures { result ≡ is_read_answer datagram.now.msg }
 {

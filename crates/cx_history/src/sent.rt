@@ -74,7 +74,7 @@ impl Sent {
         self.answers
     }
 
-    /// How many of them answer a read. It takes no memory.
+    /// How many of them answer a read or a session read. It takes no memory.
     pub fn read_answers(&self) -> u64
         ensures { result ≡ read_answers_in self.now }
     {

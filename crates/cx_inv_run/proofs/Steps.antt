@@ -43,16 +43,16 @@ use Rattle.cx_inv_run.proofs.Members.{Member-at}
 use Rattle.cx_inv_run.proofs.Histories.{durable_by_time, record_written, set_running, set_same}
 
 -- How the roles of one kind are placed among all: their list, all roles with another list of theirs, and what a role's state is.
-record Place (V : Type 0) (k : Kind) (make : V → State) : Type 0 where
-  of : Roles → List (Option V)
-  put : Roles → List (Option V) → Roles
-  of_put : (roles : Roles) (l : List (Option V)) → of (put roles l) ≡ l
-  put_of : (roles : Roles) → put roles (of roles) ≡ roles
-  state : (roles : Roles) (i : ℕ) → state_in roles i k ≡ state_found make (slice_get (of roles) i)
-  others : (roles : Roles) (l : List (Option V)) (i : ℕ) (j : Kind) → (j ≡ k → ⊥) → state_in roles i j ≡ state_in (put roles l) i j
+pub record Place (V : Type 0) (k : Kind) (make : V → State) : Type 0 where
+  pub of : Roles → List (Option V)
+  pub put : Roles → List (Option V) → Roles
+  pub of_put : (roles : Roles) (l : List (Option V)) → of (put roles l) ≡ l
+  pub put_of : (roles : Roles) → put roles (of roles) ≡ roles
+  pub state : (roles : Roles) (i : ℕ) → state_in roles i k ≡ state_found make (slice_get (of roles) i)
+  pub others : (roles : Roles) (l : List (Option V)) (i : ℕ) (j : Kind) → (j ≡ k → ⊥) → state_in roles i j ≡ state_in (put roles l) i j
 
 -- what holds of each kind holds of all
-by_kind : (P : Kind → Type 0) → P kind.Client → P kind.Batcher → P kind.Leader → P kind.Proxy → P kind.Acceptor → P kind.Matchmaker → P kind.Replica → P kind.Unbatcher → P kind.Reader
+pub by_kind : (P : Kind → Type 0) → P kind.Client → P kind.Batcher → P kind.Leader → P kind.Proxy → P kind.Acceptor → P kind.Matchmaker → P kind.Replica → P kind.Unbatcher → P kind.Reader
     → (k : Kind) → P k
 by_kind P client batcher leader proxy acceptor matchmaker replica unbatcher reader kind.Client = client
 by_kind P client batcher leader proxy acceptor matchmaker replica unbatcher reader kind.Batcher = batcher
@@ -64,13 +64,13 @@ by_kind P client batcher leader proxy acceptor matchmaker replica unbatcher read
 by_kind P client batcher leader proxy acceptor matchmaker replica unbatcher reader kind.Unbatcher = unbatcher
 by_kind P client batcher leader proxy acceptor matchmaker replica unbatcher reader kind.Reader = reader
 
-abbrev Others : Kind → Roles → Roles → ℕ → Kind → Type 0
+abbrev pub Others : Kind → Roles → Roles → ℕ → Kind → Type 0
 Others k roles changed i j = (j ≡ k → ⊥) → state_in roles i j ≡ state_in changed i j
 
-own : {A : Type 0} (k : Kind) → (k ≡ k → ⊥) → A
+pub own : {A : Type 0} (k : Kind) → (k ≡ k → ⊥) → A
 own k h = absurd (h refl)
 
-abbrev batchers : Place BatcherVolatile kind.Batcher BatcherIn
+abbrev pub batchers : Place BatcherVolatile kind.Batcher BatcherIn
 batchers = record {
   of = λ r. r.batchers;
   put = λ r l. record r { batchers = l };
@@ -80,7 +80,7 @@ batchers = record {
   others = λ r l i. by_kind (Others kind.Batcher r (record r { batchers = l }) i) (λ h. refl) (own kind.Batcher) (λ h. refl) (λ h. refl) (λ h. refl) (λ h. refl) (λ h. refl) (λ h. refl) (λ h. refl);
 }
 
-abbrev leaders : Place LeaderVolatile kind.Leader LeaderIn
+abbrev pub leaders : Place LeaderVolatile kind.Leader LeaderIn
 leaders = record {
   of = λ r. r.leaders;
   put = λ r l. record r { leaders = l };
@@ -90,7 +90,7 @@ leaders = record {
   others = λ r l i. by_kind (Others kind.Leader r (record r { leaders = l }) i) (λ h. refl) (λ h. refl) (own kind.Leader) (λ h. refl) (λ h. refl) (λ h. refl) (λ h. refl) (λ h. refl) (λ h. refl);
 }
 
-abbrev proxies : Place ProxyVolatile kind.Proxy ProxyIn
+abbrev pub proxies : Place ProxyVolatile kind.Proxy ProxyIn
 proxies = record {
   of = λ r. r.proxies;
   put = λ r l. record r { proxies = l };
@@ -100,7 +100,7 @@ proxies = record {
   others = λ r l i. by_kind (Others kind.Proxy r (record r { proxies = l }) i) (λ h. refl) (λ h. refl) (λ h. refl) (own kind.Proxy) (λ h. refl) (λ h. refl) (λ h. refl) (λ h. refl) (λ h. refl);
 }
 
-abbrev acceptors : Place (Unit {0}) kind.Acceptor plain
+abbrev pub acceptors : Place (Unit {0}) kind.Acceptor plain
 acceptors = record {
   of = λ r. r.acceptors;
   put = λ r l. record r { acceptors = l };
@@ -110,7 +110,7 @@ acceptors = record {
   others = λ r l i. by_kind (Others kind.Acceptor r (record r { acceptors = l }) i) (λ h. refl) (λ h. refl) (λ h. refl) (λ h. refl) (own kind.Acceptor) (λ h. refl) (λ h. refl) (λ h. refl) (λ h. refl);
 }
 
-abbrev matchmakers : Place (Unit {0}) kind.Matchmaker plain
+abbrev pub matchmakers : Place (Unit {0}) kind.Matchmaker plain
 matchmakers = record {
   of = λ r. r.matchmakers;
   put = λ r l. record r { matchmakers = l };
@@ -120,7 +120,7 @@ matchmakers = record {
   others = λ r l i. by_kind (Others kind.Matchmaker r (record r { matchmakers = l }) i) (λ h. refl) (λ h. refl) (λ h. refl) (λ h. refl) (λ h. refl) (own kind.Matchmaker) (λ h. refl) (λ h. refl) (λ h. refl);
 }
 
-abbrev replicas : Place ReplicaVolatile kind.Replica ReplicaIn
+abbrev pub replicas : Place ReplicaVolatile kind.Replica ReplicaIn
 replicas = record {
   of = λ r. r.replicas;
   put = λ r l. record r { replicas = l };
@@ -130,7 +130,7 @@ replicas = record {
   others = λ r l i. by_kind (Others kind.Replica r (record r { replicas = l }) i) (λ h. refl) (λ h. refl) (λ h. refl) (λ h. refl) (λ h. refl) (λ h. refl) (own kind.Replica) (λ h. refl) (λ h. refl);
 }
 
-abbrev unbatchers : Place (Unit {0}) kind.Unbatcher plain
+abbrev pub unbatchers : Place (Unit {0}) kind.Unbatcher plain
 unbatchers = record {
   of = λ r. r.unbatchers;
   put = λ r l. record r { unbatchers = l };
@@ -140,7 +140,7 @@ unbatchers = record {
   others = λ r l i. by_kind (Others kind.Unbatcher r (record r { unbatchers = l }) i) (λ h. refl) (λ h. refl) (λ h. refl) (λ h. refl) (λ h. refl) (λ h. refl) (λ h. refl) (own kind.Unbatcher) (λ h. refl);
 }
 
-abbrev readers : Place ReaderVolatile kind.Reader ReaderIn
+abbrev pub readers : Place ReaderVolatile kind.Reader ReaderIn
 readers = record {
   of = λ r. r.readers;
   put = λ r l. record r { readers = l };
@@ -158,10 +158,10 @@ kind_cases k l = elim (cases_Bool (code_of k == code_of l)) [
 
 -- one role's new state in the list of its kind is its new state among all
 module _ {V : Type 0} (k : Kind) (make : V → State) (at : Place V k make) where
-  place_of : (roles : Roles) (me : RoleId) (o : Option (Option V)) → me.kind ≡ k → slice_get (at.of roles) me.index ≡ o → states_of roles me ≡ state_found make o
+  pub place_of : (roles : Roles) (me : RoleId) (o : Option (Option V)) → me.kind ≡ k → slice_get (at.of roles) me.index ≡ o → states_of roles me ≡ state_found make o
   place_of roles me o is e = ap (λ j. state_in roles me.index j) is ∙ at.state roles me.index ∙ ap (λ x. state_found make x) e
 
-  place_set : (roles : Roles) (me : RoleId) (old new : Option V) → me.kind ≡ k → slice_get (at.of roles) me.index ≡ Some old
+  pub place_set : (roles : Roles) (me : RoleId) (old new : Option V) → me.kind ≡ k → slice_get (at.of roles) me.index ≡ Some old
       → (a : RoleId) → set_state me (state_of make new) (states_of roles) a ≡ states_of (at.put roles (slice_set (at.of roles) me.index new)) a
   place_set roles me old new is found =
       let l = slice_set (at.of roles) me.index new in

@@ -11,7 +11,7 @@ use Rattle.cx_msg.specs.Letter.{Letter}
 use Rattle.cx_msg.specs.declared.message.Msg.{Msg}
 use Rattle.cx_msg.specs.declared.message.Msg.TheVariants as msg
 
--- the number that an answer tells a client: so many values of the list it knows of
+-- the number that an answer tells a client, so many values of the list it knows of; 0 of another message
 abbrev pub mark_told : Msg → ℕ
 mark_told (msg.Answer seq at reply) = at
 mark_told (msg.ReadAnswer seq n found) = n
@@ -25,7 +25,7 @@ abbrev pub is_heard : Why → Bool
 is_heard why.Heard = true
 is_heard other = false
 
--- what an event delivered to a client, of these datagrams
+-- the number that a delivery tells this client, of these datagrams; 0 of another event
 abbrev pub delivered_to : ℕ → List Letter → Event → ℕ
 delivered_to client sent (event.Deliver n cut) = told_to client (slice_get sent n)
 delivered_to client sent other = 0

@@ -274,6 +274,8 @@ module _ (c : Cluster) (left now : Option (List ℕ)) (w : World) (old mid out :
   sums_replayed (status.StoreFault role) t = absurd t
   sums_replayed status.Turns t = absurd t
   sums_replayed (status.BadStore role at) t = absurd t
+  sums_replayed (status.NotFresh role) t = absurd t
+  sums_replayed status.RecordFull t = absurd t
 
 pub sums_comes : (w : World) (out out_after : Option (List ℕ)) (writes writes_after : ℕ) (s : Status) → Sums w out out_after writes writes_after s → ComesOfReplay s
 sums_comes w out out_after writes writes_after status.Done t = tt
@@ -286,6 +288,8 @@ sums_comes w out out_after writes writes_after status.LinkFault t = t
 sums_comes w out out_after writes writes_after (status.StoreFault role) t = t
 sums_comes w out out_after writes writes_after status.Turns t = t
 sums_comes w out out_after writes writes_after (status.BadStore role at) t = t
+sums_comes w out out_after writes writes_after (status.NotFresh role) t = t
+sums_comes w out out_after writes writes_after status.RecordFull t = t
 
 -- a bad line after the trace of those before it
 module _ (c : Cluster) (left now : Option (List ℕ)) (reads reads_after : ℕ) (old out : Option (List ℕ)) (writes writes_after : ℕ) (es : List Event) (n : ℕ) where
@@ -321,6 +325,8 @@ module _ (c : Cluster) (left now : Option (List ℕ)) (reads reads_after : ℕ) 
   stops_replayed (status.StoreFault role) t written part = absurd t
   stops_replayed status.Turns t written part = absurd t
   stops_replayed (status.BadStore role at) t written part = absurd t
+  stops_replayed (status.NotFresh role) t written part = absurd t
+  stops_replayed status.RecordFull t written part = absurd t
 
 pub stops_comes : (c : Cluster) (n : ℕ) (line : List ℕ) (s : Status) → StopsIn c n line s → ComesOfReplay s
 stops_comes c n line (status.BadInput at) t = tt
@@ -333,6 +339,8 @@ stops_comes c n line status.LinkFault t = t
 stops_comes c n line (status.StoreFault role) t = t
 stops_comes c n line status.Turns t = t
 stops_comes c n line (status.BadStore role at) t = t
+stops_comes c n line (status.NotFresh role) t = t
+stops_comes c n line status.RecordFull t = t
 
 -- a header was found, so that it counts which bytes come before it
 same_found : (found : Option (List ℕ × List ℕ)) (without : Heard) (c : Cluster) (s : Spelled) → of_header header_says found BadHeader ≡ Lines c s

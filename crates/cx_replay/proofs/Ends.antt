@@ -21,6 +21,8 @@ kind (status.StoreFault role) = 6
 kind status.Turns = 7
 kind status.NoMemory = 8
 kind (status.BadStore role at) = 9
+kind (status.NotFresh role) = 10
+kind status.RecordFull = 11
 
 abbrev line_of : Status → ℕ
 line_of status.Done = 0
@@ -33,6 +35,8 @@ line_of (status.StoreFault role) = 0
 line_of status.Turns = 0
 line_of status.NoMemory = 0
 line_of (status.BadStore role at) = 0
+line_of (status.NotFresh role) = 0
+line_of status.RecordFull = 0
 
 module _ (left left_after : Option (List ℕ)) (reads reads_after : ℕ) (out out_after : Option (List ℕ)) (writes writes_after : ℕ) where
   abbrev Ends : Status → Type 0
@@ -137,3 +141,5 @@ completes (Some all) left_after reads reads_after out out_after writes writes_af
 completes (Some all) left_after reads reads_after out out_after writes writes_after status.Turns r comes = absurd comes
 completes (Some all) left_after reads reads_after out out_after writes writes_after status.NoMemory r comes = λ no_read no_write. inr refl
 completes (Some all) left_after reads reads_after out out_after writes writes_after (status.BadStore role at) r comes = absurd comes
+completes (Some all) left_after reads reads_after out out_after writes writes_after (status.NotFresh role) r comes = absurd comes
+completes (Some all) left_after reads reads_after out out_after writes writes_after status.RecordFull r comes = absurd comes

@@ -101,3 +101,5 @@ sums_stopped w out out_after writes writes_after status.LinkFault p = absurd p.1
 sums_stopped w out out_after writes writes_after (status.StoreFault role) p = absurd p.1
 sums_stopped w out out_after writes writes_after status.Turns p = absurd p.1
 sums_stopped w out out_after writes writes_after (status.BadStore role at) p = absurd p.1
+sums_stopped w out out_after writes writes_after (status.NotFresh role) p = absurd p.1
+sums_stopped w out out_after writes writes_after status.RecordFull p = absurd p.1

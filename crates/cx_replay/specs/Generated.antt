@@ -73,6 +73,8 @@ ComesOfGen (status.StoreFault role) = ⊥
 ComesOfGen status.Turns = ⊥
 ComesOfGen status.NoMemory = Unit {0}
 ComesOfGen (status.BadStore role at) = ⊥
+ComesOfGen (status.NotFresh role) = ⊥
+ComesOfGen status.RecordFull = ⊥
 
 -- Without a fault of the sink the answer is Done, or memory ran out.
 abbrev pub GenCompletes : ℕ → ℕ → Status → Type 0

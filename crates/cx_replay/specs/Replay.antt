@@ -96,6 +96,8 @@ ComesOfReplay (status.StoreFault role) = ⊥
 ComesOfReplay status.Turns = ⊥
 ComesOfReplay status.NoMemory = Unit {0}
 ComesOfReplay (status.BadStore role at) = ⊥
+ComesOfReplay (status.NotFresh role) = ⊥
+ComesOfReplay status.RecordFull = ⊥
 
 -- how a replay ends where nothing fails: in the first bad line, if there is one
 abbrev pub answer_of : Option ℕ → Status

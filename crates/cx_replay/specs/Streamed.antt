@@ -92,6 +92,8 @@ StopsIn c n line status.LinkFault = ⊥
 StopsIn c n line (status.StoreFault role) = ⊥
 StopsIn c n line status.Turns = ⊥
 StopsIn c n line (status.BadStore role at) = ⊥
+StopsIn c n line (status.NotFresh role) = ⊥
+StopsIn c n line status.RecordFull = ⊥
 
 -- the result of running the n-th line, which prints nothing where it stops the replay
 abbrev pub RunsLine : Cluster → ℕ → List ℕ → WorldState → WorldState → List ℕ → List ℕ
@@ -148,6 +150,8 @@ StopsWriting writes writes_after status.LinkFault = ⊥
 StopsWriting writes writes_after (status.StoreFault role) = ⊥
 StopsWriting writes writes_after status.Turns = ⊥
 StopsWriting writes writes_after (status.BadStore role at) = ⊥
+StopsWriting writes writes_after (status.NotFresh role) = ⊥
+StopsWriting writes writes_after status.RecordFull = ⊥
 
 -- a text was written, or a part of it
 abbrev pub WritesText : List ℕ → Option (List ℕ) → Option (List ℕ) → ℕ → ℕ → Result (Unit {0}) Status → Type 0
@@ -166,3 +170,5 @@ Sums w out out_after writes writes_after status.LinkFault = ⊥
 Sums w out out_after writes writes_after (status.StoreFault role) = ⊥
 Sums w out out_after writes writes_after status.Turns = ⊥
 Sums w out out_after writes writes_after (status.BadStore role at) = ⊥
+Sums w out out_after writes writes_after (status.NotFresh role) = ⊥
+Sums w out out_after writes writes_after status.RecordFull = ⊥

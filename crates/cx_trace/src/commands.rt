@@ -4,7 +4,7 @@ ghost use Rattle.std.specs.Prelude.{◌≡◌, ◌++◌, length, take, OnErr, On
 ghost use Rattle.cx_base.specs.Fold.{commands_of};
 ghost use Rattle.cx_trace.specs.Summary.{acts_text, command_text, commands_text, op_text, slot_text};
 
-use crate::put::{put, put_number, put_request, undo_part};
+use crate::pieces::{put, put_number, put_request, undo_part};
 use cx_base::{Command, NoMemory, Op, Value};
 use cx_kv::Executed;
 

@@ -4,7 +4,7 @@ ghost use Rattle.std.specs.Prelude.{◌≡◌, ◌++◌, codes, decimal, length,
 ghost use Rattle.cx_base.specs.Role.{role_text};
 ghost use Rattle.cx_trace.specs.Trace.{datagram_text, head_text, named_text, tells, told_of, told_text};
 
-use crate::put::{put, put_hex, put_number, put_role, undo_part};
+use crate::pieces::{put, put_hex, put_number, put_role, undo_part};
 use crate::replies::{put_answer, put_read};
 use cx_base::{NoMemory, RoleId};
 use cx_msg::{Datagram, Msg, Spelled};

@@ -4,7 +4,7 @@ ghost use Rattle.std.specs.Prelude.{◌≡◌, ◌++◌, length, take, OnErr, On
 ghost use Rattle.cx_trace.specs.Trace.{event_text, happening_text, order_text, reached_text};
 
 use crate::effect::Effect;
-use crate::put::{put, put_number, put_request, put_role, put_role_at, undo_part};
+use crate::pieces::{put, put_number, put_request, put_role, put_role_at, undo_part};
 use cx_base::{Event, Kind, NoMemory, Order, RoleId};
 
 fn put_order(text: &mut Vec<u8>, order: &Order) -> Result<(), NoMemory>

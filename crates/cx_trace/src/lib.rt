@@ -8,7 +8,7 @@ mod commands;
 mod datagrams;
 mod effect;
 mod events;
-mod put;
+mod pieces;
 mod replies;
 mod summary;
 
@@ -16,4 +16,5 @@ pub use commands::slot_into;
 pub use datagrams::{datagram_into, put_told};
 pub use effect::Effect;
 pub use events::event_into;
+pub use pieces::{put, put_number, put_request, put_role, put_role_at, undo_part};
 pub use summary::{Folded, chosen_into, replica_into};

@@ -4,7 +4,7 @@ ghost use Rattle.std.specs.Prelude.{◌≡◌, ◌++◌, length, take, OnErr, On
 ghost use Rattle.cx_trace.specs.Reply.{reply_text, found_text};
 ghost use Rattle.cx_trace.specs.Trace.{answer_line, read_line};
 
-use crate::put::{put, put_answered, put_number};
+use crate::pieces::{put, put_answered, put_number};
 use cx_base::{NoMemory, Reply, Text};
 
 fn put_reply(text: &mut Vec<u8>, reply: &Reply) -> Result<(), NoMemory>

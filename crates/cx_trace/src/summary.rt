@@ -3,7 +3,7 @@
 ghost use Rattle.std.specs.Prelude.{◌≡◌, ◌++◌, length, take, OnErr, OnOk};
 ghost use Rattle.cx_trace.specs.Summary.{chosen_text, replica_text};
 
-use crate::put::{put, put_number, put_role_at, undo_part};
+use crate::pieces::{put, put_number, put_role_at, undo_part};
 use cx_base::{Kind, NoMemory};
 use cx_kv::Store;
 

@@ -1,5 +1,5 @@
 use Rattle.cx_trace.proofs.Begins.{behind, on_err}
-use Rattle.cx_trace.proofs.put.put_role_at.Goals as goal
+use Rattle.cx_trace.proofs.pieces.put_role_at.Goals as goal
 
 pub returns-in_err-put_number-clause-err : goal.returns-in_err-put_number-clause-err
 returns-in_err-put_number-clause-err c =

@@ -1,5 +1,5 @@
 use Rattle.cx_trace.proofs.Begins.{behind, still_on_err}
-use Rattle.cx_trace.proofs.put.put_seq.Goals as goal
+use Rattle.cx_trace.proofs.pieces.put_seq.Goals as goal
 
 pub returns-clause-err : goal.returns-clause-err
 returns-clause-err c =

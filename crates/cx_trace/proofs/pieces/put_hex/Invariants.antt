@@ -1,6 +1,6 @@
 use Rattle.std.proofs.Common.{◌≡◌, ◌++◌, drop, length, take}
 use Rattle.cx_trace.specs.Put.{hex}
-use Rattle.cx_trace.proofs.put.put_hex.Given as goal
+use Rattle.cx_trace.proofs.pieces.put_hex.Given as goal
 
 abbrev pub invariant-loop-byte : goal.invariant-loop-byte
 invariant-loop-byte l = record {

@@ -8,6 +8,7 @@ ghost use Rattle.cx_trace.specs.Trace.{answered_text, request_text, seq_text};
 use cx_base::{Kind, NoMemory, RoleId};
 use itoa::Buffer;
 
+/// Appends these bytes. An `Err` appends nothing.
 pub fn put(text: &mut Vec<u8>, piece: &[u8]) -> Result<(), NoMemory>
     ensures ok { OnOk result (text.new.items ≡ text.old.items ++ piece.now) }
     ensures err { OnErr result (text.new.items ≡ text.old.items) }
@@ -16,7 +17,7 @@ pub fn put(text: &mut Vec<u8>, piece: &[u8]) -> Result<(), NoMemory>
     Ok(())
 }
 
-// What was put after this many bytes of a text is taken away again when out of memory.
+/// What was put after this many bytes of a text is taken away again when out of memory.
 pub fn undo_part(
     put: Result<(), NoMemory>,
     text: &mut Vec<u8>,
@@ -32,6 +33,7 @@ pub fn undo_part(
     put
 }
 
+/// Appends a number in decimal. An `Err` leaves what stood there in front.
 pub fn put_number(text: &mut Vec<u8>, number: u64) -> Result<(), NoMemory>
     ensures ok { OnOk result (text.new.items ≡ text.old.items ++ decimal number) }
     ensures err { OnErr result (take (length text.old.items) text.new.items ≡ text.old.items) }
@@ -40,7 +42,8 @@ pub fn put_number(text: &mut Vec<u8>, number: u64) -> Result<(), NoMemory>
     put(text, buffer.format(number).as_bytes())
 }
 
-// The role of a kind, whose index need not fit a role's: a place in a list.
+/// Appends the name of a role by its kind and its index, which need not fit a role's: a place in a list. An `Err` leaves
+/// what stood there in front.
 pub fn put_role_at(text: &mut Vec<u8>, kind: Kind, index: u64) -> Result<(), NoMemory>
     ensures ok { OnOk result (text.new.items ≡ text.old.items ++ role_text (role kind index)) }
     ensures err { OnErr result (take (length text.old.items) text.new.items ≡ text.old.items) }
@@ -51,6 +54,7 @@ pub fn put_role_at(text: &mut Vec<u8>, kind: Kind, index: u64) -> Result<(), NoM
     Ok(())
 }
 
+/// Appends the name of a role. An `Err` leaves what stood there in front.
 pub fn put_role(text: &mut Vec<u8>, role: RoleId) -> Result<(), NoMemory>
     ensures ok { OnOk result (text.new.items ≡ text.old.items ++ role_text role) }
     ensures err { OnErr result (take (length text.old.items) text.new.items ≡ text.old.items) }
@@ -72,7 +76,8 @@ fn put_seq(text: &mut Vec<u8>, seq: u64, floor: u64) -> Result<(), NoMemory>
     put_number(text, floor)
 }
 
-// A request of a client: who, its number and its floor.
+/// Appends who asks, the number of the request, and its floor where that isn't the number before. An `Err` leaves what
+/// stood there in front.
 #[tactic(auto, unfolding(crate::specs::Trace::request_text))]
 pub fn put_request(text: &mut Vec<u8>, client: u16, seq: u64, floor: u64) -> Result<(), NoMemory>
     ensures ok { OnOk result (text.new.items ≡ text.old.items ++ request_text client seq floor) }
