@@ -1,5 +1,5 @@
 -- When a twin is ready.
-use Rattle.std.proofs.Common.{◌≡◌, ◌<◌, ◌≤◌, ◌⊎◌, inl, inr, ⊎_elim, ℕ, ◌+◌, Bool, true, false, List, [], ◌∷◌, ◌++◌, length, Option, Some, None, Result, Ok, Err, refl, sym, ◌∙◌, ap, subst, take, length-append}
+use Rattle.std.proofs.Common.{◌≡◌, ◌<◌, ◌≤◌, ◌⊎◌, inl, inr, ⊎_elim, ℕ, ◌+◌, ◌==◌, not, Bool, true, false, List, [], ◌∷◌, ◌++◌, length, Option, Some, None, Result, Ok, Err, refl, sym, ◌∙◌, ap, subst, take, length-append}
 use Rattle.std.specs.Prelude.{IfOk, IfErr, is_some, slice_index, if◌then◌else◌}
 use Rattle.std.proofs.lemmas.Option.{same_Some}
 use Rattle.cx_base.specs.declared.role.Kind.{Kind}
@@ -14,11 +14,11 @@ use Rattle.cx_journal.specs.Generation.{IsSound, generation, second_is_live}
 use Rattle.cx_journal.specs.Journal.{frames, gates_from}
 use Rattle.cx_journal.specs.Pair.{front_of, IsLive}
 use Rattle.cx_journal.specs.Payload.{payloads, all_kept_by}
-use Rattle.cx_journal.specs.State.{records_or_none, IsUnwritten}
+use Rattle.cx_journal.specs.State.{has_some, records_or_none, IsUnwritten}
 use Rattle.cx_journal.specs.Twin.{TwinState, BothTell, told_by, pair_records, pair_image, image_chosen, IsPairFault, IsFaultOfPair, PairRests, TwoRest, LeavesSame, LeavesTwo, SamePair, IsTwinReady}
 use Rattle.cx_journal.specs.declared.image.Found.{Found}
 use Rattle.cx_journal.specs.declared.opening.Live.{Live}
-use Rattle.cx_journal.proofs.Gates.{gates-push, gate_at, payloads-push}
+use Rattle.cx_journal.proofs.Gates.{gates-push, gate_at, is_single, payloads-push}
 use Rattle.cx_journal.proofs.Images.{same_pair, twin_image}
 use Rattle.cx_journal.proofs.Ready.{told_of}
 use Rattle.cx_journal.proofs.Told.{told_pair, told_two}
@@ -221,6 +221,12 @@ module _ {D : Type 0} (seen : D → Option (List ℕ)) (may_leave : D → List �
       let is = ready.gates_are whole h in
       got ∙ ap (λ gs. slice_index gs i) is ∙ gate_at (length (front_of t.generation)) i (told t) (subst (λ gs. i < length gs) is within)
       ∙ sym (length-append (front_of t.generation) (frames (payloads (take i (told t)))))
+
+  -- whether it has no record
+  pub twin_has_none : (t : TwinState D) (single : Bool) → IsTwinReady seen may_leave size t → single ≡ (length t.gates == 1)
+      → t.whole ≡ true → Tells t → single ≡ not (has_some (told t))
+  twin_has_none t single ready got whole h =
+      got ∙ ap (λ (gs : List ℕ). length gs == 1) (ready.gates_are whole h) ∙ is_single (length (front_of t.generation)) (told t)
 
 module _ {D : Type 0} (may_leave : D → List ℕ → Type 0) (moment : D → ℕ) (left_since : D → ℕ → List ℕ → Type 0) where
   -- what a crash leaves while two disks are read

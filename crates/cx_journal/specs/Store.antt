@@ -23,6 +23,11 @@ abbrev pub store_whole : {D : Type 0} → Store D → Bool
 store_whole (One j) = j.whole
 store_whole (Two t) = t.whole
 
+-- the places of its gates: one for each record, and the closed one
+abbrev pub store_gates : {D : Type 0} → Store D → List ℕ
+store_gates (One j) = j.gates
+store_gates (Two t) = t.gates
+
 -- how often it has failed
 abbrev pub store_faults : {D : Type 0} → Store D → ℕ
 store_faults (One j) = j.faults

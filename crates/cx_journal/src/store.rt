@@ -1,9 +1,10 @@
 //! The store of a role: a journal on one disk, or a twin over two.
 
-ghost use Rattle.std.specs.Prelude.{◌≡◌, is_some};
+ghost use Rattle.std.specs.Prelude.{◌≡◌, ◌==◌, true, not, is_some, length};
 ghost use Rattle.cx_keeper.specs.Keeper.{Append, Renewal};
 ghost use Rattle.cx_journal.specs.Files.{files_records};
-ghost use Rattle.cx_journal.specs.Store.{IsStoreChange, store_faults, store_told};
+ghost use Rattle.cx_journal.specs.State.{has_some};
+ghost use Rattle.cx_journal.specs.Store.{IsStoreChange, store_faults, store_gates, store_told, store_whole};
 ghost use Rattle.cx_journal.specs.StoreLaw.{store_change_is};
 
 use crate::{Journal, Twin};
@@ -16,6 +17,20 @@ use cx_msg::Record;
 pub enum Store<D: Disk> {
     One { journal: Journal<D> },
     Two { twin: Twin<D> },
+}
+
+impl<D: Disk> Store<D> {
+    /// Whether it has no record. It takes no memory.
+    pub fn is_empty(&self) -> bool
+        ensures gates { result ≡ (length (store_gates self.now) == 1) }
+        ensures told { store_whole self.now ≡ true → is_some (store_told D.seen self.now) ≡ true
+            → result ≡ not (has_some (files_records (store_told D.seen self.now))) }
+    {
+        match self {
+            Store::One { journal } => journal.is_empty(),
+            Store::Two { twin } => twin.is_empty(),
+        }
+    }
 }
 
 impl<D: Disk> Keeper for Store<D> {

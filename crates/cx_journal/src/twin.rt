@@ -1,5 +1,5 @@
 //! A journal over two disks, whose list can be put anew.
-ghost use Rattle.std.specs.Prelude.{◌≡◌, ◌⊎◌, ◌+◌, ◌<◌, ◌≤◌, ◌++◌, [], ◌∷◌, true, is_some, IsTrue, List, ℕ, Some, None, Ok, length, slice_index, take, IfOk, OnOk, IfErr, IsErrOf, MatchResult};
+ghost use Rattle.std.specs.Prelude.{◌≡◌, ◌⊎◌, ◌+◌, ◌<◌, ◌≤◌, ◌++◌, ◌==◌, [], ◌∷◌, true, not, is_some, IsTrue, List, ℕ, Some, None, Ok, length, slice_index, take, IfOk, OnOk, IfErr, IsErrOf, MatchResult};
 ghost use Rattle.cx_base.specs.declared.role.Kind.TheVariants as kind;
 ghost use Rattle.cx_keeper.specs.Keeper.{all_fit};
 ghost use Rattle.cx_keeper.specs.declared.keeper.OpenFault.TheVariants as fault;
@@ -10,7 +10,7 @@ ghost use Rattle.cx_journal.specs.Found.{IsOutside};
 ghost use Rattle.cx_journal.specs.Journal.{frames};
 ghost use Rattle.cx_journal.specs.Pair.{front_of};
 ghost use Rattle.cx_journal.specs.Payload.{all_kept_by, payloads};
-ghost use Rattle.cx_journal.specs.State.{IsUnwritten};
+ghost use Rattle.cx_journal.specs.State.{IsUnwritten, has_some};
 ghost use Rattle.cx_journal.specs.Twin.{BothTell, told_by, pair_image, IsFaultOfPair, SamePair, LeavesSame, LeavesTwo, IsPairImageOf};
 ghost use Rattle.cx_journal.specs.TwinChanges.{OneRises};
 
@@ -73,6 +73,13 @@ fn gate_of(gates: &[u64], index: usize) -> u64
     ensures { result ≡ slice_index gates.now index }
 {
     gates[index]
+}
+
+// Whether the closed gate is the only one.
+fn is_single(gates: &[u64]) -> bool
+    ensures { result ≡ (length gates.now == 1) }
+{
+    gates.len() == 1
 }
 
 impl<D: Disk> Twin<D> {
@@ -387,5 +394,14 @@ impl<D: Disk> Twin<D> {
             ++ frames (payloads (take index (told_by D.seen self.now.first self.now.second)))) }
     {
         gate_of(&self.gates, index)
+    }
+
+    /// Whether it has no record. It takes no memory.
+    pub fn is_empty(&self) -> bool
+        ensures gates { result ≡ (length self.now.gates == 1) }
+        ensures told { self.now.whole ≡ true → BothTell D.seen self.now.first self.now.second
+            → result ≡ not (has_some (told_by D.seen self.now.first self.now.second)) }
+    {
+        is_single(&self.gates)
     }
 }
