@@ -1,0 +1,79 @@
+-- How hosted roles stand beside the model's world, and what some events do to those that take no part in them.
+use Rattle.std.proofs.Common.{◌≡◌, true, false, List, ◌++◌, Option, ap, sym, ◌∙◌}
+use Rattle.cx_base.specs.declared.role.Kind.TheVariants as kind
+use Rattle.cx_base.specs.declared.role.RoleId.{RoleId}
+use Rattle.cx_base.specs.Role.{same_role}
+use Rattle.cx_inv_run.specs.States.{State, BatcherIn, LeaderIn, ProxyIn, ReplicaIn, ReaderIn, plain, states_of}
+use Rattle.cx_model.specs.Acceptor.{acceptor_rules}
+use Rattle.cx_model.specs.Batcher.{batcher_rules}
+use Rattle.cx_model.specs.Leader.{leader_rules}
+use Rattle.cx_model.specs.Lists.{list_other}
+use Rattle.cx_model.specs.Matchmaker.{matchmaker_rules}
+use Rattle.cx_model.specs.Names.{names_role}
+use Rattle.cx_model.specs.Proxy.{proxy_rules}
+use Rattle.cx_model.specs.Reader.{reader_rules}
+use Rattle.cx_model.specs.Replica.{replica_rules}
+use Rattle.cx_model.specs.Rules.{Rules, Running, folded}
+use Rattle.cx_model.specs.Unbatcher.{unbatcher_rules}
+use Rattle.cx_model.specs.World.{World, durable_part, kept_by}
+use Rattle.cx_msg.specs.Letter.{Letter}
+use Rattle.cx_msg.specs.declared.input.Written.{Written}
+use Rattle.cx_course.specs.Hosted.{Hosted, ClientAt, BatcherAt, LeaderAt, ProxyAt, AcceptorAt, MatchmakerAt, ReplicaAt, UnbatcherAt, ReaderAt, name_of}
+use Rattle.cx_course.proofs.Asker.{IsAsker, IsTraced, SparesClient, still_asks}
+
+-- A role of the protocol is the model's: it runs there with the same volatile part, and its durable part is the fold of its list there.
+pub record IsRole {D V : Type 0} (rules : Rules D V) (make : V → State) (w : World) (s : Running D V) : Type 0 where
+  pub cluster : s.cluster ≡ w.cluster
+  pub kind_is : s.me.kind ≡ rules.kind
+  pub named : names_role w.cluster s.me ≡ true
+  pub durable : s.durable ≡ durable_part rules s.me w.kept
+  pub volatile : states_of w.roles s.me ≡ make s.volatile
+
+abbrev pub IsAlike : World → Hosted → Type 0
+IsAlike w (ClientAt s) = IsAsker w s
+IsAlike w (BatcherAt s) = IsRole batcher_rules BatcherIn w s
+IsAlike w (LeaderAt s) = IsRole leader_rules LeaderIn w s
+IsAlike w (ProxyAt s) = IsRole proxy_rules ProxyIn w s
+IsAlike w (AcceptorAt s) = IsRole acceptor_rules plain w s
+IsAlike w (MatchmakerAt s) = IsRole matchmaker_rules plain w s
+IsAlike w (ReplicaAt s) = IsRole replica_rules ReplicaIn w s
+IsAlike w (UnbatcherAt s) = IsRole unbatcher_rules plain w s
+IsAlike w (ReaderAt s) = IsRole reader_rules ReaderIn w s
+
+-- ---- what some events come to
+
+-- a role that takes no part in them is spared: its state stays, and, of a client, what it asked for and what it has heard
+pub record Spares (w after : World) (a : RoleId) : Type 0 where
+  pub state : states_of after.roles a ≡ states_of w.roles a
+  pub client : a.kind ≡ kind.Client → SparesClient w after a.index
+
+-- what this role writes in its store, if anything, and what is sent; other roles are spared
+pub record Moves (w after : World) (me : RoleId) (what : Option Written) (sends : List Letter) : Type 0 where
+  pub cluster : after.cluster ≡ w.cluster
+  pub kept : after.kept ≡ w.kept ++ kept_by me what
+  pub sent : after.sent ≡ w.sent ++ sends
+  pub traced : IsTraced after
+  pub others : (a : RoleId) → same_role a me ≡ false → Spares w after a
+
+-- ---- a role that is spared stays alike
+
+module _ (w after : World) (me : RoleId) (what : Option Written) (sends : List Letter) (moves : Moves w after me what sends) where
+  spared_role : {D V : Type 0} (rules : Rules D V) (make : V → State) (s : Running D V) → same_role s.me me ≡ false → IsRole rules make w s → IsRole rules make after s
+  spared_role rules make s differs is = record {
+    cluster = is.cluster ∙ sym moves.cluster;
+    kind_is = is.kind_is;
+    named = ap (λ c. names_role c s.me) moves.cluster ∙ is.named;
+    durable = is.durable ∙ sym (ap (λ k. durable_part rules s.me k) moves.kept ∙ ap (folded rules) (list_other rules s.me me w.kept what differs));
+    volatile = (moves.others s.me differs).state ∙ is.volatile;
+  }
+
+  pub spared : (h : Hosted) → same_role (name_of h) me ≡ false → IsAlike w h → IsAlike after h
+  spared (ClientAt s) differs is = still_asks w after s moves.cluster ((moves.others s.me differs).client (ap (λ (a : RoleId). a.kind) is.client.me)) is
+  spared (BatcherAt s) differs is = spared_role batcher_rules BatcherIn s differs is
+  spared (LeaderAt s) differs is = spared_role leader_rules LeaderIn s differs is
+  spared (ProxyAt s) differs is = spared_role proxy_rules ProxyIn s differs is
+  spared (AcceptorAt s) differs is = spared_role acceptor_rules plain s differs is
+  spared (MatchmakerAt s) differs is = spared_role matchmaker_rules plain s differs is
+  spared (ReplicaAt s) differs is = spared_role replica_rules ReplicaIn s differs is
+  spared (UnbatcherAt s) differs is = spared_role unbatcher_rules plain s differs is
+  spared (ReaderAt s) differs is = spared_role reader_rules ReaderIn s differs is

@@ -1,0 +1,17 @@
+pub mod Alike
+pub mod Asker
+pub mod Clients
+pub mod Doings
+pub mod Following
+pub mod Fresh
+pub mod Grids
+pub mod Hearing
+pub mod Moments
+pub mod Past
+pub mod Requests
+pub mod Roles
+pub mod Scripts
+pub mod Stores
+pub mod Takes
+pub mod Turned
+pub mod Turns

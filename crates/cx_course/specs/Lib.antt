@@ -1,0 +1,8 @@
+pub mod Action
+pub mod Alike
+pub mod Changing
+pub mod Course
+pub mod Follows
+pub mod Hosted
+pub mod Run
+pub mod Tending
