@@ -10,15 +10,19 @@ use Rattle.cx_node.specs.Changing.{Changing}
 use Rattle.cx_node.specs.declared.guest.Guest.{Guest}
 use Rattle.cx_node.specs.declared.node.Stop.{Stop}
 use Rattle.cx_node.specs.declared.node.Stop.TheVariants.{LinkFault, NoMemory, WriteFault}
-use Rattle.cx_node.specs.Action.{Action, HasTaken, Took, bound_by, taken_by}
+use Rattle.cx_course.specs.Action.{Action, HasTaken, Took, bound_by, taken_by}
 use Rattle.cx_node.specs.Acts.{Acts, Blames, Failures}
-use Rattle.cx_node.specs.Doing.{Linked, Scene, scene}
+use Rattle.cx_node.specs.Doing.{Linked, Scene, course_in, scene}
 use Rattle.cx_node.specs.Guest.{AreReady, hosted_in}
-use Rattle.cx_node.specs.Hosted.{Hosted}
-use Rattle.cx_node.specs.Node.{Takes}
-use Rattle.cx_node.specs.Run.{Moved, stays, then_do, took}
+use Rattle.cx_course.specs.Run.{Takes}
+use Rattle.cx_course.specs.Course.{Course, Moved, stays, then_do, took}
+use Rattle.cx_record.specs.Numbers.{Recorded}
 use Rattle.cx_node.proofs.Asked.{linked_took}
 use Rattle.cx_node.proofs.Done.{did_nothing, does_nothing, does_then, guests_rest, part_then, then_part}
+
+-- these hosted roles with what is known of their record
+abbrev pub course : {K : Type 0} → List (Guest K) → Option Recorded → Course
+course gs known = record { hosted = hosted_in gs; recorded = known }
 
 abbrev pub Done : Type 0
 Done = Result (Unit {0}) Stop
@@ -61,7 +65,7 @@ taken_then ts us xs ys p q = (
 )
 
 module _ {K : Type 0} (gives : Changing K) (c : Cluster) where
-  then_more : (ts us : Takes) (m : Moved (List Hosted)) (f : List Hosted → Moved (List Hosted)) (r : Done)
+  then_more : (ts us : Takes) (m : Moved Course) (f : Course → Moved Course) (r : Done)
       (a b d : Scene K)
       → Acts gives c ts m (Ok tt) a b → Acts gives c us (f m.next) r b d → Acts gives c (ts ++ us) (then_do m f) r a d
   then_more ts us m f (Ok u) a b d p q =
@@ -80,15 +84,15 @@ module _ {K : Type 0} (gives : Changing K) (c : Cluster) where
             ((f m.next).actions) e a b d p.done.did q.part;
       }
 
-  pub acts_then : (ts us : Takes) (m : Moved (List Hosted)) (f : List Hosted → Moved (List Hosted)) (r : Done)
+  pub acts_then : (ts us : Takes) (m : Moved Course) (f : Course → Moved Course) (r : Done)
       (a b d : Scene K)
-      → Acts gives c ts m (Ok tt) a b → Acts gives c us (f (hosted_in b.guests)) r b d
+      → Acts gives c ts m (Ok tt) a b → Acts gives c us (f (course_in b)) r b d
       → Acts gives c (ts ++ us) (then_do m f) r a d
   acts_then ts us m f r a b d p q =
-      then_more ts us m f r a b d p (subst (λ hs. Acts gives c us (f hs) r b d) p.done.hosted q)
+      then_more ts us m f r a b d p (subst (λ s. Acts gives c us (f s) r b d) p.done.course q)
 
   -- it stopped, and what was to come didn't
-  pub acts_before : (ts us : Takes) (m : Moved (List Hosted)) (f : List Hosted → Moved (List Hosted)) (e : Stop)
+  pub acts_before : (ts us : Takes) (m : Moved Course) (f : Course → Moved Course) (e : Stop)
       (a b : Scene K)
       → Acts gives c ts m (Err e) a b → Acts gives c (ts ++ us) (then_do m f) (Err e) a b
   acts_before ts us m f e a b p =
@@ -101,11 +105,11 @@ module _ {K : Type 0} (gives : Changing K) (c : Cluster) where
       }
 
   -- nothing was to be done
-  pub acts_nothing : (a : Scene K) → AreReady c a.guests → Acts gives c [] (stays (hosted_in a.guests)) (Ok tt) a a
+  pub acts_nothing : (a : Scene K) → AreReady c a.guests → Acts gives c [] (stays (course_in a)) (Ok tt) a a
   acts_nothing a ready = record { done = does_nothing gives c a; taken = (refl, refl); ready = ready; part = tt }
 
   -- memory ran out before anything was done
-  pub acts_none : (ts : Takes) (m : Moved (List Hosted)) (a : Scene K) → Acts gives c ts m (Err NoMemory) a a
+  pub acts_none : (ts : Takes) (m : Moved Course) (a : Scene K) → Acts gives c ts m (Err NoMemory) a a
   acts_none ts m a =
       record {
         done = tt;
@@ -115,7 +119,7 @@ module _ {K : Type 0} (gives : Changing K) (c : Cluster) where
       }
 
   -- a take failed
-  pub acts_cut : (ts : Takes) (m : Moved (List Hosted)) (a : Scene K)
+  pub acts_cut : (ts : Takes) (m : Moved Course) (a : Scene K)
       → Acts gives c ts (took None m) (Err LinkFault) a a
   acts_cut ts m a =
       record {
@@ -131,15 +135,16 @@ module _ {K : Type 0} (gives : Changing K) (c : Cluster) where
       }
 
   -- the link gave something at one take, or nothing
-  pub acts_took : (what : Option (List ℕ)) (gs : List (Guest K)) (link after : Option LinkHistory)
+  pub acts_took : (what : Option (List ℕ)) (gs : List (Guest K)) (known : Option Recorded) (link after : Option LinkHistory)
       (out : Option (List ℕ))
       → after ≡ option_map (with_taken what) link → AreReady c gs
-      → Acts gives c (what ∷ []) (took what (stays (hosted_in gs))) (Ok tt) (scene gs link out) (scene gs after out)
-  acts_took what gs link after out told ready =
-      let none = did_nothing gives c (scene gs link out) in
+      → Acts gives c (what ∷ []) (took what (stays (course gs known))) (Ok tt) (scene gs known link out)
+      (scene gs known after out)
+  acts_took what gs known link after out told ready =
+      let none = did_nothing gives c (scene gs known link out) in
       record {
         done = record {
-          hosted = refl;
+          course = refl;
           did =
               record {
                 names = refl;
@@ -147,6 +152,7 @@ module _ {K : Type 0} (gives : Changing K) (c : Cluster) where
                 link = subst (Linked c (Took what ∷ []) link) (sym told)
                     (linked_took c what link);
                 printed = Appends-nil out;
+                made = refl;
               };
         };
         taken = (refl, refl);

@@ -1,53 +1,89 @@
 -- The history of a link after actions, one list of them after another.
-use Rattle.std.proofs.Common.{◌≡◌, ℕ, List, [], ◌∷◌, ◌++◌, map, filter, Option, None, Some, option_map, refl, sym, ap}
+use Rattle.std.proofs.Common.{◌≡◌, ℕ, false, List, [], ◌∷◌, ◌++◌, map, filter, Option, None, Some, option_map, refl, sym, ap}
 use Rattle.std.proofs.Common.{◌∙◌, append_assoc, append-nil}
+use Rattle.std.specs.List.{list_any}
 use Rattle.std.proofs.lemmas.Grind.{flat_map-append}
 use Rattle.std.proofs.lemmas.List.{map-append}
 use Rattle.std.proofs.lemmas.List.Elements.{filter-append}
 use Rattle.std.proofs.lemmas.Option.{none-some, same_Some}
 use Rattle.cx_base.specs.declared.cluster.Cluster.{Cluster}
+use Rattle.cx_base.specs.declared.event.Event.{Event}
 use Rattle.cx_base.specs.declared.role.RoleId.{RoleId}
 use Rattle.cx_edge.specs.Link.{LinkHistory, with_taken}
 use Rattle.cx_model.specs.Names.{names_role}
 use Rattle.cx_msg.specs.Letter.{Letter}
-use Rattle.cx_node.specs.Action.{Action, Bound, Took, bound_by, bound_in, kept_in, printed_in, sent_by, sent_in}
-use Rattle.cx_node.specs.Action.{step_actions, taken_by, taken_in, with_actions}
-use Rattle.cx_node.specs.Changing.{StoreChange}
-use Rattle.cx_node.specs.Doing.{Asks, Linked}
+use Rattle.cx_course.specs.Action.{Action, Answered, Bound, Noted, Took, bound_by, bound_in, is_filled, kept_in, printed_in}
+use Rattle.cx_course.specs.Action.{sent_by, sent_in, step_actions, taken_by, taken_in}
+use Rattle.cx_course.specs.Changing.{StoreChange}
+use Rattle.cx_node.specs.Doing.{Asks, Linked, with_actions}
 use Rattle.cx_node.specs.Hosting.{with_binds}
 use Rattle.cx_node.specs.Ports.{bind_of, sending_of, sendings}
 
 -- ---- what is among the actions of a step, and among binds
 
-pub step_bound : (ks : List StoreChange) (ls : List Letter) (bs : List ℕ) → bound_in (step_actions ks ls bs) ≡ []
-step_bound [] [] [] = refl
-step_bound [] [] (b ∷ bs) = step_bound [] [] bs
-step_bound [] (l ∷ ls) bs = step_bound [] ls bs
-step_bound (k ∷ ks) ls bs = step_bound ks ls bs
+-- what a record has of a step, which is no other action: no role is bound, nothing is taken, kept, sent or printed, and no step is left out
+pub record IsNoted (ns : List Action) : Type 0 where
+  bound : bound_in ns ≡ []
+  taken : taken_in ns ≡ []
+  kept : kept_in ns ≡ []
+  sent : sent_in ns ≡ []
+  printed : printed_in ns ≡ []
+  made : list_any is_filled ns ≡ false
 
-pub step_taken : (ks : List StoreChange) (ls : List Letter) (bs : List ℕ) → taken_in (step_actions ks ls bs) ≡ []
-step_taken [] [] [] = refl
-step_taken [] [] (b ∷ bs) = step_taken [] [] bs
-step_taken [] (l ∷ ls) bs = step_taken [] ls bs
-step_taken (k ∷ ks) ls bs = step_taken ks ls bs
+pub none_noted : IsNoted []
+none_noted = record { bound = refl; taken = refl; kept = refl; sent = refl; printed = refl; made = refl }
 
-pub step_kept : (ks : List StoreChange) (ls : List Letter) (bs : List ℕ) → kept_in (step_actions ks ls bs) ≡ ks
-step_kept [] [] [] = refl
-step_kept [] [] (b ∷ bs) = step_kept [] [] bs
-step_kept [] (l ∷ ls) bs = step_kept [] ls bs
-step_kept (k ∷ ks) ls bs = ap (λ l. k ∷ l) (step_kept ks ls bs)
+-- events that were noted, and answers
+pub are_noted : (es : List Event) (ds : List Letter) → IsNoted (map Noted es ++ map Answered ds)
+are_noted [] [] = none_noted
+are_noted [] (d ∷ ds) =
+    let r = are_noted [] ds in
+    record { bound = r.bound; taken = r.taken; kept = r.kept; sent = r.sent; printed = r.printed; made = r.made }
+are_noted (e ∷ es) ds =
+    let r = are_noted es ds in
+    record { bound = r.bound; taken = r.taken; kept = r.kept; sent = r.sent; printed = r.printed; made = r.made }
 
-step_sent : (ks : List StoreChange) (ls : List Letter) (bs : List ℕ) → sent_in (step_actions ks ls bs) ≡ ls
-step_sent [] [] [] = refl
-step_sent [] [] (b ∷ bs) = step_sent [] [] bs
-step_sent [] (l ∷ ls) bs = ap (λ ds. l ∷ ds) (step_sent [] ls bs)
-step_sent (k ∷ ks) ls bs = step_sent ks ls bs
+pub step_bound : (ks : List StoreChange) (ls : List Letter) (bs : List ℕ) (ns : List Action) → IsNoted ns
+    → bound_in (step_actions ks ls bs ns) ≡ []
+step_bound [] [] [] ns noted = noted.bound
+step_bound [] [] (b ∷ bs) ns noted = step_bound [] [] bs ns noted
+step_bound [] (l ∷ ls) bs ns noted = step_bound [] ls bs ns noted
+step_bound (k ∷ ks) ls bs ns noted = step_bound ks ls bs ns noted
 
-pub step_printed : (ks : List StoreChange) (ls : List Letter) (bs : List ℕ) → printed_in (step_actions ks ls bs) ≡ bs
-step_printed [] [] [] = refl
-step_printed [] [] (b ∷ bs) = ap (λ l. b ∷ l) (step_printed [] [] bs)
-step_printed [] (l ∷ ls) bs = step_printed [] ls bs
-step_printed (k ∷ ks) ls bs = step_printed ks ls bs
+pub step_taken : (ks : List StoreChange) (ls : List Letter) (bs : List ℕ) (ns : List Action) → IsNoted ns
+    → taken_in (step_actions ks ls bs ns) ≡ []
+step_taken [] [] [] ns noted = noted.taken
+step_taken [] [] (b ∷ bs) ns noted = step_taken [] [] bs ns noted
+step_taken [] (l ∷ ls) bs ns noted = step_taken [] ls bs ns noted
+step_taken (k ∷ ks) ls bs ns noted = step_taken ks ls bs ns noted
+
+pub step_kept : (ks : List StoreChange) (ls : List Letter) (bs : List ℕ) (ns : List Action) → IsNoted ns
+    → kept_in (step_actions ks ls bs ns) ≡ ks
+step_kept [] [] [] ns noted = noted.kept
+step_kept [] [] (b ∷ bs) ns noted = step_kept [] [] bs ns noted
+step_kept [] (l ∷ ls) bs ns noted = step_kept [] ls bs ns noted
+step_kept (k ∷ ks) ls bs ns noted = ap (λ l. k ∷ l) (step_kept ks ls bs ns noted)
+
+pub step_sent : (ks : List StoreChange) (ls : List Letter) (bs : List ℕ) (ns : List Action) → IsNoted ns
+    → sent_in (step_actions ks ls bs ns) ≡ ls
+step_sent [] [] [] ns noted = noted.sent
+step_sent [] [] (b ∷ bs) ns noted = step_sent [] [] bs ns noted
+step_sent [] (l ∷ ls) bs ns noted = ap (λ ds. l ∷ ds) (step_sent [] ls bs ns noted)
+step_sent (k ∷ ks) ls bs ns noted = step_sent ks ls bs ns noted
+
+pub step_printed : (ks : List StoreChange) (ls : List Letter) (bs : List ℕ) (ns : List Action) → IsNoted ns
+    → printed_in (step_actions ks ls bs ns) ≡ bs
+step_printed [] [] [] ns noted = noted.printed
+step_printed [] [] (b ∷ bs) ns noted = ap (λ l. b ∷ l) (step_printed [] [] bs ns noted)
+step_printed [] (l ∷ ls) bs ns noted = step_printed [] ls bs ns noted
+step_printed (k ∷ ks) ls bs ns noted = step_printed ks ls bs ns noted
+
+pub step_made : (ks : List StoreChange) (ls : List Letter) (bs : List ℕ) (ns : List Action) → IsNoted ns
+    → list_any is_filled (step_actions ks ls bs ns) ≡ false
+step_made [] [] [] ns noted = noted.made
+step_made [] [] (b ∷ bs) ns noted = step_made [] [] bs ns noted
+step_made [] (l ∷ ls) bs ns noted = step_made [] ls bs ns noted
+step_made (k ∷ ks) ls bs ns noted = step_made ks ls bs ns noted
 
 binds_bound : (rs : List RoleId) → bound_in (map Bound rs) ≡ rs
 binds_bound [] = refl
@@ -68,6 +104,10 @@ binds_kept (r ∷ rs) more = binds_kept rs more
 pub binds_printed : (rs : List RoleId) (more : List Action) → printed_in (map Bound rs ++ more) ≡ printed_in more
 binds_printed [] more = refl
 binds_printed (r ∷ rs) more = binds_printed rs more
+
+pub binds_made : (rs : List RoleId) (more : List Action) → list_any is_filled (map Bound rs ++ more) ≡ list_any is_filled more
+binds_made [] more = refl
+binds_made (r ∷ rs) more = binds_made rs more
 
 sendings_append : (c : Cluster) (ks ls : List Letter) → sendings c (ks ++ ls) ≡ sendings c ks ++ sendings c ls
 sendings_append c ks ls =
@@ -122,17 +162,17 @@ module _ (c : Cluster) where
   linked_took what (Some h) = λ after e. (h, refl, sym (same_Some (with_taken what h) after e) ∙ took_more what h)
 
   -- what a step sends
-  pub linked_step : (ks : List StoreChange) (ls : List Letter) (bs : List ℕ) (a b : Option LinkHistory) → Asks c ls a b
-      → Linked c (step_actions ks ls bs) a b
-  linked_step ks ls bs a b asks = λ after e.
+  pub linked_step : (ks : List StoreChange) (ls : List Letter) (bs : List ℕ) (ns : List Action) (a b : Option LinkHistory)
+      → IsNoted ns → Asks c ls a b → Linked c (step_actions ks ls bs ns) a b
+  linked_step ks ls bs ns a b noted asks = λ after e.
       let one = asks after e in
       let h = one.0 in
-      let binds : h.binds ≡ h.binds ++ map (bind_of c) (bound_in (step_actions ks ls bs)) = sym (append-nil h.binds)
-      ∙ ap (λ l. h.binds ++ map (bind_of c) l) (sym (step_bound ks ls bs)) in
-      let taken : h.taken ≡ h.taken ++ taken_in (step_actions ks ls bs) = sym (append-nil h.taken)
-      ∙ ap (λ l. h.taken ++ l) (sym (step_taken ks ls bs)) in
-      let sent : h.sent ++ sendings c ls ≡ h.sent ++ sendings c (sent_in (step_actions ks ls bs)) = ap
-      (λ l. h.sent ++ sendings c l) (sym (step_sent ks ls bs)) in
+      let binds : h.binds ≡ h.binds ++ map (bind_of c) (bound_in (step_actions ks ls bs ns)) = sym (append-nil h.binds)
+      ∙ ap (λ l. h.binds ++ map (bind_of c) l) (sym (step_bound ks ls bs ns noted)) in
+      let taken : h.taken ≡ h.taken ++ taken_in (step_actions ks ls bs ns) = sym (append-nil h.taken)
+      ∙ ap (λ l. h.taken ++ l) (sym (step_taken ks ls bs ns noted)) in
+      let sent : h.sent ++ sendings c ls ≡ h.sent ++ sendings c (sent_in (step_actions ks ls bs ns)) = ap
+      (λ l. h.sent ++ sendings c l) (sym (step_sent ks ls bs ns noted)) in
       (h, one.1, one.2 ∙ (λ i. record { binds = binds i; taken = taken i; sent = sent i }))
 
   binds_more : (rs : List RoleId) (h : LinkHistory) → with_binds (map (bind_of c) rs) h ≡ with_actions c

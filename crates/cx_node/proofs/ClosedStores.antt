@@ -22,8 +22,9 @@ use Rattle.cx_msg.specs.declared.kept.Record.{Record}
 use Rattle.cx_node.specs.declared.guest.Guest.{Guest}
 use Rattle.cx_node.specs.declared.node.Stop.{Stop}
 use Rattle.cx_node.specs.declared.node.Stop.TheVariants as stop
-use Rattle.cx_node.specs.Action.{Action, Kept}
-use Rattle.cx_node.specs.Changing.{Changing, Refuses, StoreChange, changes_of, lists_after}
+use Rattle.cx_course.specs.Action.{Action, Kept}
+use Rattle.cx_course.specs.Changing.{StoreChange, changes_of, lists_after}
+use Rattle.cx_node.specs.Changing.{Changing, Refuses}
 use Rattle.cx_node.specs.Doing.{GuestFails, GuestsGrow, GuestsRest, StopsAt}
 use Rattle.cx_node.specs.Guest.{Changed, Fails, FailsIn, Grows, Rests, keeper_of, who}
 use Rattle.cx_node.specs.Hosting.{GivesBack}
@@ -274,7 +275,7 @@ module _ {D : Type 0} (by : DiskGhosts D) (c : Cluster) (window : ℕ) (events :
     -- ---- where they stopped
 
     module _ (after : List (Guest (Store D))) (back : Back after) where
-      rest_stores : GuestsRest (gives by) mid after → Tells ks
+      pub rest_stores : GuestsRest (gives by) mid after → Tells ks
       rest_stores rest t i me here durable =
           let m = grown_at i me here durable in
           let told = m.6 t in
@@ -419,6 +420,7 @@ module _ {D : Type 0} (by : DiskGhosts D) (c : Cluster) (window : ℕ) (events :
       stops_stores stop.NoMemory next s = inl (rest_stores s)
       stops_stores stop.WriteFault next s = inl (rest_stores s)
       stops_stores stop.LinkFault next s = inl (rest_stores s.1)
+      stops_stores stop.RecordFull next s = inl (rest_stores s.1)
       stops_stores (stop.StoreFault role) next s = go (failed_stores role s.0 s.2)
         where
           go : Tells ks ⊎ Tells (ks ++ record { role = role; change = s.0 } ∷ []) → Tells ks
@@ -432,6 +434,7 @@ module _ {D : Type 0} (by : DiskGhosts D) (c : Cluster) (window : ℕ) (events :
       stops_still stop.NoMemory next s a never = rest_still s a
       stops_still stop.WriteFault next s a never = rest_still s a
       stops_still stop.LinkFault next s a never = rest_still s.1 a
+      stops_still stop.RecordFull next s a never = rest_still s.1 a
       stops_still (stop.StoreFault role) next s a never = fail_still role s.0 s.2 a (λ e. never (ap stop.StoreFault e))
 
       pub stops_rises : (role : RoleId) (next : Option Action) → StopsAt (gives by) (stop.StoreFault role) next mid after

@@ -59,7 +59,8 @@ use Rattle.cx_keeper.specs.declared.keeper.KeepFault.{KeepFault}
 use Rattle.cx_journal.proofs.Gates.{all_kept-push}
 use Rattle.cx_journal.proofs.Payloads.{both_so}
 use Rattle.cx_promises.proofs.Lawful.{lawful}
-use Rattle.cx_node.specs.Stops.{IsOfRun, MayChange, change_for, with_cut}
+use Rattle.cx_course.specs.Changing.{change_for}
+use Rattle.cx_node.specs.Stops.{IsOfRun, MayChange, with_cut}
 use Rattle.cx_node.specs.Stores.{has_second, is_two}
 
 -- cut events keep nothing, or the change

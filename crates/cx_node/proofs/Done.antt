@@ -1,20 +1,22 @@
 -- Actions that were done, some after others.
-use Rattle.std.proofs.Common.{◌≡◌, ℕ, zero, suc, pred, List, [], ◌∷◌, ◌++◌, length, map, take, arith, Option, None}
+use Rattle.std.proofs.Common.{◌≡◌, ◌||◌, ℕ, zero, suc, pred, List, [], ◌∷◌, ◌++◌, length, map, take, arith, Option, None}
 use Rattle.std.proofs.Common.{Some, option_map, slice_get, refl, sym, ap, ◌∙◌, subst, inl}
 use Rattle.std.proofs.KnownBytes.{Appends-nil, Appends-trans}
 use Rattle.std.proofs.lemmas.Grind.{flat_map-append}
+use Rattle.std.proofs.lemmas.List.Folds.{list_any-append}
 use Rattle.std.proofs.lemmas.Option.{none-some, same_Some, slice_get-map}
 use Rattle.std.specs.Io.KnownBytes.{Appends}
+use Rattle.std.specs.List.{list_any}
 use Rattle.cx_base.specs.declared.cluster.Cluster.{Cluster}
 use Rattle.cx_node.specs.declared.guest.Guest.{Guest}
 use Rattle.cx_node.specs.declared.node.Stop.{Stop}
 use Rattle.cx_node.specs.declared.node.Stop.TheVariants as stop
-use Rattle.cx_node.specs.Action.{Action, Kept, Took, kept_as, kept_in, printed_by, printed_in}
-use Rattle.cx_node.specs.Changing.{Changing, StoreChange}
-use Rattle.cx_node.specs.Doing.{Did, DidPart, Does, GuestsGrow, GuestsRest, Scene, StopsAt, scene}
-use Rattle.cx_node.specs.Guest.{GuestGrows, Rests, hosted_in, keeper_of, who}
-use Rattle.cx_node.specs.Hosted.{Hosted}
-use Rattle.cx_node.specs.Run.{Moved, stays, then_do}
+use Rattle.cx_course.specs.Action.{Action, Filled, Kept, Took, is_filled, kept_as, kept_in, printed_by, printed_in}
+use Rattle.cx_course.specs.Changing.{StoreChange}
+use Rattle.cx_node.specs.Changing.{Changing}
+use Rattle.cx_node.specs.Doing.{Did, DidPart, Does, GuestsGrow, GuestsRest, Scene, StopsAt, course_in, scene}
+use Rattle.cx_node.specs.Guest.{GuestGrows, Rests, keeper_of, who}
+use Rattle.cx_course.specs.Course.{Course, Moved, stays, then_do}
 use Rattle.cx_node.proofs.Asked.{linked_nothing, linked_then}
 use Rattle.cx_node.proofs.Grown.{before, behind, grows_none, guest_then}
 
@@ -69,6 +71,7 @@ module _ {K : Type 0} (gives : Changing K) where
           kept = guests_none a.guests;
           link = linked_nothing c a.link;
           printed = Appends-nil a.out;
+          made = refl;
         }
 
     pub did_then : (xs ys : List Action) (a b d : Scene K) → Did gives c xs a b → Did gives c ys b d
@@ -83,21 +86,23 @@ module _ {K : Type 0} (gives : Changing K) where
           printed =
               subst (Appends a.out d.out) (sym (flat_map-append printed_by xs ys))
               (Appends-trans a.out b.out d.out (printed_in xs) (printed_in ys) p.printed q.printed);
+          made = list_any-append is_filled xs ys ∙ ap (λ t. t || list_any is_filled ys) p.made ∙ q.made;
         }
 
-    pub does_nothing : (a : Scene K) → Does gives c (stays (hosted_in a.guests)) a a
-    does_nothing a = record { hosted = refl; did = did_nothing a }
+    pub does_nothing : (a : Scene K) → Does gives c (stays (course_in a)) a a
+    does_nothing a = record { course = refl; did = did_nothing a }
 
-    pub does_then : (m : Moved (List Hosted)) (f : List Hosted → Moved (List Hosted)) (a b d : Scene K)
+    pub does_then : (m : Moved Course) (f : Course → Moved Course) (a b d : Scene K)
         → Does gives c m a b → Does gives c (f m.next) b d → Does gives c (then_do m f) a d
     does_then m f a b d p q =
-        record { hosted = q.hosted; did = did_then m.actions ((f m.next).actions) a b d p.did q.did }
+        record { course = q.course; did = did_then m.actions ((f m.next).actions) a b d p.did q.did }
 
     stops_as : (e : Stop) (o n : Option Action) (gs bs : List (Guest K)) → ((x : Action) → o ≡ Some x → n ≡ Some x)
         → StopsAt gives e o gs bs → StopsAt gives e n gs bs
     stops_as stop.NoMemory o n gs bs more s = s
     stops_as stop.WriteFault o n gs bs more s = s
     stops_as stop.LinkFault o n gs bs more s = ((s.0.0, more (Took s.0.0) s.0.1), s.1)
+    stops_as stop.RecordFull o n gs bs more s = (more Filled s.0, s.1)
     stops_as (stop.StoreFault role) o n gs bs more s = (s.0, more (Kept (record { role = role; change = s.0 })) s.1, s.2)
 
     -- it stopped, and what was to come wasn't done
@@ -108,7 +113,7 @@ module _ {K : Type 0} (gives : Changing K) where
         record {
           count = k.0;
           mid = p.mid;
-          did = subst (λ l. Did gives c l a (scene p.mid b.link b.out)) (sym k.1) p.did;
+          did = subst (λ l. Did gives c l a (scene p.mid b.recorded b.link b.out)) (sym k.1) p.did;
           stops = stops_as e (slice_get xs p.count) (slice_get (xs ++ ys) k.0) p.mid b.guests k.2 p.stops;
         }
 
@@ -121,7 +126,7 @@ module _ {K : Type 0} (gives : Changing K) where
           count = k.0;
           mid = q.mid;
           did =
-              subst (λ l. Did gives c l a (scene q.mid d.link d.out)) (sym k.1)
-              (did_then xs (take q.count ys) a b (scene q.mid d.link d.out) p q.did);
+              subst (λ l. Did gives c l a (scene q.mid d.recorded d.link d.out)) (sym k.1)
+              (did_then xs (take q.count ys) a b (scene q.mid d.recorded d.link d.out) p q.did);
           stops = subst (λ o. StopsAt gives e o q.mid d.guests) (sym k.2) q.stops;
         }

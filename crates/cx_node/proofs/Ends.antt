@@ -17,9 +17,10 @@ use Rattle.cx_msg.specs.declared.kept.Record.{Record}
 use Rattle.cx_role.specs.Role.{Appending, IsStep, Refuses as RefusesAppend}
 use Rattle.cx_role.specs.Snap.{IsSnap, Renewing}
 use Rattle.cx_node.specs.declared.guest.Guest.TheVariants as guest
-use Rattle.cx_node.specs.Changing.{Changing, Refuses, changed_by, changes_of, changing}
+use Rattle.cx_course.specs.Changing.{changed_by, changes_of}
+use Rattle.cx_node.specs.Changing.{Changing, Refuses, changing}
 use Rattle.cx_node.specs.Guest.{Fails, MakesRow, Performs}
-use Rattle.cx_node.specs.Hosted.{ReplicaAt, snap_of, snapped}
+use Rattle.cx_course.specs.Hosted.{ReplicaAt, snap_of, snapped}
 
 first_change : (me : RoleId) (c : Change) → slice_get (changes_of me (changed_by me (Some c))) 0 ≡ Some c
 first_change me c = own (same_role-itself me)

@@ -20,7 +20,8 @@ use Rattle.cx_node.specs.declared.guest.Guest.{Guest}
 use Rattle.cx_node.proofs.Lent.{others_differ}
 use Rattle.cx_node.proofs.StoredRecords.{role_of_disk}
 use Rattle.cx_node.proofs.StoresBack.{Shown, IsGivenBack, GiveBack}
-use Rattle.cx_node.specs.Guest.{AreDistinct, hosted_in, hosted_of, keeper_of, who}
+use Rattle.cx_course.specs.Alike.{AreDistinct}
+use Rattle.cx_node.specs.Guest.{hosted_in, hosted_of, keeper_of, who}
 use Rattle.cx_node.specs.Opening.{disks_in, lent_to}
 use Rattle.cx_node.specs.Stores.{Lent, disks_of, places_of}
 

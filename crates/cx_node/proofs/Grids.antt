@@ -4,7 +4,7 @@ use Rattle.std.proofs.Common.{lit≤, if◌then◌else◌, refl, sym, ap, ◌∙
 use Rattle.std.proofs.lemmas.Bool.Decides.{nat_tests}
 use Rattle.cx_base.specs.Grid.{IsGrid, Shape, make_grid}
 use Rattle.cx_base.specs.Lists.{numbers}
-use Rattle.cx_node.specs.Run.{first_grid}
+use Rattle.cx_course.specs.Run.{first_grid}
 
 abbrev pub firsts : List ℕ
 firsts = 0 ∷ 1 ∷ 2 ∷ 3 ∷ 4 ∷ 5 ∷ 6 ∷ 7 ∷ 8 ∷ 9 ∷ 10 ∷ 11 ∷ 12 ∷ 13 ∷ 14 ∷ 15 ∷ []

@@ -6,7 +6,8 @@ use Rattle.cx_base.specs.declared.role.RoleId.{RoleId}
 use Rattle.cx_base.specs.Role.{same_role}
 use Rattle.cx_keeper.specs.Keeper.{Change}
 use Rattle.cx_node.specs.declared.guest.Guest.{Guest}
-use Rattle.cx_node.specs.Changing.{Changing, StoreChange, changes_of}
+use Rattle.cx_course.specs.Changing.{StoreChange, changes_of}
+use Rattle.cx_node.specs.Changing.{Changing}
 use Rattle.cx_node.specs.Guest.{Changed, Grows, GuestGrows, keeper_of, who}
 
 -- the place after a list at which a prefix of another ends
@@ -14,6 +15,12 @@ pub behind : {X : Type 0} (xs ys : List X) (n : ℕ) → (k : ℕ) × (take k (x
     × (slice_get (xs ++ ys) k ≡ slice_get ys n)
 behind [] ys n = (n, refl, refl)
 behind (x ∷ xs) ys n = let p = behind xs ys n in (suc p.0, ap (λ l. x ∷ l) p.1, p.2)
+
+-- one place further
+pub behind_next : {X : Type 0} (xs ys : List X) (n : ℕ) → (behind xs ys (suc n)).0 ≡ suc (behind xs ys n).0
+unfolding behind
+behind_next [] ys n = refl
+behind_next (x ∷ xs) ys n = ap suc (behind_next xs ys n)
 
 -- the place at which a list's prefix ends, also where more comes
 pub before : {X : Type 0} (xs ys : List X) (n : ℕ) → (k : ℕ) × (take k (xs ++ ys) ≡ take n xs)

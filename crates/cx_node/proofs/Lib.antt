@@ -5,6 +5,7 @@ pub mod Asking
 pub mod Grown
 pub mod Asked
 pub mod Done
+pub mod Fitting
 pub mod Acted
 pub mod Ends
 pub mod Seated
@@ -26,8 +27,13 @@ pub mod OpenedRoles
 pub mod FirstBad
 pub mod SteadySeats
 pub mod ClosedStores
+pub mod Unused
+pub mod FreshRoles
+pub mod PlainRuns
 pub mod HostedRuns
 pub mod Answering
 pub mod Actions
 pub mod Tended
 pub mod Vain
+pub mod AllRoles
+pub mod Walk

@@ -4,7 +4,7 @@ use Rattle.cx_base.specs.declared.role.RoleId.{RoleId}
 use Rattle.cx_node.specs.declared.guest.Guest.{Guest}
 use Rattle.cx_node.specs.declared.guest.Guest.TheVariants as guest
 use Rattle.cx_node.specs.Guest.{hosted_of, keeper_of, who}
-use Rattle.cx_node.specs.Hosted.{is_live}
+use Rattle.cx_course.specs.Hosted.{is_live}
 use Rattle.cx_node.specs.Seat.{IsNamed, named}
 
 pub named_itself : {K : Type 0} (me : RoleId) (h : Guest K) → me ≡ who h → named me h ≡ h

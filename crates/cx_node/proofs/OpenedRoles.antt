@@ -26,8 +26,9 @@ use Rattle.cx_model.specs.Replica.{replica_rules}
 use Rattle.cx_model.specs.Rules.{Rules, refused}
 use Rattle.cx_msg.specs.declared.kept.Record.{Record}
 use Rattle.cx_node.specs.declared.guest.Guest.{Guest}
-use Rattle.cx_node.specs.Guest.{AreDistinct, AreReady, hosted_in, hosted_of, keeper_of, who}
-use Rattle.cx_node.specs.Hosted.{Hosted, is_live, kind_at, name_of}
+use Rattle.cx_course.specs.Alike.{AreDistinct}
+use Rattle.cx_node.specs.Guest.{AreReady, hosted_in, hosted_of, keeper_of, who}
+use Rattle.cx_course.specs.Hosted.{Hosted, is_live, kind_at, name_of}
 use Rattle.cx_node.specs.Opening.{AreApart, AreOpened, HasRecords, HasStore, IsBadAs, IsOpened, is_durable, opened_as}
 use Rattle.cx_node.specs.Serving.{hosts, told_to}
 use Rattle.cx_node.specs.Stores.{has_second}

@@ -10,8 +10,8 @@ use Rattle.cx_base.specs.Role.{same_role}
 use Rattle.cx_base.specs.declared.role.RoleId.{RoleId}
 use Rattle.cx_node.specs.declared.guest.Guest.{Guest}
 use Rattle.cx_node.specs.Guest.{hosted_in, hosted_of, who}
-use Rattle.cx_node.specs.Hosted.{Hosted}
-use Rattle.cx_node.specs.Run.{all_finished, has_finished, is_client, place_of}
+use Rattle.cx_course.specs.Hosted.{Hosted}
+use Rattle.cx_course.specs.Run.{all_finished, has_finished, is_client, place_of}
 
 -- std's numbers in rising order
 pub range_numbers : (first count : ℕ) → range_with_len first count ≡ numbers first count

@@ -3,13 +3,11 @@
 use Rattle.std.proofs.Common.{◌≡◌, ◌⊎◌, inl, inr, ◌≤◌, ◌<◌, ◌+◌, ◌++◌, ℕ, Bool, true, false, List, length, refl, sym}
 use Rattle.std.proofs.Common.{ap, ◌∙◌, subst, arith, if◌then◌else◌, Option, Some, None, Result, Ok, Err}
 use Rattle.std.specs.Prelude.{IfSome, IfErr}
-use Rattle.std.specs.List.{list_all}
 use Rattle.std.specs.Io.KnownBytes.{Consumes}
 use Rattle.cx_base.specs.declared.cluster.Cluster.{Cluster}
 use Rattle.cx_base.specs.declared.role.RoleId.{RoleId}
 use Rattle.cx_cluster.specs.declared.fault.ClusterFault.{ClusterFault}
 use Rattle.cx_cluster.specs.Reading.{header_cluster}
-use Rattle.cx_model.specs.Names.{names_role}
 use Rattle.cx_script.specs.Input.{begun_input, of_header, whole_input}
 use Rattle.cx_script.specs.Lines.{Spelled}
 use Rattle.cx_script.specs.Requests.{requests_of}
@@ -18,16 +16,17 @@ use Rattle.cx_script.proofs.Feeds.{IsFree, AreFree}
 use Rattle.cx_script.proofs.GoesOn.{SpelledOn, overlong}
 use Rattle.cx_script.proofs.Inputs.{Cut, header_goes_on, input_length}
 use Rattle.cx_script.proofs.RequestsGoOn.{requests_length, requests_on}
-use Rattle.cx_node.specs.Input.{FailsRead, IsAnswer, IsRefusal, bad_line_of, behind, header_says, input_of, lines}
+use Rattle.cx_node.specs.Input.{FailsRead, IsAnswer, IsRefusal, bad_line_of, behind, header_says, input_of, lines, may_host}
 use Rattle.cx_node.specs.Input.{refusal_of_part, refused_of, with_port}
+use Rattle.cx_node.specs.declared.input.Accepted.{Accepted}
 use Rattle.cx_node.specs.declared.input.Heard.{Heard}
-use Rattle.cx_node.specs.declared.input.Heard.TheVariants.{Nothing, BadHeader}
+use Rattle.cx_node.specs.declared.input.Heard.TheVariants.{Nothing, BadHeader, Lines}
 use Rattle.cx_node.specs.declared.input.Refusal.{Refusal}
 use Rattle.cx_node.specs.declared.input.Refusal.TheVariants as refusal
 
 -- what one is refused for, the other is
-abbrev RefusedToo : List RoleId → Heard → Heard → Type 0
-RefusedToo roles heard all = (why : Refusal) → refused_of roles heard ≡ Some why → refused_of roles all ≡ Some why
+abbrev RefusedToo : Bool → List RoleId → Heard → Heard → Type 0
+RefusedToo recording roles heard all = (why : Refusal) → refused_of recording roles heard ≡ Some why → refused_of recording roles all ≡ Some why
 
 bad_line_stays : (s all : Spelled) → SpelledOn s all → (bad : Option ℕ) → s.bad ≡ bad → (why : Refusal)
     → bad_line_of s.bad ≡ Some why → bad_line_of all.bad ≡ Some why
@@ -40,31 +39,31 @@ spelled_stays : (named : Bool) (s all : Spelled) → SpelledOn s all → (why : 
 spelled_stays true s all on why is = bad_line_stays s all on s.bad refl why is
 spelled_stays false s all on why is = is
 
-port_stays : (roles : List RoleId) (c : Cluster) (port : Option ℕ) (ls : List (List ℕ)) (last more : List ℕ)
+port_stays : (recording : Bool) (roles : List RoleId) (header : List ℕ) (c : Cluster) (port : Option ℕ) (ls : List (List ℕ)) (last more : List ℕ)
     → AreFree ls → IsFree last
-    → RefusedToo roles (with_port port c (lines_text ls ++ overlong 1024 last))
-    (with_port port c (lines_text ls ++ (last ++ more)))
-port_stays roles c None ls last more free last_free = λ why is. is
-port_stays roles c (Some port) ls last more free last_free =
-    λ why is. spelled_stays (list_all (λ (r : RoleId). names_role c r) roles) _ _
+    → RefusedToo recording roles (with_port port header c (lines_text ls ++ overlong 1024 last))
+    (with_port port header c (lines_text ls ++ (last ++ more)))
+port_stays recording roles header c None ls last more free last_free = λ why is. is
+port_stays recording roles header c (Some port) ls last more free last_free =
+    λ why is. spelled_stays (may_host recording c roles) _ _
     (requests_on c ls last more free last_free) why is
 
-behind_stays : (roles : List RoleId) (said : Result Cluster ClusterFault) (ls : List (List ℕ)) (last more : List ℕ)
+behind_stays : (recording : Bool) (roles : List RoleId) (header : List ℕ) (said : Result Cluster ClusterFault) (ls : List (List ℕ)) (last more : List ℕ)
     → AreFree ls → IsFree last
-    → RefusedToo roles (behind said (lines_text ls ++ overlong 1024 last))
-    (behind said (lines_text ls ++ (last ++ more)))
-behind_stays roles (Err fault) ls last more free last_free = λ why is. is
-behind_stays roles (Ok c) ls last more free last_free = port_stays roles c c.base_port ls last more free last_free
+    → RefusedToo recording roles (behind said header (lines_text ls ++ overlong 1024 last))
+    (behind said header (lines_text ls ++ (last ++ more)))
+behind_stays recording roles header (Err fault) ls last more free last_free = λ why is. is
+behind_stays recording roles header (Ok c) ls last more free last_free = port_stays recording roles header c c.base_port ls last more free last_free
 
 -- what is heard of a header in the bytes that count, with those after it
 abbrev heard_in : Cut → Bool → Heard
 heard_in cut long = of_header header_says cut (if long then BadHeader else Nothing)
 
-refused_stays : (roles : List RoleId) (bytes more : List ℕ) → RefusedToo roles (lines bytes) (input_of (bytes ++ more))
+refused_stays : (recording : Bool) (roles : List RoleId) (bytes more : List ℕ) → RefusedToo recording roles (lines bytes) (input_of (bytes ++ more))
 unfolding begun_input whole_input
-refused_stays roles bytes more =
-    header_goes_on (λ cut long all. RefusedToo roles (heard_in cut long) (of_header header_says all BadHeader)) (record {
-      found = λ long header ls last more free last_free. behind_stays roles (header_cluster header) ls last more free last_free;
+refused_stays recording roles bytes more =
+    header_goes_on (λ cut long all. RefusedToo recording roles (heard_in cut long) (of_header header_says all BadHeader)) (record {
+      found = λ long header ls last more free last_free. behind_stays recording roles header (header_cluster header) ls last more free last_free;
       long = λ why is. is;
       open_yet = λ all why is. cc;
     }) bytes more
@@ -79,33 +78,33 @@ spelled_length true s n short good = by_line s.bad refl good
     by_line (Some line) is good = cc
 spelled_length false s n short good = cc
 
-port_length : (roles : List RoleId) (c : Cluster) (port : Option ℕ) (ls : List (List ℕ)) (last : List ℕ) → AreFree ls
+port_length : (recording : Bool) (roles : List RoleId) (header : List ℕ) (c : Cluster) (port : Option ℕ) (ls : List (List ℕ)) (last : List ℕ) → AreFree ls
     → IsFree last
-    → refused_of roles (with_port port c (lines_text ls ++ overlong 1024 last)) ≡ None
+    → refused_of recording roles (with_port port header c (lines_text ls ++ overlong 1024 last)) ≡ None
     → length (lines_text ls) + length last ≤ 67239935
-port_length roles c None ls last free last_free good = cc
-port_length roles c (Some port) ls last free last_free good =
-    spelled_length (list_all (λ (r : RoleId). names_role c r) roles)
+port_length recording roles header c None ls last free last_free good = cc
+port_length recording roles header c (Some port) ls last free last_free good =
+    spelled_length (may_host recording c roles)
     (requests_of c (lines_text ls ++ overlong 1024 last)) (length (lines_text ls) + length last)
     (requests_length c ls last free last_free) good
 
-behind_length : (roles : List RoleId) (said : Result Cluster ClusterFault) (ls : List (List ℕ)) (last : List ℕ)
+behind_length : (recording : Bool) (roles : List RoleId) (header : List ℕ) (said : Result Cluster ClusterFault) (ls : List (List ℕ)) (last : List ℕ)
     → AreFree ls → IsFree last
-    → refused_of roles (behind said (lines_text ls ++ overlong 1024 last)) ≡ None
+    → refused_of recording roles (behind said header (lines_text ls ++ overlong 1024 last)) ≡ None
     → length (lines_text ls) + length last ≤ 67239935
-behind_length roles (Err fault) ls last free last_free good = cc
-behind_length roles (Ok c) ls last free last_free good = port_length roles c c.base_port ls last free last_free good
+behind_length recording roles header (Err fault) ls last free last_free good = cc
+behind_length recording roles header (Ok c) ls last free last_free good = port_length recording roles header c c.base_port ls last free last_free good
 
 abbrev IsSome : Option Refusal → Type 0
 IsSome None = ⊥
 IsSome (Some why) = Unit {0}
 
-taken_length : (roles : List RoleId) (bytes : List ℕ) → refused_of roles (lines bytes) ≡ None → length bytes ≤ 68000000
+taken_length : (recording : Bool) (roles : List RoleId) (bytes : List ℕ) → refused_of recording roles (lines bytes) ≡ None → length bytes ≤ 68000000
 unfolding begun_input
-taken_length roles bytes good =
-    input_length (λ cut long. refused_of roles (heard_in cut long) ≡ None) (record {
+taken_length recording roles bytes good =
+    input_length (λ cut long. refused_of recording roles (heard_in cut long) ≡ None) (record {
       found =
-          λ long header ls last free last_free good. behind_length roles
+          λ long header ls last free last_free good. behind_length recording roles header
           (header_cluster header) ls last free last_free good;
       long = λ good. subst IsSome good tt;
     }) bytes good
@@ -118,53 +117,66 @@ of_all (Some all) None bytes P consumed each = absurd consumed
 of_all (Some all) (Some more) bytes P consumed each = subst P (sym consumed) (each more)
 
 -- the refusal of bytes that were read is that of all
-pub refused_of_all : (roles : List RoleId) (left left_after : Option (List ℕ)) (bytes : List ℕ) (why : Refusal)
-    → Consumes left left_after bytes → refused_of roles (lines bytes) ≡ Some why
-    → IfSome left (λ all. refused_of roles (input_of all) ≡ Some why)
-refused_of_all roles left left_after bytes why consumed is =
-    of_all left left_after bytes (λ all. refused_of roles (input_of all) ≡ Some why) consumed
-    (λ more. refused_stays roles bytes more why is)
+pub refused_of_all : (recording : Bool) (roles : List RoleId) (left left_after : Option (List ℕ)) (bytes : List ℕ) (why : Refusal)
+    → Consumes left left_after bytes → refused_of recording roles (lines bytes) ≡ Some why
+    → IfSome left (λ all. refused_of recording roles (input_of all) ≡ Some why)
+refused_of_all recording roles left left_after bytes why consumed is =
+    of_all left left_after bytes (λ all. refused_of recording roles (input_of all) ≡ Some why) consumed
+    (λ more. refused_stays recording roles bytes more why is)
 
 -- more bytes than an input has are refused
-pub long_is_refused : (roles : List RoleId) (bytes : List ℕ) → 68000000 < length bytes
-    → IsAnswer false roles (lines bytes) (Err refusal.ReadFault) → ⊥
-long_is_refused roles bytes long answer = absurd (omega (arith, long, taken_length roles bytes answer.0))
+pub long_is_refused : (recording : Bool) (roles : List RoleId) (bytes : List ℕ) → 68000000 < length bytes
+    → IsAnswer false recording roles (lines bytes) (Err refusal.ReadFault) → ⊥
+long_is_refused recording roles bytes long answer = absurd (omega (arith, long, taken_length recording roles bytes answer.0))
 
-lines_complete : (roles : List RoleId) (bytes more : List ℕ) (r : Result (Cluster × Spelled) Refusal)
-    → (r ≡ Err refusal.ReadFault → ⊥) → IsAnswer false roles (lines bytes) r
-    → IfErr r (IsRefusal (refused_of roles (input_of (bytes ++ more))))
-lines_complete roles bytes more (Ok p) told answer = tt
-lines_complete roles bytes more (Err refusal.NoMemory) told answer = tt
-lines_complete roles bytes more (Err refusal.ReadFault) told answer = absurd (told refl)
-lines_complete roles bytes more (Err (refusal.BadInput line)) told answer =
-    refused_stays roles bytes more (refusal.BadInput line) answer
-lines_complete roles bytes more (Err refusal.BadWords) told answer =
-    refused_stays roles bytes more refusal.BadWords answer
+lines_complete : (recording : Bool) (roles : List RoleId) (bytes more : List ℕ) (r : Result Accepted Refusal)
+    → (r ≡ Err refusal.ReadFault → ⊥) → IsAnswer false recording roles (lines bytes) r
+    → IfErr r (IsRefusal (refused_of recording roles (input_of (bytes ++ more))))
+lines_complete recording roles bytes more (Ok p) told answer = tt
+lines_complete recording roles bytes more (Err refusal.NoMemory) told answer = tt
+lines_complete recording roles bytes more (Err refusal.ReadFault) told answer = absurd (told refl)
+lines_complete recording roles bytes more (Err (refusal.BadInput line)) told answer =
+    refused_stays recording roles bytes more (refusal.BadInput line) answer
+lines_complete recording roles bytes more (Err refusal.BadWords) told answer =
+    refused_stays recording roles bytes more refusal.BadWords answer
 
 -- where no failed read is answered to bytes that were read, their refusal is that of all
-pub all_complete : (roles : List RoleId) (left left_after : Option (List ℕ)) (bytes : List ℕ)
-    (r : Result (Cluster × Spelled) Refusal) → Consumes left left_after bytes
-    → (r ≡ Err refusal.ReadFault → ⊥) → IsAnswer false roles (lines bytes) r
-    → IfSome left (λ all. IfErr r (IsRefusal (refused_of roles (input_of all))))
-all_complete roles left left_after bytes r consumed told answer =
-    of_all left left_after bytes (λ all. IfErr r (IsRefusal (refused_of roles (input_of all)))) consumed
-    (λ more. lines_complete roles bytes more r told answer)
+pub all_complete : (recording : Bool) (roles : List RoleId) (left left_after : Option (List ℕ)) (bytes : List ℕ)
+    (r : Result Accepted Refusal) → Consumes left left_after bytes
+    → (r ≡ Err refusal.ReadFault → ⊥) → IsAnswer false recording roles (lines bytes) r
+    → IfSome left (λ all. IfErr r (IsRefusal (refused_of recording roles (input_of all))))
+all_complete recording roles left left_after bytes r consumed told answer =
+    of_all left left_after bytes (λ all. IfErr r (IsRefusal (refused_of recording roles (input_of all)))) consumed
+    (λ more. lines_complete recording roles bytes more r told answer)
 
 -- what is answered to bytes that were read before a read failed
-fails_read : (roles : List RoleId) (left left_after : Option (List ℕ)) (bytes : List ℕ)
-    (r : Result (Cluster × Spelled) Refusal) → Consumes left left_after bytes
-    → IsAnswer false roles (lines bytes) r → IfErr r (FailsRead roles left left_after)
-fails_read roles left left_after bytes (Ok p) consumed answer = tt
-fails_read roles left left_after bytes (Err refusal.NoMemory) consumed answer = inl refl
-fails_read roles left left_after bytes (Err refusal.ReadFault) consumed answer =
+fails_read : (recording : Bool) (roles : List RoleId) (left left_after : Option (List ℕ)) (bytes : List ℕ)
+    (r : Result Accepted Refusal) → Consumes left left_after bytes
+    → IsAnswer false recording roles (lines bytes) r → IfErr r (FailsRead recording roles left left_after)
+fails_read recording roles left left_after bytes (Ok p) consumed answer = tt
+fails_read recording roles left left_after bytes (Err refusal.NoMemory) consumed answer = inl refl
+fails_read recording roles left left_after bytes (Err refusal.ReadFault) consumed answer =
     inr (bytes, consumed, sym (ap refusal_of_part answer.0))
-fails_read roles left left_after bytes (Err (refusal.BadInput line)) consumed answer =
+fails_read recording roles left left_after bytes (Err (refusal.BadInput line)) consumed answer =
     inr (bytes, consumed, sym (ap refusal_of_part answer))
-fails_read roles left left_after bytes (Err refusal.BadWords) consumed answer =
+fails_read recording roles left left_after bytes (Err refusal.BadWords) consumed answer =
     inr (bytes, consumed, sym (ap refusal_of_part answer))
 
-pub read_failed : (roles : List RoleId) (left left_after : Option (List ℕ)) (reads reads_after : ℕ) (bytes : List ℕ)
-    (r : Result (Cluster × Spelled) Refusal) → Consumes left left_after bytes
-    → IsAnswer false roles (lines bytes) r → (reads_after ≡ reads) ⊎ IfErr r (FailsRead roles left left_after)
-read_failed roles left left_after reads reads_after bytes r consumed answer =
-    inr (fails_read roles left left_after bytes r consumed answer)
+pub read_failed : (recording : Bool) (roles : List RoleId) (left left_after : Option (List ℕ)) (reads reads_after : ℕ) (bytes : List ℕ)
+    (r : Result Accepted Refusal) → Consumes left left_after bytes
+    → IsAnswer false recording roles (lines bytes) r → (reads_after ≡ reads) ⊎ IfErr r (FailsRead recording roles left left_after)
+read_failed recording roles left left_after reads reads_after bytes r consumed answer =
+    inr (fails_read recording roles left left_after bytes r consumed answer)
+
+-- what is answered to lines that are refused
+pub refused_answer : (ended recording : Bool) (roles : List RoleId) (header : List ℕ) (c : Cluster) (s : Spelled) (why : Refusal)
+    → refused_of recording roles (Lines header c s) ≡ Some why → IsAnswer ended recording roles (Lines header c s) (Err why)
+refused_answer ended recording roles header c s refusal.NoMemory is = tt
+refused_answer ended recording roles header c s refusal.ReadFault is = absurd (never (may_host recording c roles) s.bad is)
+  where
+    never : (b : Bool) (bad : Option ℕ) → (if b then bad_line_of bad else Some refusal.BadWords) ≡ Some refusal.ReadFault → ⊥
+    never true None e = cc
+    never true (Some line) e = cc
+    never false bad e = cc
+refused_answer ended recording roles header c s (refusal.BadInput line) is = is
+refused_answer ended recording roles header c s refusal.BadWords is = is

@@ -1,8 +1,10 @@
 -- What a run leaves as it was: the names of the hosted roles, their order, and which of them have a store.
-use Rattle.std.proofs.Common.{◌≡◌, ◌⊎◌, ◌==◌, ℕ, suc, arith, Bool, true, false, List, [], ◌∷◌, length, length-set}
+use Rattle.std.proofs.Common.{◌≡◌, ◌⊎◌, ◌==◌, ℕ, suc, arith, Bool, true, false, List, [], ◌∷◌, length, length-set, map}
 use Rattle.std.proofs.Common.{take, Option, None, Some, option_map, Result, Ok, Err, refl, sym, ap, ap₂, ◌∙◌, subst, inl, inr, ◌++◌}
 use Rattle.std.specs.Prelude.{IfErr, IfOk, slice_get, slice_set}
-use Rattle.std.proofs.lemmas.List.{map-append}
+use Rattle.std.specs.Io.KnownBytes.{Appends}
+use Rattle.std.specs.List.{list_any}
+use Rattle.std.proofs.lemmas.List.{map-append, take-map}
 use Rattle.std.proofs.lemmas.Option.{same_Some}
 use Rattle.cx_base.specs.declared.cluster.Cluster.{Cluster}
 use Rattle.cx_base.specs.declared.role.RoleId.{RoleId}
@@ -18,18 +20,49 @@ use Rattle.cx_node.specs.declared.guest.Guest.{Guest}
 use Rattle.cx_node.specs.declared.node.RunEnd.{RunEnd}
 use Rattle.cx_node.specs.declared.node.Stop.{Stop}
 use Rattle.cx_node.specs.declared.node.Stop.TheVariants as stop
-use Rattle.cx_node.specs.Action.{Action, kept_in}
-use Rattle.cx_node.specs.Changing.{Changing, Refuses, changes_of}
-use Rattle.cx_node.specs.Doing.{Did, GuestFails, GuestsRest, Scene, StopsAt, scene}
-use Rattle.cx_node.specs.Guest.{AreDistinct, Changed, FailsIn, Grows, Rests, hosted_in, hosted_of, keeper_of, who}
-use Rattle.cx_node.specs.Hosted.{name_of}
+use Rattle.cx_course.specs.Action.{Action, Printed, is_filled, kept_in, printed_in}
+use Rattle.cx_course.specs.Changing.{changes_of}
+use Rattle.cx_node.specs.Changing.{Changing, Refuses}
+use Rattle.cx_edge.specs.Link.{LinkHistory}
+use Rattle.cx_edge.specs.Sink.{AppendsPart}
+use Rattle.cx_record.specs.Numbers.{Recorded}
+use Rattle.cx_node.specs.Acts.{Failures}
+use Rattle.cx_node.specs.Hosting.{Ran, RunsBehind, RunsPartBehind}
+use Rattle.cx_node.specs.Doing.{Did, GuestFails, GuestsGrow, GuestsRest, Linked, Scene, StopsAt, course_in, scene}
+use Rattle.cx_node.specs.Doing.{with_actions}
+use Rattle.cx_course.specs.Alike.{AreDistinct}
+use Rattle.cx_node.specs.Guest.{Changed, FailsIn, Grows, Rests, hosted_in, hosted_of, keeper_of, who}
+use Rattle.cx_course.specs.Hosted.{name_of}
 use Rattle.cx_node.specs.Node.{Runs, RunsPart}
 use Rattle.cx_node.specs.Opening.{disks_in, lent_to}
 use Rattle.cx_node.specs.Stores.{Lent, disks_of, is_two, places_of}
-use Rattle.cx_node.specs.Tending.{node_run}
-use Rattle.cx_node.proofs.Done.{did_nothing, guests_rest, same_at}
+use Rattle.cx_course.specs.Tending.{node_run}
+use Rattle.cx_node.proofs.Asked.{linked_nothing}
+use Rattle.cx_node.proofs.Done.{did_nothing, did_then, guests_rest, same_at, then_part}
+use Rattle.cx_node.proofs.Grown.{before}
 use Rattle.cx_node.proofs.OpenedRoles.{get_beside, get_map, map_get}
 use Rattle.cx_node.proofs.Turned.{no_end}
+
+-- nothing is kept, and nothing left out, among printed bytes
+text_kept : (bytes : List ℕ) → kept_in (map Printed bytes) ≡ []
+text_kept [] = refl
+text_kept (b ∷ bs) = text_kept bs
+
+text_printed : (bytes : List ℕ) → printed_in (map Printed bytes) ≡ bytes
+text_printed [] = refl
+text_printed (b ∷ bs) = ap (λ l. b ∷ l) (text_printed bs)
+
+-- nothing is bound, taken or sent among them
+text_same : (c : Cluster) (bytes : List ℕ) (h : LinkHistory) → with_actions c [] h ≡ with_actions c (map Printed bytes) h
+text_same c [] h = refl
+text_same c (b ∷ bs) h = text_same c bs h
+
+linked_text : (c : Cluster) (bytes : List ℕ) (a : Option LinkHistory) → Linked c (map Printed bytes) a a
+linked_text c bytes a = λ after e. let one = linked_nothing c a after e in (one.0, one.1, one.2 ∙ text_same c bytes one.0)
+
+text_made : (bytes : List ℕ) → list_any is_filled (map Printed bytes) ≡ false
+text_made [] = refl
+text_made (b ∷ bs) = text_made bs
 
 -- each role has its name, and a store of the same shape, if it has one
 pub record IsSteady {K : Type 0} (shape : K → Bool) (old new : List (Guest K)) : Type 0 where
@@ -37,7 +70,7 @@ pub record IsSteady {K : Type 0} (shape : K → Bool) (old new : List (Guest K))
   pub each : (i : ℕ) (g h : Guest K) → slice_get old i ≡ Some g → slice_get new i ≡ Some h → (who h ≡ who g)
       × (option_map shape (keeper_of h) ≡ option_map shape (keeper_of g))
 
-steady_then : {K : Type 0} (shape : K → Bool) (old mid new : List (Guest K)) → IsSteady shape old mid
+pub steady_then : {K : Type 0} (shape : K → Bool) (old mid new : List (Guest K)) → IsSteady shape old mid
     → IsSteady shape mid new → IsSteady shape old new
 steady_then shape old mid new p q = record {
   count = q.count ∙ p.count;
@@ -164,25 +197,127 @@ module _ {K : Type 0} (gives : Changing K) (shape : K → Bool)
   steady_stops stop.NoMemory next old new s = steady_rest old new s
   steady_stops stop.WriteFault next old new s = steady_rest old new s
   steady_stops stop.LinkFault next old new s = steady_rest old new s.1
+  steady_stops stop.RecordFull next old new s = steady_rest old new s.1
   steady_stops (stop.StoreFault role) next old new s = steady_fail role s.0 old new s.2
 
   -- a run leaves all of it
-  pub steady_run : (tend : Option ℕ) (c : Cluster) (turns : ℕ) (answer : Result RunEnd Stop) (old new : Scene K)
-      → IfOk answer (λ e. Runs gives tend c turns e old new)
-      → IfErr answer (λ e. RunsPart gives e tend c turns old new) → IsSteady shape old.guests new.guests
-  steady_run tend c turns (Ok e) old new done part =
-      steady_did c ((node_run tend c done.0 (hosted_in old.guests)).actions) old new done.1.did
-  steady_run tend c turns (Err s) old new done part =
-      let p = part.2 in
-      let all = (node_run tend c part.0 (hosted_in old.guests)).actions in
+  pub steady_run : (tend : Option ℕ) (c : Cluster) (turns : ℕ) (text : List ℕ) (answer : Result RunEnd Stop) (old new : Scene K)
+      → IfOk answer (λ e. RunsBehind gives tend c turns text e old new)
+      → IfErr answer (λ e. RunsPartBehind gives tend c turns text e old new) → IsSteady shape old.guests new.guests
+  steady_run tend c turns text (Ok e) old new done part =
+      steady_did c (map Printed text ++ (node_run tend c done.takes (course_in old)).actions) old new done.did
+  steady_run tend c turns text (Err s) old new done part =
+      let p = part.part in
+      let all = map Printed text ++ (node_run tend c part.takes (course_in old)).actions in
       steady_then shape old.guests p.mid new.guests (steady_did c (take p.count all) old
-      (scene p.mid new.link new.out) p.did) (steady_stops s (slice_get all p.count) p.mid new.guests p.stops)
+      (scene p.mid new.recorded new.link new.out) p.did) (steady_stops s (slice_get all p.count) p.mid new.guests p.stops)
+
+-- ---- behind a text
+
+module _ {K : Type 0} (gives : Changing K) (tend : Option ℕ) (c : Cluster) (turns : ℕ) (text : List ℕ) where
+  -- nothing but bytes was printed
+  did_print : (bytes : List ℕ) (guests : List (Guest K)) (known : Option Recorded) (link : Option LinkHistory)
+      (was now : Option (List ℕ)) → Appends was now bytes
+      → Did gives c (map Printed bytes) (scene guests known link was) (scene guests known link now)
+  did_print bytes guests known link was now printed =
+      let none = did_nothing gives c (scene guests known link was) in
+      record {
+        names = refl;
+        kept = subst (λ ks. GuestsGrow gives ks guests guests) (sym (text_kept bytes)) none.kept;
+        link = linked_text c bytes link;
+        printed = subst (Appends was now) (sym (text_printed bytes)) printed;
+        made = text_made bytes;
+      }
+
+  -- a part of the text was written
+  pub behind_cut : (guests : List (Guest K)) (known : Option Recorded) (link : Option LinkHistory)
+      (was now : Option (List ℕ)) → AppendsPart was now text
+      → RunsPartBehind gives tend c turns text stop.WriteFault (scene guests known link was) (scene guests known link now)
+  behind_cut guests known link was now part =
+      let s = course_in (scene guests known link was) in
+      let actions = (node_run tend c [] s).actions in
+      let k = before (map Printed text) actions part.0 in
+      record {
+        takes = [];
+        underway = no_end tend c turns s;
+        part = record {
+          count = k.0;
+          mid = guests;
+          did = subst (λ l. Did gives c l (scene guests known link was) (scene guests known link now))
+              (sym (k.1 ∙ take-map Printed part.0 text)) (did_print (take part.0 text) guests known link was now part.1);
+          stops = guests_rest gives guests;
+        };
+      }
+
+  module _ (guests : List (Guest K)) (known : Option Recorded) (link : Option LinkHistory) (was mid : Option (List ℕ))
+      (new : Scene K) (printed : Appends was mid text) where
+    -- it was written, and the whole run was made
+    behind_run : (e : RunEnd) → RunsBehind gives tend c turns [] e (scene guests known link mid) new
+        → RunsBehind gives tend c turns text e (scene guests known link was) new
+    behind_run e runs = record {
+      takes = runs.takes;
+      did =
+          did_then gives c (map Printed text) ((node_run tend c runs.takes (course_in (scene guests known link mid))).actions)
+          (scene guests known link was) (scene guests known link mid) new (did_print text guests known link was mid printed)
+          runs.did;
+      is_end = runs.is_end;
+      taken = runs.taken;
+    }
+
+    -- or a part of it
+    behind_part : (e : Stop) → RunsPartBehind gives tend c turns [] e (scene guests known link mid) new
+        → RunsPartBehind gives tend c turns text e (scene guests known link was) new
+    behind_part e runs = record {
+      takes = runs.takes;
+      underway = runs.underway;
+      part =
+          then_part gives c (map Printed text) ((node_run tend c runs.takes (course_in (scene guests known link mid))).actions) e
+          (scene guests known link was) (scene guests known link mid) new (did_print text guests known link was mid printed)
+          runs.part;
+    }
+
+    pub ran_behind : (answer : Result RunEnd Stop) (was_failed failed now_failed : Failures) → was_failed ≡ failed
+        → Ran gives tend c turns [] answer (scene guests known link mid) new failed now_failed
+        → Ran gives tend c turns text answer (scene guests known link was) new was_failed now_failed
+    ran_behind answer was_failed failed now_failed same ran =
+        subst (λ f. Ran gives tend c turns text answer (scene guests known link was) new f now_failed) (sym same) (record {
+          done = done answer ran.done;
+          part = part answer ran.part;
+          written = ran.written;
+          unwritten = ran.unwritten;
+          linked = ran.linked;
+          unlinked = ran.unlinked;
+        })
+      where
+        done : (a : Result RunEnd Stop) → IfOk a (λ e. RunsBehind gives tend c turns [] e (scene guests known link mid) new)
+            → IfOk a (λ e. RunsBehind gives tend c turns text e (scene guests known link was) new)
+        done (Ok e) runs = behind_run e runs
+        done (Err e) runs = tt
+
+        part : (a : Result RunEnd Stop) → IfErr a (λ e. RunsPartBehind gives tend c turns [] e (scene guests known link mid) new)
+            → IfErr a (λ e. RunsPartBehind gives tend c turns text e (scene guests known link was) new)
+        part (Ok e) runs = tt
+        part (Err e) runs = behind_part e runs
+
+-- behind no text
+pub runs_alone : {K : Type 0} (gives : Changing K) (tend : Option ℕ) (c : Cluster) (turns : ℕ) (answer : Result RunEnd Stop)
+    (old new : Scene K) → IfOk answer (λ e. Runs gives tend c turns e old new)
+    → IfOk answer (λ e. RunsBehind gives tend c turns [] e old new)
+runs_alone gives tend c turns (Ok e) old new runs =
+    record { takes = runs.0; did = runs.1.did; is_end = runs.2; taken = runs.3 }
+runs_alone gives tend c turns (Err e) old new runs = tt
+
+pub part_alone : {K : Type 0} (gives : Changing K) (tend : Option ℕ) (c : Cluster) (turns : ℕ) (answer : Result RunEnd Stop)
+    (old new : Scene K) → IfErr answer (λ e. RunsPart gives e tend c turns old new)
+    → IfErr answer (λ e. RunsPartBehind gives tend c turns [] e old new)
+part_alone gives tend c turns (Ok e) old new runs = tt
+part_alone gives tend c turns (Err e) old new runs = record { takes = runs.0; underway = runs.1; part = runs.2 }
 
 -- memory ran out before the run
 pub runs_none : {K : Type 0} (gives : Changing K) (tend : Option ℕ) (c : Cluster) (turns : ℕ) (s : Scene K)
-    → RunsPart gives stop.NoMemory tend c turns s s
-runs_none gives tend c turns s = (
-  [],
-  no_end tend c turns (hosted_in s.guests),
-  record { count = 0; mid = s.guests; did = did_nothing gives c s; stops = guests_rest gives s.guests },
-)
+    → RunsPartBehind gives tend c turns [] stop.NoMemory s s
+runs_none gives tend c turns s = record {
+  takes = [];
+  underway = no_end tend c turns (course_in s);
+  part = record { count = 0; mid = s.guests; did = did_nothing gives c s; stops = guests_rest gives s.guests };
+}

@@ -17,7 +17,8 @@ use Rattle.cx_journal.specs.declared.store.Store.{Store}
 use Rattle.cx_journal.specs.declared.store.Store.TheVariants.{One, Two}
 use Rattle.cx_journal.proofs.Stores.{store_whole_after}
 use Rattle.cx_msg.specs.declared.kept.Record.{Record}
-use Rattle.cx_node.specs.Changing.{Changing, Refuses, lists_after}
+use Rattle.cx_course.specs.Changing.{lists_after}
+use Rattle.cx_node.specs.Changing.{Changing, Refuses}
 use Rattle.cx_node.specs.Guest.{Changed, Fails}
 use Rattle.cx_node.specs.Hosting.{store_gives}
 use Rattle.cx_node.specs.Stores.{Lent, NoneFailed, disks_of, is_two}

@@ -1,6 +1,7 @@
 -- What is said of an input that is taken: its cluster has a port, and each client's requests are a script.
-use Rattle.std.proofs.Common.{◌≡◌, ℕ, Bool, true, false, List, refl, sym, subst, Option, Some, None, Result, Ok, Err}
+use Rattle.std.proofs.Common.{◌≡◌, ◌||◌, not, ℕ, Bool, true, false, List, refl, sym, ap, ◌∙◌, subst, if◌then◌else◌, Option, Some, None, Result, Ok, Err}
 use Rattle.std.specs.Prelude.{IfOk, IsTrue, is_some}
+use Rattle.std.specs.List.{All, list_all}
 use Rattle.cx_base.specs.declared.cluster.Cluster.{Cluster}
 use Rattle.cx_base.specs.declared.role.RoleId.{RoleId}
 use Rattle.cx_cluster.specs.declared.fault.ClusterFault.{ClusterFault}
@@ -10,32 +11,42 @@ use Rattle.cx_script.specs.Input.{of_header, whole_input}
 use Rattle.cx_script.specs.Lines.{Spelled}
 use Rattle.cx_script.specs.Requests.{IsScript, script_of}
 use Rattle.cx_script.proofs.Rising.{requests_are_scripts}
-use Rattle.cx_node.specs.Input.{IsAnswer, behind, header_says, heard_of, input_of, with_port}
+use Rattle.cx_record.specs.Readable.{IsRecordable}
+use Rattle.cx_record.proofs.Spelled.{scripts_are_recordable}
+use Rattle.cx_journal.proofs.Payloads.{both_so}
+use Rattle.cx_model.specs.Names.{names_role}
+use Rattle.cx_node.specs.declared.input.Accepted.{Accepted}
+use Rattle.cx_node.specs.Input.{IsAnswer, are_all, bad_line_of, behind, header_says, heard_of, input_of, may_host}
+use Rattle.cx_node.specs.Input.{refused_of, with_port}
 use Rattle.cx_node.specs.declared.input.Heard.{Heard}
 use Rattle.cx_node.specs.declared.input.Heard.TheVariants.{Nothing, BadHeader, Lines}
 use Rattle.cx_node.specs.declared.input.Refusal.{Refusal}
+use Rattle.cx_node.specs.declared.input.Refusal.TheVariants as refusal
 
 record Taken (c : Cluster) (spelled : Spelled) : Type 0 where
   port : IsTrue (is_some c.base_port)
   scripts : (client : ℕ) → IsScript c client (script_of client spelled.events)
+  recordable : (client : ℕ) → All (IsRecordable c) (script_of client spelled.events)
 
 -- what a whole input says
 abbrev IsWhole : Heard → Type 0
 IsWhole Nothing = ⊥
 IsWhole BadHeader = Unit {0}
-IsWhole (Lines c spelled) = Taken c spelled
+IsWhole (Lines header c spelled) = Taken c spelled
 
-port_whole : (c : Cluster) (rest : List ℕ) (port : Option ℕ) → c.base_port ≡ port → IsWhole (with_port port c rest)
-port_whole c rest None is = tt
-port_whole c rest (Some port) is = record { port = rw is refl; scripts = requests_are_scripts c rest }
+port_whole : (header : List ℕ) (c : Cluster) (rest : List ℕ) (port : Option ℕ) → c.base_port ≡ port
+    → IsWhole (with_port port header c rest)
+port_whole header c rest None is = tt
+port_whole header c rest (Some port) is =
+    record { port = rw is refl; scripts = requests_are_scripts c rest; recordable = scripts_are_recordable c rest }
 
-behind_whole : (said : Result Cluster ClusterFault) (rest : List ℕ) → IsWhole (behind said rest)
-behind_whole (Err fault) rest = tt
-behind_whole (Ok c) rest = port_whole c rest c.base_port refl
+behind_whole : (said : Result Cluster ClusterFault) (header rest : List ℕ) → IsWhole (behind said header rest)
+behind_whole (Err fault) header rest = tt
+behind_whole (Ok c) header rest = port_whole header c rest c.base_port refl
 
 header_whole : (cut : Option (List ℕ × List ℕ)) → IsWhole (of_header header_says cut BadHeader)
 header_whole None = tt
-header_whole (Some parts) = behind_whole (header_cluster parts.0) parts.1
+header_whole (Some parts) = behind_whole (header_cluster parts.0) parts.0 parts.1
 
 input_whole : (bytes : List ℕ) → IsWhole (input_of bytes)
 unfolding whole_input
@@ -48,17 +59,62 @@ nothing_is_open true bytes heard is nothing =
     absurd (subst IsWhole nothing (subst IsWhole (sym is) (input_whole bytes)))
 nothing_is_open false bytes heard is nothing = refl
 
-taken_of : (roles : List RoleId) (bytes : List ℕ) (p : Cluster × Spelled)
-    → IsAnswer true roles (input_of bytes) (Ok p) → Taken p.0 p.1
-taken_of roles bytes p answer = subst IsWhole answer.0 (input_whole bytes)
+taken_of : (recording : Bool) (roles : List RoleId) (bytes : List ℕ) (a : Accepted)
+    → IsAnswer true recording roles (input_of bytes) (Ok a) → Taken a.cluster a.schedule
+taken_of recording roles bytes a answer = subst IsWhole answer.0 (input_whole bytes)
 
-pub answer_port : (roles : List RoleId) (bytes : List ℕ) (r : Result (Cluster × Spelled) Refusal)
-    → IsAnswer true roles (input_of bytes) r → IfOk r (λ p. IsTrue (is_some p.0.base_port))
-answer_port roles bytes (Ok p) answer = (taken_of roles bytes p answer).port
-answer_port roles bytes (Err why) answer = tt
+pub answer_port : (recording : Bool) (roles : List RoleId) (bytes : List ℕ) (r : Result Accepted Refusal)
+    → IsAnswer true recording roles (input_of bytes) r → IfOk r (λ a. IsTrue (is_some a.cluster.base_port))
+answer_port recording roles bytes (Ok a) answer = (taken_of recording roles bytes a answer).port
+answer_port recording roles bytes (Err why) answer = tt
 
-pub answer_scripts : (roles : List RoleId) (bytes : List ℕ) (r : Result (Cluster × Spelled) Refusal)
-    → IsAnswer true roles (input_of bytes) r
-    → IfOk r (λ p. (client : ℕ) → IsScript p.0 client (script_of client p.1.events))
-answer_scripts roles bytes (Ok p) answer = (taken_of roles bytes p answer).scripts
-answer_scripts roles bytes (Err why) answer = tt
+pub answer_scripts : (recording : Bool) (roles : List RoleId) (bytes : List ℕ) (r : Result Accepted Refusal)
+    → IsAnswer true recording roles (input_of bytes) r
+    → IfOk r (λ a. (client : ℕ) → IsScript a.cluster client (script_of client a.schedule.events))
+answer_scripts recording roles bytes (Ok a) answer = (taken_of recording roles bytes a answer).scripts
+answer_scripts recording roles bytes (Err why) answer = tt
+
+pub answer_recordable : (recording : Bool) (roles : List RoleId) (bytes : List ℕ) (r : Result Accepted Refusal)
+    → IsAnswer true recording roles (input_of bytes) r
+    → IfOk r (λ a. (client : ℕ) → All (IsRecordable a.cluster) (script_of client a.schedule.events))
+answer_recordable recording roles bytes (Ok a) answer = (taken_of recording roles bytes a answer).recordable
+answer_recordable recording roles bytes (Err why) answer = tt
+
+-- what an input that is accepted for these roles says of them and of its lines
+record IsAccepted (recording : Bool) (roles : List RoleId) (a : Accepted) : Type 0 where
+  hosts : may_host recording a.cluster roles ≡ true
+  good : a.schedule.bad ≡ None
+
+accepted_of : (recording : Bool) (roles : List RoleId) (heard : Heard) (a : Accepted)
+    → heard ≡ Lines a.header a.cluster a.schedule → refused_of recording roles heard ≡ None → IsAccepted recording roles a
+accepted_of recording roles heard a is none =
+    by_roles (may_host recording a.cluster roles) refl (sym (ap (refused_of recording roles) is) ∙ none)
+  where
+    by_line : (bad : Option ℕ) → a.schedule.bad ≡ bad → bad_line_of bad ≡ None → bad ≡ None
+    by_line None same e = refl
+    by_line (Some line) same e = cc
+
+    by_roles : (b : Bool) → may_host recording a.cluster roles ≡ b
+        → (if b then bad_line_of a.schedule.bad else Some refusal.BadWords) ≡ None → IsAccepted recording roles a
+    by_roles true may e = record { hosts = may; good = by_line a.schedule.bad refl e }
+    by_roles false may e = cc
+
+pub answer_hosts : (recording : Bool) (roles : List RoleId) (bytes : List ℕ) (r : Result Accepted Refusal)
+    → IsAnswer true recording roles (input_of bytes) r → IfOk r (λ a. may_host recording a.cluster roles ≡ true)
+answer_hosts recording roles bytes (Ok a) answer =
+    (accepted_of recording roles (input_of bytes) a answer.0 answer.1).hosts
+answer_hosts recording roles bytes (Err why) answer = tt
+
+pub answer_good : (recording : Bool) (roles : List RoleId) (bytes : List ℕ) (r : Result Accepted Refusal)
+    → IsAnswer true recording roles (input_of bytes) r → IfOk r (λ a. a.schedule.bad ≡ None)
+answer_good recording roles bytes (Ok a) answer =
+    (accepted_of recording roles (input_of bytes) a answer.0 answer.1).good
+answer_good recording roles bytes (Err why) answer = tt
+
+pub answer_named : (recording : Bool) (roles : List RoleId) (bytes : List ℕ) (r : Result Accepted Refusal)
+    → IsAnswer true recording roles (input_of bytes) r
+    → IfOk r (λ a. IsTrue (list_all (λ (x : RoleId). names_role a.cluster x) roles))
+answer_named recording roles bytes (Ok a) answer =
+    (both_so (list_all (λ (x : RoleId). names_role a.cluster x) roles) (not recording || are_all a.cluster roles)
+    (accepted_of recording roles (input_of bytes) a answer.0 answer.1).hosts).0
+answer_named recording roles bytes (Err why) answer = tt

@@ -21,8 +21,8 @@ use Rattle.cx_model.specs.Names.{names_grid}
 use Rattle.cx_model.specs.Outcome.{answered}
 use Rattle.cx_leader.specs.Tending.{can_collect, has_heard, has_open, is_spent}
 use Rattle.cx_node.specs.Orders.{IsApt, NoVainOrder, begins, retires}
-use Rattle.cx_node.specs.Run.{grid_of}
-use Rattle.cx_node.specs.Tending.{is_time, leader_asked, standing_of}
+use Rattle.cx_course.specs.Run.{grid_of}
+use Rattle.cx_course.specs.Tending.{is_time, leader_asked, standing_of}
 
 both : (a b : Bool) → (a && b) ≡ true → (a ≡ true) × (b ≡ true)
 both true b e = (refl, e)

@@ -6,21 +6,19 @@ use Rattle.cx_base.specs.declared.cluster.Cluster.{Cluster}
 use Rattle.cx_edge.specs.declared.link.Link.{Ghosts as LinkGhosts}
 use Rattle.cx_edge.specs.declared.sink.Sink.{Ghosts as SinkGhosts}
 use Rattle.cx_edge.specs.Link.{LinkHistory, with_taken}
-use Rattle.cx_msg.specs.Decoding.{decoded}
-use Rattle.cx_msg.specs.Letter.{Letter}
-use Rattle.cx_msg.specs.declared.fault.WireFault.{WireFault}
 use Rattle.cx_node.specs.declared.come.Come.{Come}
 use Rattle.cx_node.specs.declared.come.Come.TheVariants as come
 use Rattle.cx_node.specs.declared.node.Stop.{Stop}
-use Rattle.cx_node.specs.declared.node.Stop.TheVariants.{LinkFault, NoMemory, StoreFault, WriteFault}
-use Rattle.cx_node.specs.Action.{HasTaken}
+use Rattle.cx_node.specs.declared.node.Stop.TheVariants.{LinkFault, NoMemory, RecordFull, StoreFault, WriteFault}
+use Rattle.cx_course.specs.Action.{HasTaken}
 use Rattle.cx_node.specs.Changing.{Changing}
-use Rattle.cx_node.specs.Doing.{DidPart, Does, Scene, scene}
-use Rattle.cx_node.specs.Guest.{AreReady, hosted_in}
-use Rattle.cx_node.specs.Hosted.{Hosted}
-use Rattle.cx_node.specs.Node.{IsUnderway, NodeState, Takes}
-use Rattle.cx_node.specs.Run.{Moved, all_finished}
-use Rattle.cx_node.specs.Tending.{node_run}
+use Rattle.cx_node.specs.Doing.{DidPart, Does, Scene, course_in, scene}
+use Rattle.cx_node.specs.Guest.{AreReady}
+use Rattle.cx_node.specs.Node.{IsUnderway, NodeState}
+use Rattle.cx_course.specs.Course.{Course, Moved}
+use Rattle.cx_course.specs.Run.{Takes, all_finished, brought}
+use Rattle.cx_record.specs.Numbers.{Numbered, Recorded}
+use Rattle.cx_course.specs.Tending.{node_run}
 
 -- how often the link and the output have failed
 pub record Failures : Type 0 where
@@ -41,7 +39,7 @@ pub record Blames (result : Result (Unit {0}) Stop) (old new : Failures) : Type 
 
 -- what is seen of a node's roles, its link and its output
 abbrev pub scene_of : {K L W : Type 0} → LinkGhosts L → SinkGhosts W → NodeState K → L → W → Scene K
-scene_of by_link by_out node link out = scene node.guests (by_link.told link) (by_out.taken out)
+scene_of by_link by_out node link out = scene node.guests node.recorded (by_link.told link) (by_out.taken out)
 
 abbrev pub failed : {L W : Type 0} → LinkGhosts L → SinkGhosts W → L → W → Failures
 failed by_link by_out link out = failures (by_link.faults link) (by_out.faults out)
@@ -50,7 +48,7 @@ failed by_link by_out link out = failures (by_link.faults link) (by_out.faults o
 
 -- What is to be done is done, with these takes, and all roles may go on; or the first of its actions are done, and
 -- then it stopped.
-pub record Acts {K : Type 0} (gives : Changing K) (c : Cluster) (takes : Takes) (m : Moved (List Hosted))
+pub record Acts {K : Type 0} (gives : Changing K) (c : Cluster) (takes : Takes) (m : Moved Course)
     (result : Result (Unit {0}) Stop) (old new : Scene K) : Type 0 where
   pub done : OnOk result (Does gives c m old new)
   pub taken : OnOk result (HasTaken takes m.actions)
@@ -58,42 +56,43 @@ pub record Acts {K : Type 0} (gives : Changing K) (c : Cluster) (takes : Takes) 
   pub part : IfErr result (λ e. DidPart gives c m.actions e old new)
 
 -- the same of a part without a take, by the hosted roles
-abbrev pub ActsPart : {K : Type 0} → Changing K → Cluster → (List Hosted → Moved (List Hosted))
+abbrev pub ActsPart : {K : Type 0} → Changing K → Cluster → (Course → Moved Course)
     → Result (Unit {0}) Stop → Scene K → Scene K → Type 0
-ActsPart gives c part result old new = Acts gives c [] (part (hosted_in old.guests)) result old new
+ActsPart gives c part result old new = Acts gives c [] (part (course_in old)) result old new
 
 -- the same with what one take gave
-abbrev pub ActsOnce : {K : Type 0} → Changing K → Cluster → (Option (List ℕ) → Moved (List Hosted))
+abbrev pub ActsOnce : {K : Type 0} → Changing K → Cluster → (Option (List ℕ) → Moved Course)
     → Result (Unit {0}) Stop → Scene K → Scene K → Type 0
 ActsOnce gives c f result old new = (what : Option (List ℕ)) × Acts gives c (what ∷ []) (f what) result old new
 
-abbrev pub ActsTaking : {K : Type 0} → Changing K → Cluster → (Option (List ℕ) → List Hosted → Moved (List Hosted))
+abbrev pub ActsTaking : {K : Type 0} → Changing K → Cluster → (Option (List ℕ) → Course → Moved Course)
     → Result (Unit {0}) Stop → Scene K → Scene K → Type 0
-ActsTaking gives c part result old new = ActsOnce gives c (λ what. part what (hosted_in old.guests)) result old new
+ActsTaking gives c part result old new = ActsOnce gives c (λ what. part what (course_in old)) result old new
 
 -- the turns of a run were made to its end, or a part of them
 abbrev pub ActsLong : {K : Type 0} → Changing K → Option ℕ → Cluster → ℕ → Result (Unit {0}) Stop
     → Scene K → Scene K → Type 0
 ActsLong gives tend c limit result old new =
-    (takes : Takes) × Acts gives c takes (node_run tend c takes (hosted_in old.guests)) result old new
-    × IsUnderway tend c limit (hosted_in old.guests) takes
-    × OnOk result ((all_finished ((node_run tend c takes (hosted_in old.guests)).next) ≡ true) ⊎ (length takes ≡ limit))
+    (takes : Takes) × Acts gives c takes (node_run tend c takes (course_in old)) result old new
+    × IsUnderway tend c limit (course_in old) takes
+    × OnOk result ((all_finished ((node_run tend c takes (course_in old)).next.hosted) ≡ true) ⊎ (length takes ≡ limit))
 
 -- ---- what a take of the link gave
 
--- what a take gave: nothing, bytes that are no datagram, or one
-abbrev pub read_as : Result Letter WireFault → Come
-read_as (Ok d) = come.Letter d
-read_as (Err fault) = come.Foreign
+-- what a take gave: nothing, bytes that bring no datagram, or one
+abbrev pub read_as : Option Numbered → Come
+read_as (Some x) = come.Letter x.number x.letter
+read_as None = come.Foreign
 
-abbrev pub come_of : Option (List ℕ) → Come
-come_of None = come.Nothing
-come_of (Some bytes) = read_as (decoded bytes)
+abbrev pub come_of : Option Recorded → Option (List ℕ) → Come
+come_of recorded None = come.Nothing
+come_of recorded (Some bytes) = read_as (brought recorded bytes)
 
 -- The history has one take more, and what it gave; it has none that failed.
-abbrev pub Receives : Option LinkHistory → Option LinkHistory → Result Come Stop → Type 0
-Receives old new (Ok o) = (what : Option (List ℕ)) × (new ≡ option_map (with_taken what) old) × (come_of what ≡ o)
-Receives old new (Err LinkFault) = new ≡ old
-Receives old new (Err NoMemory) = (what : Option (List ℕ)) × (new ≡ option_map (with_taken what) old)
-Receives old new (Err WriteFault) = ⊥
-Receives old new (Err (StoreFault role)) = ⊥
+abbrev pub Receives : Option Recorded → Option LinkHistory → Option LinkHistory → Result Come Stop → Type 0
+Receives recorded old new (Ok o) = (what : Option (List ℕ)) × (new ≡ option_map (with_taken what) old) × (come_of recorded what ≡ o)
+Receives recorded old new (Err LinkFault) = new ≡ old
+Receives recorded old new (Err NoMemory) = (what : Option (List ℕ)) × (new ≡ option_map (with_taken what) old)
+Receives recorded old new (Err WriteFault) = ⊥
+Receives recorded old new (Err RecordFull) = ⊥
+Receives recorded old new (Err (StoreFault role)) = ⊥

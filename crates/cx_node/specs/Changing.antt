@@ -1,11 +1,8 @@
 -- What the store of a hosted role is asked to do with its list, and what it answers.
-use Rattle.std.specs.Prelude.{◌≡◌, ◌⊎◌, List, [], ◌∷◌, Option, None, Some, Result, Err, if◌then◌else◌}
-use Rattle.cx_base.specs.declared.role.RoleId.{RoleId}
-use Rattle.cx_base.specs.Role.{same_role}
-use Rattle.cx_keeper.specs.Keeper.{Change, Append, Renewal, list_after}
+use Rattle.std.specs.Prelude.{◌≡◌, ◌⊎◌, Result, Err}
+use Rattle.cx_keeper.specs.Keeper.{Change, Append, Renewal}
 use Rattle.cx_keeper.specs.declared.keeper.KeepFault.{KeepFault}
 use Rattle.cx_keeper.specs.declared.keeper.KeepFault.TheVariants.{NoMemory}
-use Rattle.cx_msg.specs.declared.kept.Record.{Record}
 use Rattle.cx_role.specs.Role.{Appending}
 use Rattle.cx_role.specs.Snap.{Renewing}
 
@@ -21,23 +18,3 @@ changing append_gives renew_gives old (Renewal records) answer new = renew_gives
 -- no change was asked for, or one was refused when out of memory
 abbrev pub Refuses : {K : Type 0} → Changing K → K → K → Type 0
 Refuses gives old new = (new ≡ old) ⊎ ((change : Change) × gives old change (Err NoMemory) new)
-
--- a change of the store of a role
-pub record StoreChange : Type 0 where
-  pub role : RoleId
-  pub change : Change
-
--- what a role's step changes, if it changes anything
-abbrev pub changed_by : RoleId → Option Change → List StoreChange
-changed_by me None = []
-changed_by me (Some change) = record { role = me; change = change } ∷ []
-
--- the changes of one role's store among these, in order
-abbrev pub changes_of : RoleId → List StoreChange → List Change
-changes_of me [] = []
-changes_of me (c ∷ rest) = if same_role me c.role then c.change ∷ changes_of me rest else changes_of me rest
-
--- a list after these changes, one after the other
-abbrev pub lists_after : List Record → List Change → List Record
-lists_after list [] = list
-lists_after list (change ∷ rest) = lists_after (list_after list change) rest

@@ -11,11 +11,13 @@ use Rattle.cx_model.specs.Outcome.{Outcome}
 use Rattle.cx_model.specs.Rules.{Rules, Running, running_after}
 use Rattle.cx_msg.specs.Letter.{Letter}
 use Rattle.cx_keeper.specs.Keeper.{Append, Change}
-use Rattle.cx_node.specs.Changing.{Changing, Refuses, StoreChange, changed_by, changes_of}
+use Rattle.cx_course.specs.Changing.{StoreChange, changed_by, changes_of}
+use Rattle.cx_course.specs.Alike.{AreDistinct}
+use Rattle.cx_node.specs.Changing.{Changing, Refuses}
 use Rattle.cx_node.specs.declared.guest.Guest.{Guest}
 use Rattle.cx_node.specs.declared.guest.Guest.TheVariants as guest
-use Rattle.cx_node.specs.Hosted.{Hosted, ClientAt, BatcherAt, LeaderAt, ProxyAt, AcceptorAt, MatchmakerAt, ReplicaAt}
-use Rattle.cx_node.specs.Hosted.{UnbatcherAt, ReaderAt, Step, is_live, kind_at, name_of}
+use Rattle.cx_course.specs.Hosted.{Hosted, ClientAt, BatcherAt, LeaderAt, ProxyAt, AcceptorAt, MatchmakerAt, ReplicaAt}
+use Rattle.cx_course.specs.Hosted.{UnbatcherAt, ReaderAt, Step, is_live, kind_at, name_of}
 
 -- the hosted role
 abbrev pub hosted_of : {K : Type 0} → Guest K → Hosted
@@ -52,11 +54,6 @@ pub record IsReady {K : Type 0} (c : Cluster) (h : Guest K) : Type 0 where
   pub live : IsTrue (is_live (hosted_of h))
   pub named : IsTrue (names_role c (who h))
   pub kind : kind_at (hosted_of h) ≡ (who h).kind
-
--- no two have one name
-abbrev pub AreDistinct : List Hosted → Type 0
-AreDistinct hs =
-    (i j : ℕ) (a b : Hosted) → slice_get hs i ≡ Some a → slice_get hs j ≡ Some b → name_of a ≡ name_of b → i ≡ j
 
 -- roles of the cluster that may take steps, no two of one name
 pub record AreReady {K : Type 0} (c : Cluster) (guests : List (Guest K)) : Type 0 where

@@ -1,6 +1,6 @@
 -- What binding, running and giving back come to, after an input that was accepted.
-use Rattle.std.specs.Prelude.{◌≡◌, ◌≤◌, ℕ, Bool, true, List, ◌++◌, Option, Some, Result, Ok, Err, IfOk, IfErr}
-use Rattle.std.specs.Prelude.{map, option_map, slice_get}
+use Rattle.std.specs.Prelude.{◌≡◌, ◌⊎◌, ◌≤◌, ℕ, suc, Bool, true, false, List, ◌++◌, Option, None, Some, is_some, Result, Ok, Err, IfOk, IfErr, IfSome, if◌then◌else◌}
+use Rattle.std.specs.Prelude.{map, option_map, slice_get, take}
 use Rattle.cx_base.specs.declared.cluster.Cluster.{Cluster}
 use Rattle.cx_base.specs.declared.event.Event.{Event}
 use Rattle.cx_base.specs.declared.role.RoleId.{RoleId}
@@ -13,7 +13,7 @@ use Rattle.cx_edge.specs.Link.{Bind, LinkHistory}
 use Rattle.cx_edge.specs.declared.shelf.Shelf.{Shelf}
 use Rattle.cx_journal.specs.Store.{IsStoreChange}
 use Rattle.cx_journal.specs.declared.store.Store.{Store}
-use Rattle.cx_keeper.specs.Keeper.{Append, Renewal}
+use Rattle.cx_keeper.specs.Keeper.{Append, Change, Renewal}
 use Rattle.cx_msg.specs.declared.kept.Record.{Record}
 use Rattle.cx_node.specs.declared.guest.Guest.{Guest}
 use Rattle.cx_node.specs.declared.node.RunEnd.{RunEnd}
@@ -24,11 +24,15 @@ use Rattle.cx_node.specs.declared.opening.OpenStop.{OpenStop}
 use Rattle.cx_node.specs.declared.opening.OpenStop.TheVariants as open_stop
 use Rattle.cx_node.specs.Acts.{Failures}
 use Rattle.cx_node.specs.Changing.{Changing, changing}
-use Rattle.cx_node.specs.Doing.{Scene}
-use Rattle.cx_node.specs.Node.{IsEnd, IsUnderway, NodeState, Runs, RunsPart, Takes}
-use Rattle.cx_node.specs.Opening.{IsBadAs, IsFirstBad, disks_in}
+use Rattle.cx_node.specs.Doing.{Did, DidPart, Scene, course_in}
+use Rattle.cx_course.specs.Action.{Action, Bound, Filled, HasTaken, Kept, Printed, Took}
+use Rattle.cx_course.specs.Run.{Takes}
+use Rattle.cx_course.specs.Tending.{node_run}
+use Rattle.cx_record.specs.Numbers.{Recorded, blank}
+use Rattle.cx_node.specs.Node.{IsEnd, IsUnderway, NodeState}
+use Rattle.cx_node.specs.Opening.{IsBadAs, IsFirstBad, IsFirstUsed, disks_in, is_used}
 use Rattle.cx_node.specs.Ports.{bind_of}
-use Rattle.cx_node.specs.Serving.{Outside, Served, ServedPart, hosts}
+use Rattle.cx_node.specs.Serving.{Did as DidOutside, Outside, Served, ServedPart, begun_with, whole_run}
 use Rattle.cx_node.specs.Stores.{Lent}
 
 -- ---- what is answered
@@ -38,6 +42,7 @@ abbrev pub unopened_status : OpenStop → Status
 unopened_status open_stop.NoMemory = status.NoMemory
 unopened_status (open_stop.StoreFault role) = status.StoreFault role
 unopened_status (open_stop.BadStore role at) = status.BadStore role at
+unopened_status (open_stop.NotFresh role) = status.NotFresh role
 
 -- where the roles ran
 abbrev pub ended_status : Result RunEnd Stop → Status
@@ -47,6 +52,7 @@ ended_status (Err stop.NoMemory) = status.NoMemory
 ended_status (Err stop.WriteFault) = status.WriteFault
 ended_status (Err stop.LinkFault) = status.LinkFault
 ended_status (Err (stop.StoreFault role)) = status.StoreFault role
+ended_status (Err stop.RecordFull) = status.RecordFull
 
 -- ---- what is done
 
@@ -85,65 +91,119 @@ store_gives by_disk =
     changing (λ old r answer new. IsStoreChange by_disk old (Append r) answer new)
     (λ old records answer new. IsStoreChange by_disk old (Renewal records) answer new)
 
--- these hosted roles in this cluster
-abbrev pub hosting : {K : Type 0} → Cluster → List (Guest K) → NodeState K
-hosting c guests = record { cluster = c; guests = guests }
+-- these hosted roles in this cluster, and what is known of their record
+abbrev pub hosting : {K : Type 0} → Cluster → List (Guest K) → Option Recorded → NodeState K
+hosting c guests recorded = record { cluster = c; guests = guests; recorded = recorded }
 
--- Hosted roles ran to this answer: the whole run was made, or the first of its actions were done, and what failed has
--- a cause.
-pub record Ran {K : Type 0} (gives : Changing K) (tend : Option ℕ) (c : Cluster) (turns : ℕ)
+-- what a node knows of its record before it has one, where it is to record
+abbrev pub known_first : Bool → Option Recorded
+known_first recording = if recording then Some blank else None
+
+-- a text was printed, and then the whole run was made
+pub record RunsBehind {K : Type 0} (gives : Changing K) (tend : Option ℕ) (c : Cluster) (turns : ℕ) (text : List ℕ)
+    (end : RunEnd) (old new : Scene K) : Type 0 where
+  pub takes : Takes
+  pub did : Did gives c (map Printed text ++ (node_run tend c takes (course_in old)).actions) old new
+  pub is_end : IsEnd tend c turns (course_in old) takes end
+  pub taken : HasTaken takes (node_run tend c takes (course_in old)).actions
+
+-- the first of all that were done, when this stopped it
+pub record RunsPartBehind {K : Type 0} (gives : Changing K) (tend : Option ℕ) (c : Cluster) (turns : ℕ) (text : List ℕ)
+    (e : Stop) (old new : Scene K) : Type 0 where
+  pub takes : Takes
+  pub underway : IsUnderway tend c turns (course_in old) takes
+  pub part : DidPart gives c (map Printed text ++ (node_run tend c takes (course_in old)).actions) e old new
+
+-- Behind a text, hosted roles ran to this answer: the whole run was made, or the first of its actions were done, and what failed
+-- has a cause.
+pub record Ran {K : Type 0} (gives : Changing K) (tend : Option ℕ) (c : Cluster) (turns : ℕ) (text : List ℕ)
     (answer : Result RunEnd Stop) (old new : Scene K) (before after : Failures) : Type 0 where
-  pub done : IfOk answer (λ e. Runs gives tend c turns e old new)
-  pub part : IfErr answer (λ e. RunsPart gives e tend c turns old new)
+  pub done : IfOk answer (λ e. RunsBehind gives tend c turns text e old new)
+  pub part : IfErr answer (λ e. RunsPartBehind gives tend c turns text e old new)
   pub written : answer ≡ Err stop.WriteFault → Rises before.out after.out
   pub unwritten : (answer ≡ Err stop.WriteFault → ⊥) → after.out ≡ before.out
   pub linked : answer ≡ Err stop.LinkFault → Rises before.link after.link
   pub unlinked : (answer ≡ Err stop.LinkFault → ⊥) → after.link ≡ before.link
 
 -- the whole run was made, to this end
-abbrev pub HostEnds : List RoleId → Option ℕ → Cluster → ℕ → List Event → ℕ → RunEnd → Outside → Outside → Type 0
-HostEnds roles tend c window events turns e old new =
-    (told : RoleId → List Record) × (takes : Takes) × Served roles tend c window events told takes old new
-    × IsEnd tend c turns (hosts c window events told roles) takes e
+abbrev pub HostEnds : List RoleId → Option ℕ → Option (List ℕ) → Cluster → ℕ → List Event → ℕ → RunEnd → Outside → Outside → Type 0
+HostEnds roles tend header c window events turns e old new =
+    (told : RoleId → List Record) × (takes : Takes) × Served roles tend header c window events told takes old new
+    × IsEnd tend c turns (begun_with header c window events told roles) takes e
 
--- the first of its actions were done
-abbrev pub HostEndsEarly : List RoleId → Option ℕ → Cluster → ℕ → List Event → ℕ → Outside → Outside → Type 0
-HostEndsEarly roles tend c window events turns old new =
-    (told : RoleId → List Record) × (takes : Takes) × ServedPart roles tend c window events told takes old new
-    × IsUnderway tend c turns (hosts c window events told roles) takes
+-- the first of its actions were done; this one was next, if that is told
+abbrev pub HostEndsAt : Option Action → List RoleId → Option ℕ → Option (List ℕ) → Cluster → ℕ → List Event → ℕ → Outside → Outside → Type 0
+HostEndsAt next roles tend header c window events turns old new =
+    (told : RoleId → List Record) × (takes : Takes) × (count : ℕ)
+    × ServedPart roles tend header c window events told takes count old new
+    × IsUnderway tend c turns (begun_with header c window events told roles) takes
+    × IfSome next (λ (action : Action). slice_get (whole_run tend header c window events told roles takes) count ≡ Some action)
+
+abbrev pub HostEndsEarly : List RoleId → Option ℕ → Option (List ℕ) → Cluster → ℕ → List Event → ℕ → Outside → Outside → Type 0
+HostEndsEarly roles tend header c window events turns old new = HostEndsAt None roles tend header c window events turns old new
+
+-- only the first of its roles were bound
+abbrev pub HostBinding : List RoleId → Cluster → Outside → Outside → Type 0
+HostBinding roles c old new = (bound : ℕ) × DidOutside roles c (map Bound (take bound roles)) old new
+
+-- all before a change of this role's store was done, and nothing after; the change itself was made or not
+abbrev pub HostEndsAtChange : RoleId → List RoleId → Option ℕ → Option (List ℕ) → Cluster → ℕ → List Event → ℕ → Outside → Outside → Type 0
+HostEndsAtChange role roles tend header c window events turns old new =
+    (told : RoleId → List Record) × (takes : Takes) × (count : ℕ) × (change : Change)
+    × (ServedPart roles tend header c window events told takes count old new
+    ⊎ ServedPart roles tend header c window events told takes (suc count) old new)
+    × IsUnderway tend c turns (begun_with header c window events told roles) takes
+    × (slice_get (whole_run tend header c window events told roles takes) count
+    ≡ Some (Kept (record { role = role; change = change })))
 
 -- what was done, and why, for each answer; hosting reads nothing
-abbrev pub HostDid : List RoleId → Option ℕ → Cluster → ℕ → List Event → ℕ → Outside → Outside → Status → Type 0
-HostDid roles tend c window events turns old new status.Done =
-    HostEnds roles tend c window events turns end.Done old new
-HostDid roles tend c window events turns old new status.Turns =
-    HostEnds roles tend c window events turns end.Turns old new
-HostDid roles tend c window events turns old new status.LinkFault =
-    HostEndsEarly roles tend c window events turns old new × Rises old.links new.links
-HostDid roles tend c window events turns old new status.WriteFault =
-    HostEndsEarly roles tend c window events turns old new × Rises old.writes new.writes
-HostDid roles tend c window events turns old new (status.StoreFault role) =
-    HostEndsEarly roles tend c window events turns old new × Rises (old.stores role) (new.stores role)
-HostDid roles tend c window events turns old new (status.BadStore role at) =
-    HostEndsEarly roles tend c window events turns old new × (old.tells ≡ true → IsFirstBad roles c old.held role at)
-HostDid roles tend c window events turns old new status.NoMemory =
-    HostEndsEarly roles tend c window events turns old new
-HostDid roles tend c window events turns old new other = ⊥
+abbrev pub HostDid : List RoleId → Option ℕ → Option (List ℕ) → Cluster → ℕ → List Event → ℕ → Outside → Outside → Status → Type 0
+HostDid roles tend header c window events turns old new status.Done =
+    HostEnds roles tend header c window events turns end.Done old new
+HostDid roles tend header c window events turns old new status.Turns =
+    HostEnds roles tend header c window events turns end.Turns old new
+HostDid roles tend header c window events turns old new status.LinkFault =
+    HostEndsEarly roles tend header c window events turns old new × Rises old.links new.links
+    × (HostBinding roles c old new
+    ⊎ ((what : Option (List ℕ)) × HostEndsAt (Some (Took what)) roles tend header c window events turns old new))
+HostDid roles tend header c window events turns old new status.WriteFault =
+    HostEndsEarly roles tend header c window events turns old new × Rises old.writes new.writes
+HostDid roles tend header c window events turns old new (status.StoreFault role) =
+    HostEndsEarly roles tend header c window events turns old new × Rises (old.stores role) (new.stores role)
+    × (HostBinding roles c old new ⊎ HostEndsAtChange role roles tend header c window events turns old new)
+HostDid roles tend header c window events turns old new (status.BadStore role at) =
+    HostEndsEarly roles tend header c window events turns old new × (old.tells ≡ true → IsFirstBad roles c old.held role at)
+HostDid roles tend header c window events turns old new (status.NotFresh role) =
+    HostEndsEarly roles tend header c window events turns old new × (is_some header ≡ true) × (new.out ≡ old.out)
+    × (old.tells ≡ true → IsFirstUsed roles old.held role)
+HostDid roles tend header c window events turns old new status.RecordFull =
+    HostEndsAt (Some Filled) roles tend header c window events turns old new × (is_some header ≡ true)
+HostDid roles tend header c window events turns old new status.NoMemory =
+    HostEndsEarly roles tend header c window events turns old new
+HostDid roles tend header c window events turns old new other = ⊥
 
 -- the roles ran
 abbrev pub HasRun : Status → Type 0
 HasRun status.Done = Unit {0}
 HasRun status.Turns = Unit {0}
 HasRun status.WriteFault = Unit {0}
+HasRun status.RecordFull = Unit {0}
 HasRun other = ⊥
 
--- what hosting answered; a failed write or take, and a store that failed, is always reported, and roles run only from
--- stores of their own
-pub record HostAnswered (roles : List RoleId) (tend : Option ℕ) (c : Cluster) (window : ℕ) (events : List Event)
+-- all stores were opened: the roles ran, or one of a node that is to record has a record
+abbrev pub HasOpened : Status → Type 0
+HasOpened (status.NotFresh role) = Unit {0}
+HasOpened other = HasRun other
+
+-- what hosting answered; a failed write or take, and a store that failed, is always reported; each store that was opened is its
+-- role's own, and roles of a node that records run only from stores without records
+pub record HostAnswered (roles : List RoleId) (tend : Option ℕ) (header : Option (List ℕ)) (c : Cluster) (window : ℕ) (events : List Event)
     (turns : ℕ) (old new : Outside) (s : Status) : Type 0 where
-  pub did : HostDid roles tend c window events turns old new s
+  pub did : HostDid roles tend header c window events turns old new s
   pub written : (s ≡ status.WriteFault → ⊥) → new.writes ≡ old.writes
   pub linked : (s ≡ status.LinkFault → ⊥) → new.links ≡ old.links
-  pub good : HasRun s → old.tells ≡ true → (i : ℕ) (role : RoleId) (at : ℕ) → slice_get roles i ≡ Some role
+  pub good : HasOpened s → old.tells ≡ true → (i : ℕ) (role : RoleId) (at : ℕ) → slice_get roles i ≡ Some role
       → IsBadAs c role (old.held role) at role.kind → ⊥
+  pub unused : HasRun s → is_some header ≡ true → old.tells ≡ true → (i : ℕ) (role : RoleId) → slice_get roles i ≡ Some role
+      → is_used role (old.held role) ≡ false
   pub stored : (role : RoleId) → (s ≡ status.StoreFault role → ⊥) → new.stores role ≡ old.stores role

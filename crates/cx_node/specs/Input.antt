@@ -1,33 +1,38 @@
 -- What the input of a node says: its header's cluster, and the requests of the lines after it.
-use Rattle.std.specs.Prelude.{◌≡◌, ◌⊎◌, ℕ, Bool, true, false, List, Option, None, Some, Result, Ok, Err, if◌then◌else◌}
+use Rattle.std.specs.Prelude.{◌≡◌, ◌⊎◌, ℕ, Bool, true, false, not, ◌&&◌, ◌||◌, List, [], ◌∷◌, map, Option, None, Some, Result, Ok, Err, if◌then◌else◌}
 use Rattle.std.specs.Io.KnownBytes.{Consumes}
-use Rattle.std.specs.List.{list_all}
+use Rattle.std.specs.List.{flat_map, list_all, list_any}
 use Rattle.cx_base.specs.declared.cluster.Cluster.{Cluster}
+use Rattle.cx_base.specs.declared.role.Kind.{Kind}
+use Rattle.cx_base.specs.declared.role.Kind.TheVariants.{Client, Batcher, Leader, Proxy, Acceptor, Matchmaker, Replica, Unbatcher, Reader}
 use Rattle.cx_base.specs.declared.role.RoleId.{RoleId}
+use Rattle.cx_base.specs.Cluster.{count_of}
+use Rattle.cx_base.specs.Lists.{below}
+use Rattle.cx_base.specs.Role.{role, same_role}
 use Rattle.cx_cluster.specs.declared.fault.ClusterFault.{ClusterFault}
 use Rattle.cx_cluster.specs.Reading.{header_cluster}
 use Rattle.cx_model.specs.Names.{names_role}
 use Rattle.cx_script.specs.Input.{begun_input, whole_input}
-use Rattle.cx_script.specs.Lines.{Spelled}
 use Rattle.cx_script.specs.Requests.{requests_of}
+use Rattle.cx_node.specs.declared.input.Accepted.{Accepted}
 use Rattle.cx_node.specs.declared.input.Heard.{Heard}
 use Rattle.cx_node.specs.declared.input.Heard.TheVariants.{Nothing, BadHeader, Lines}
 use Rattle.cx_node.specs.declared.input.Refusal.{Refusal}
 use Rattle.cx_node.specs.declared.input.Refusal.TheVariants as refusal
 
 -- a header without a port is bad
-abbrev pub with_port : Option ℕ → Cluster → List ℕ → Heard
-with_port None c rest = BadHeader
-with_port (Some port) c rest = Lines c (requests_of c rest)
+abbrev pub with_port : Option ℕ → List ℕ → Cluster → List ℕ → Heard
+with_port None header c rest = BadHeader
+with_port (Some port) header c rest = Lines header c (requests_of c rest)
 
 -- the cluster that a header's text says, and the requests that the bytes after it spell
-abbrev pub behind : Result Cluster ClusterFault → List ℕ → Heard
-behind (Ok c) rest = with_port c.base_port c rest
-behind (Err fault) rest = BadHeader
+abbrev pub behind : Result Cluster ClusterFault → List ℕ → List ℕ → Heard
+behind (Ok c) header rest = with_port c.base_port header c rest
+behind (Err fault) header rest = BadHeader
 
 -- the same of a header's text and the bytes after it
 abbrev pub header_says : List ℕ → List ℕ → Heard
-header_says header rest = behind (header_cluster header) rest
+header_says header rest = behind (header_cluster header) header rest
 
 -- what a whole input says
 abbrev pub input_of : List ℕ → Heard
@@ -47,13 +52,30 @@ abbrev pub bad_line_of : Option ℕ → Option Refusal
 bad_line_of None = None
 bad_line_of (Some line) = Some (refusal.BadInput line)
 
--- Why an input is refused of a node of these roles: by its header, a role that isn't in the cluster, or the first bad
--- line, in this order.
-abbrev pub refused_of : List RoleId → Heard → Option Refusal
-refused_of roles Nothing = None
-refused_of roles BadHeader = Some (refusal.BadInput 0)
-refused_of roles (Lines c spelled) =
-    if list_all (λ (r : RoleId). names_role c r) roles then bad_line_of spelled.bad else Some refusal.BadWords
+-- all kinds of roles
+abbrev pub kinds : List Kind
+kinds = Client ∷ Batcher ∷ Leader ∷ Proxy ∷ Acceptor ∷ Matchmaker ∷ Replica ∷ Unbatcher ∷ Reader ∷ []
+
+-- all roles of a cluster
+abbrev pub roles_as : Cluster → Kind → List RoleId
+roles_as c k = map (role k) (below (count_of c k))
+
+abbrev pub roles_of : Cluster → List RoleId
+roles_of c = flat_map (roles_as c) kinds
+
+-- each role of the cluster is among these
+abbrev pub are_all : Cluster → List RoleId → Bool
+are_all c roles = list_all (λ (r : RoleId). list_any (same_role r) roles) (roles_of c)
+
+-- whether a node may host these roles: each is in the cluster, and where the node records no other is
+abbrev pub may_host : Bool → Cluster → List RoleId → Bool
+may_host recording c roles = list_all (λ (r : RoleId). names_role c r) roles && (not recording || are_all c roles)
+
+-- Why an input is refused of a node of these roles: by its header, the roles, or the first bad line, in this order.
+abbrev pub refused_of : Bool → List RoleId → Heard → Option Refusal
+refused_of recording roles Nothing = None
+refused_of recording roles BadHeader = Some (refusal.BadInput 0)
+refused_of recording roles (Lines header c spelled) = if may_host recording c roles then bad_line_of spelled.bad else Some refusal.BadWords
 
 -- what was answered is what the input says, out of memory aside
 abbrev pub IsRefusal : Option Refusal → Refusal → Type 0
@@ -64,12 +86,12 @@ IsRefusal said refusal.BadWords = said ≡ Some refusal.BadWords
 
 -- what is answered to bytes that say this, of a whole input or not: what they say, the first refusal, or that more
 -- was to come
-abbrev pub IsAnswer : Bool → List RoleId → Heard → Result (Cluster × Spelled) Refusal → Type 0
-IsAnswer ended roles heard (Ok p) = (heard ≡ Lines p.0 p.1) × (refused_of roles heard ≡ None) × (ended ≡ true)
-IsAnswer ended roles heard (Err refusal.NoMemory) = Unit {0}
-IsAnswer ended roles heard (Err refusal.ReadFault) = (refused_of roles heard ≡ None) × (ended ≡ false)
-IsAnswer ended roles heard (Err (refusal.BadInput line)) = refused_of roles heard ≡ Some (refusal.BadInput line)
-IsAnswer ended roles heard (Err refusal.BadWords) = refused_of roles heard ≡ Some refusal.BadWords
+abbrev pub IsAnswer : Bool → Bool → List RoleId → Heard → Result Accepted Refusal → Type 0
+IsAnswer ended recording roles heard (Ok a) = (heard ≡ Lines a.header a.cluster a.schedule) × (refused_of recording roles heard ≡ None) × (ended ≡ true)
+IsAnswer ended recording roles heard (Err refusal.NoMemory) = Unit {0}
+IsAnswer ended recording roles heard (Err refusal.ReadFault) = (refused_of recording roles heard ≡ None) × (ended ≡ false)
+IsAnswer ended recording roles heard (Err (refusal.BadInput line)) = refused_of recording roles heard ≡ Some (refusal.BadInput line)
+IsAnswer ended recording roles heard (Err refusal.BadWords) = refused_of recording roles heard ≡ Some refusal.BadWords
 
 -- what bytes after which a read failed are refused for, or else the failed read
 abbrev pub refusal_of_part : Option Refusal → Refusal
@@ -78,7 +100,7 @@ refusal_of_part (Some why) = why
 
 -- Where a read failed, an input is refused for what the whole lines of the bytes that were read say, or for that; or
 -- memory ran out.
-abbrev pub FailsRead : List RoleId → Option (List ℕ) → Option (List ℕ) → Refusal → Type 0
-FailsRead roles left left_after why =
+abbrev pub FailsRead : Bool → List RoleId → Option (List ℕ) → Option (List ℕ) → Refusal → Type 0
+FailsRead recording roles left left_after why =
     (why ≡ refusal.NoMemory) ⊎ ((bytes : List ℕ) × Consumes left left_after bytes
-    × (why ≡ refusal_of_part (refused_of roles (lines bytes))))
+    × (why ≡ refusal_of_part (refused_of recording roles (lines bytes))))

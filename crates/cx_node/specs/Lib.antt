@@ -1,8 +1,4 @@
-pub mod Hosted
 pub mod Ports
-pub mod Action
-pub mod Run
-pub mod Tending
 pub mod TendingExamples
 pub mod Guest
 pub mod Seat
@@ -21,3 +17,4 @@ pub mod TendedParts
 pub mod Orders
 pub mod Changing
 pub mod Stores
+pub mod Noting

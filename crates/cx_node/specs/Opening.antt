@@ -1,6 +1,6 @@
 -- Hosted roles as they are opened, and the stores that are lent to them.
-use Rattle.std.specs.Prelude.{◌≡◌, ◌<◌, ◌≤◌, ◌++◌, ℕ, Bool, true, false, List, [], Option, None, Some, Result, Ok, Err}
-use Rattle.std.specs.Prelude.{IfOk, OnErr, OnOk, is_some, slice_get}
+use Rattle.std.specs.Prelude.{◌≡◌, ◌<◌, ◌≤◌, ◌+◌, ◌++◌, ◌==◌, ℕ, Bool, true, false, not, ◌&&◌, List, length, [], ◌∷◌, Option, None, Some, Result, Ok, Err}
+use Rattle.std.specs.Prelude.{IfOk, OnErr, OnOk, is_some, slice_get, if◌then◌else◌}
 use Rattle.std.specs.List.{flat_map, list_any}
 use Rattle.cx_base.specs.declared.cluster.Cluster.{Cluster}
 use Rattle.cx_base.specs.declared.event.Event.{Event}
@@ -13,7 +13,8 @@ use Rattle.cx_inv_open.specs.Reopened.{refused_as}
 use Rattle.cx_edge.specs.declared.shelf.Shelf.{Shelf}
 use Rattle.cx_edge.specs.Shelf.{same_shelf, shelf}
 use Rattle.cx_journal.specs.Files.{Files, files_image, files_records}
-use Rattle.cx_journal.specs.Store.{store_told, store_whole}
+use Rattle.cx_journal.specs.State.{has_some, records_or_none}
+use Rattle.cx_journal.specs.Store.{store_gates, store_told, store_whole}
 use Rattle.cx_journal.specs.declared.store.Store.{Store}
 use Rattle.cx_model.specs.Acceptor.{acceptor_rules}
 use Rattle.cx_model.specs.Batcher.{batcher_rules}
@@ -32,8 +33,8 @@ use Rattle.cx_node.specs.declared.opening.OpenStop.TheVariants as open_stop
 use Rattle.cx_node.specs.declared.waking.WakeStop.{WakeStop}
 use Rattle.cx_node.specs.declared.waking.WakeStop.TheVariants as wake_stop
 use Rattle.cx_node.specs.Guest.{hosted_of, keeper_of, who}
-use Rattle.cx_node.specs.Hosted.{Hosted, ClientAt, BatcherAt, LeaderAt, ProxyAt, AcceptorAt, MatchmakerAt, ReplicaAt}
-use Rattle.cx_node.specs.Hosted.{UnbatcherAt, ReaderAt}
+use Rattle.cx_course.specs.Hosted.{Hosted, ClientAt, BatcherAt, LeaderAt, ProxyAt, AcceptorAt, MatchmakerAt, ReplicaAt}
+use Rattle.cx_course.specs.Hosted.{UnbatcherAt, ReaderAt}
 use Rattle.cx_node.specs.Stores.{Lent, NoneFailed, SameRecords, disks_of, files_of, has_second, is_two, places_of}
 use Rattle.cx_node.specs.Wake.{IsBadStore}
 
@@ -70,6 +71,10 @@ IsBadAs c me files at kind.Matchmaker = IsBadStore matchmaker_rules c me files a
 IsBadAs c me files at kind.Replica = IsBadStore replica_rules c me files at
 IsBadAs c me files at other = ⊥
 
+-- whether the store of a role that has one has a record
+abbrev pub is_used : RoleId → Files → Bool
+is_used me files = is_durable me.kind && has_some (records_or_none (files_image (Some me.kind) files))
+
 -- the first of these roles whose store is not one of its own, and the place of the first fault in it
 pub record IsFirstBad (roles : List RoleId) (c : Cluster) (held : RoleId → Files) (role : RoleId)
     (at : ℕ) : Type 0 where
@@ -79,6 +84,13 @@ pub record IsFirstBad (roles : List RoleId) (c : Cluster) (held : RoleId → Fil
   pub first : (i : ℕ) (other : RoleId) (fault : ℕ) → i < place → slice_get roles i ≡ Some other
       → IsBadAs c other (held other) fault other.kind → ⊥
 
+-- the first of these roles whose store has a record
+pub record IsFirstUsed (roles : List RoleId) (held : RoleId → Files) (role : RoleId) : Type 0 where
+  pub place : ℕ
+  pub here : slice_get roles place ≡ Some role
+  pub used : is_used role (held role) ≡ true
+  pub first : (i : ℕ) (other : RoleId) → i < place → slice_get roles i ≡ Some other → is_used other (held other) ≡ false
+
 -- a store, over two disks or one, has these records, as far as its disks' bytes are known, and nothing has failed
 pub record HasRecords {D : Type 0} (seen : D → Option (List ℕ)) (disk_faults : D → ℕ) (tells second : Bool)
     (records : List Record) (store : Store D) : Type 0 where
@@ -86,6 +98,7 @@ pub record HasRecords {D : Type 0} (seen : D → Option (List ℕ)) (disk_faults
   pub sides : is_two store ≡ second
   pub told : tells ≡ true → is_some (store_told seen store) ≡ true
   pub kept : tells ≡ true → files_records (store_told seen store) ≡ records
+  pub gates : length (store_gates store) ≡ length records + 1
   pub faultless : NoneFailed disk_faults store
 
 abbrev pub HasStore : {D : Type 0} → (D → Option (List ℕ)) → (D → ℕ) → Bool → Bool → List Record → Bool
@@ -111,6 +124,16 @@ abbrev pub AreOpened : {D : Type 0} → (D → Option (List ℕ)) → (D → ℕ
 AreOpened {D} seen disk_faults c window events tells held roles guests =
     (i : ℕ) (guest : Guest (Store D)) → slice_get guests i ≡ Some guest
     → (me : RoleId) × (slice_get roles i ≡ Some me) × IsOpened seen disk_faults c window events tells (held me) me guest
+
+-- whether a role's store, if it has one, has a record: more gates than the closed one
+abbrev pub holds_record : {D : Type 0} → Option (Store D) → Bool
+holds_record None = false
+holds_record (Some store) = not (length (store_gates store) == 1)
+
+-- the first of these roles whose store has a record, if one has
+abbrev pub first_holding : {D : Type 0} → List (Guest (Store D)) → Option RoleId
+first_holding [] = None
+first_holding (guest ∷ guests) = if holds_record (keeper_of guest) then Some (who guest) else first_holding guests
 
 -- the disks of their stores, in their order
 abbrev pub disks_in : {D : Type 0} → List (Guest (Store D)) → List (Lent D)

@@ -8,7 +8,7 @@ use Rattle.cx_base.specs.Grid.{Shape}
 use Rattle.cx_model.specs.Collection.{is_retired}
 use Rattle.cx_model.specs.Leader.{LeaderDurable, LeaderVolatile, is_idle, is_leading, order_row}
 use Rattle.cx_model.specs.Rules.{Running}
-use Rattle.cx_node.specs.Tending.{Care, leader_asked, standing_of}
+use Rattle.cx_course.specs.Tending.{Care, leader_asked, standing_of}
 
 -- a round was begun, or there is none left
 abbrev pub begins : Why → Bool

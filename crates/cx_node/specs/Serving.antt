@@ -1,5 +1,5 @@
 -- The result of serving.
-use Rattle.std.specs.Prelude.{◌≡◌, ◌⊎◌, ℕ, Bool, true, List, ◌++◌, map, take, Option, None, Some, IfSome, slice_get}
+use Rattle.std.specs.Prelude.{◌≡◌, ◌⊎◌, ◌<◌, ℕ, suc, Bool, true, false, List, [], ◌++◌, codes, is_some, length, map, take, Option, None, Some, IfSome, slice_get}
 use Rattle.std.specs.Io.KnownBytes.{Appends, IsAtEnd}
 use Rattle.cx_base.specs.declared.cluster.Cluster.{Cluster}
 use Rattle.cx_base.specs.declared.event.Event.{Event}
@@ -20,16 +20,19 @@ use Rattle.cx_node.specs.declared.input.Refusal.{Refusal}
 use Rattle.cx_node.specs.declared.input.Refusal.TheVariants as refusal
 use Rattle.cx_node.specs.declared.node.RunEnd.{RunEnd}
 use Rattle.cx_node.specs.declared.node.RunEnd.TheVariants as end
-use Rattle.cx_node.specs.Action.{Action, Bound, HasTaken, kept_in, printed_in}
-use Rattle.cx_node.specs.Changing.{changes_of, lists_after}
+use Rattle.cx_course.specs.Action.{Action, Bound, Filled, HasTaken, Kept, Printed, Took, kept_in, printed_in}
+use Rattle.cx_keeper.specs.Keeper.{Change}
+use Rattle.cx_course.specs.Changing.{changes_of, lists_after}
 use Rattle.cx_node.specs.Doing.{Linked}
-use Rattle.cx_node.specs.Hosted.{Hosted}
+use Rattle.cx_course.specs.Hosted.{Hosted}
 use Rattle.cx_node.specs.Input.{FailsRead, input_of, refused_of}
-use Rattle.cx_node.specs.Node.{IsEnd, IsUnderway, Takes}
-use Rattle.cx_node.specs.Opening.{IsBadAs, IsFirstBad, is_durable, opened_as}
-use Rattle.cx_node.specs.Run.{Moved}
+use Rattle.cx_course.specs.Run.{Takes}
+use Rattle.cx_node.specs.Node.{IsEnd, IsUnderway}
+use Rattle.cx_node.specs.Opening.{IsBadAs, IsFirstBad, IsFirstUsed, is_durable, opened_as}
+use Rattle.cx_course.specs.Course.{Course, Moved, course_of}
+use Rattle.cx_course.specs.Follows.{FollowsBetween, KeepsNext}
 use Rattle.cx_node.specs.Stores.{files_of}
-use Rattle.cx_node.specs.Tending.{node_run}
+use Rattle.cx_course.specs.Tending.{node_run}
 
 -- What a node has outside: what its source has left, the history of its link, what its output has taken, what its
 -- depot holds in the stores of each role and whether that is known, and how often each role's have failed.
@@ -74,25 +77,42 @@ told_to held me = records_or_none (files_image (Some me.kind) (held me))
 abbrev pub hosts : Cluster → ℕ → List Event → (RoleId → List Record) → List RoleId → List Hosted
 hosts c window events told roles = map (λ (me : RoleId). opened_as c window events me (told me) me.kind) roles
 
--- the run of these roles over what the takes of a link gave
-abbrev pub run_of : Option ℕ → Cluster → ℕ → List Event → (RoleId → List Record) → List RoleId → Takes
-    → Moved (List Hosted)
-run_of tend c window events told roles takes = node_run tend c takes (hosts c window events told roles)
+-- these roles as a node begins with them; one that records has the header of its record
+abbrev pub begun_with : Option (List ℕ) → Cluster → ℕ → List Event → (RoleId → List Record) → List RoleId → Course
+begun_with header c window events told roles = course_of (is_some header) (hosts c window events told roles)
 
--- the input says this cluster and these requests, and is refused for nothing
-abbrev pub Says : List RoleId → Option (List ℕ) → Cluster → List Event → Type 0
-Says roles left c events =
-    IfSome left (λ all. (input_of all ≡ Lines c (record { events = events; bad = None }))
-    × (refused_of roles (input_of all) ≡ None))
+-- the run of these roles over what the takes of a link gave
+abbrev pub run_of : Option ℕ → Option (List ℕ) → Cluster → ℕ → List Event → (RoleId → List Record) → List RoleId → Takes
+    → Moved Course
+run_of tend header c window events told roles takes = node_run tend c takes (begun_with header c window events told roles)
+
+-- the header of the record of a node that records, where the input has this one
+abbrev pub recorded_header : Bool → List ℕ → Option (List ℕ)
+recorded_header true text = Some text
+recorded_header false text = None
+
+-- the input says this cluster and these requests, and is refused for nothing; a node that records has its header
+pub record Says (recording : Bool) (roles : List RoleId) (left : Option (List ℕ)) (header : Option (List ℕ)) (c : Cluster)
+    (events : List Event) : Type 0 where
+  pub text : List ℕ
+  pub header_is : header ≡ recorded_header recording text
+  pub said : IfSome left (λ all. (input_of all ≡ Lines text c (record { events = events; bad = None }))
+      × (refused_of recording roles (input_of all) ≡ None))
 
 -- what the roles were opened from is what the depot holds, where that is known
 abbrev pub IsTold : Outside → (RoleId → List Record) → Type 0
 IsTold old told = old.tells ≡ true → (me : RoleId) → is_durable me.kind ≡ true → told me ≡ told_to old.held me
 
--- all that is done to the end of a run: each role is bound to its port, and then come the actions of the run
-abbrev pub whole_run : Option ℕ → Cluster → ℕ → List Event → (RoleId → List Record) → List RoleId → Takes → List Action
-whole_run tend c window events told roles takes =
-    map Bound roles ++ (run_of tend c window events told roles takes).actions
+-- what a record begins with: the header, and the line that ends it
+abbrev pub head_text : Option (List ℕ) → List ℕ
+head_text None = []
+head_text (Some header) = header ++ codes "---\n"
+
+-- All that is done to the end of a run: each role is bound to its port, a record is begun, and then come the actions of the run.
+abbrev pub whole_run : Option ℕ → Option (List ℕ) → Cluster → ℕ → List Event → (RoleId → List Record) → List RoleId → Takes
+    → List Action
+whole_run tend header c window events told roles takes =
+    map Bound roles ++ (map Printed (head_text header) ++ (run_of tend header c window events told roles takes).actions)
 
 -- These actions were done, and no others: the link's history has their binds, takes and sends, their bytes are
 -- printed, and each hosted role's store has the list that it had, after their changes of it. Of a role that isn't
@@ -107,40 +127,74 @@ pub record Did (roles : List RoleId) (c : Cluster) (actions : List Action) (old 
       → (new.held me ≡ old.held me) × (new.stores me ≡ old.stores me)
   pub tells : new.tells ≡ old.tells
 
+-- A recorded run: the stores were empty, and at each moment between two of these steps what was done is the model's run of the events
+-- that were recorded by then.
+pub record IsRecorded (roles : List RoleId) (c : Cluster) (told : RoleId → List Record) (actions : List Action) : Type 0 where
+  pub fresh : (i : ℕ) (me : RoleId) → slice_get roles i ≡ Some me → is_durable me.kind ≡ true → told me ≡ []
+  pub follows : FollowsBetween c actions
+  pub in_flight : KeepsNext c actions
+
 -- A whole run was done: over what the takes of the link gave, and from the records that the stores had.
-pub record Served (roles : List RoleId) (tend : Option ℕ) (c : Cluster) (window : ℕ) (events : List Event)
+pub record Served (roles : List RoleId) (tend : Option ℕ) (header : Option (List ℕ)) (c : Cluster) (window : ℕ) (events : List Event)
     (told : RoleId → List Record) (takes : Takes) (old new : Outside) : Type 0 where
   pub told_by : IsTold old told
   pub told_whole : old.tells ≡ true → (i : ℕ) (me : RoleId) → slice_get roles i ≡ Some me → is_durable me.kind ≡ true
       → files_records (Some (old.held me)) ≡ told me
-  pub taken : HasTaken takes (run_of tend c window events told roles takes).actions
-  pub did : Did roles c (whole_run tend c window events told roles takes) old new
+  pub taken : HasTaken takes (run_of tend header c window events told roles takes).actions
+  pub did : Did roles c (whole_run tend header c window events told roles takes) old new
+  pub recorded : is_some header ≡ true → IsRecorded roles c told (run_of tend header c window events told roles takes).actions
 
 -- The first actions of a run were done, one after the other, and no others. What the link gave is in them too, so
 -- each rests on what was taken and kept before it; what the takes to come would give is free.
-pub record ServedPart (roles : List RoleId) (tend : Option ℕ) (c : Cluster) (window : ℕ) (events : List Event)
-    (told : RoleId → List Record) (takes : Takes) (old new : Outside) : Type 0 where
+pub record ServedPart (roles : List RoleId) (tend : Option ℕ) (header : Option (List ℕ)) (c : Cluster) (window : ℕ)
+    (events : List Event) (told : RoleId → List Record) (takes : Takes) (count : ℕ) (old new : Outside) : Type 0 where
   pub told_by : IsTold old told
-  pub count : ℕ
-  pub did : Did roles c (take count (whole_run tend c window events told roles takes)) old new
+  pub did : Did roles c (take count (whole_run tend header c window events told roles takes)) old new
+  -- a record is begun once all stores are opened, and were empty
+  pub recorded : is_some header ≡ true → length roles < count
+      → IsRecorded roles c told (run_of tend header c window events told roles takes).actions
 
 -- the input was read to its end, and no read failed
 abbrev pub AllRead : Outside → Outside → Type 0
 AllRead old new = IsAtEnd new.left × (new.reads ≡ old.reads)
 
 -- the input was accepted, and the whole run was made, to this end
-abbrev pub Ends : List RoleId → Option ℕ → ℕ → ℕ → RunEnd → Outside → Outside → Type 0
-Ends roles tend window turns e old new =
-    (c : Cluster) × (events : List Event) × (told : RoleId → List Record) × (takes : Takes)
-    × Says roles old.left c events × AllRead old new × Served roles tend c window events told takes old new
-    × IsEnd tend c turns (hosts c window events told roles) takes e
+abbrev pub Ends : List RoleId → Option ℕ → ℕ → Bool → ℕ → RunEnd → Outside → Outside → Type 0
+Ends roles tend window recording turns e old new =
+    (header : Option (List ℕ)) × (c : Cluster) × (events : List Event) × (told : RoleId → List Record) × (takes : Takes)
+    × Says recording roles old.left header c events × AllRead old new
+    × Served roles tend header c window events told takes old new
+    × IsEnd tend c turns (begun_with header c window events told roles) takes e
+
+-- the input was accepted, and the first actions of its run were done; this one was next, if that is told
+abbrev pub EndsAt : Option Action → List RoleId → Option ℕ → ℕ → Bool → ℕ → Outside → Outside → Type 0
+EndsAt next roles tend window recording turns old new =
+    (header : Option (List ℕ)) × (c : Cluster) × (events : List Event) × (told : RoleId → List Record) × (takes : Takes) × (count : ℕ)
+    × Says recording roles old.left header c events × AllRead old new
+    × ServedPart roles tend header c window events told takes count old new
+    × IsUnderway tend c turns (begun_with header c window events told roles) takes
+    × IfSome next (λ (action : Action). slice_get (whole_run tend header c window events told roles takes) count ≡ Some action)
 
 -- the input was accepted, and the first actions of its run were done
-abbrev pub EndsEarly : List RoleId → Option ℕ → ℕ → ℕ → Outside → Outside → Type 0
-EndsEarly roles tend window turns old new =
-    (c : Cluster) × (events : List Event) × (told : RoleId → List Record) × (takes : Takes)
-    × Says roles old.left c events × AllRead old new × ServedPart roles tend c window events told takes old new
-    × IsUnderway tend c turns (hosts c window events told roles) takes
+abbrev pub EndsEarly : List RoleId → Option ℕ → ℕ → Bool → ℕ → Outside → Outside → Type 0
+EndsEarly roles tend window recording turns old new = EndsAt None roles tend window recording turns old new
+
+-- the input was accepted, and only the first of its roles were bound
+abbrev pub EndsBinding : List RoleId → Bool → Outside → Outside → Type 0
+EndsBinding roles recording old new =
+    (header : Option (List ℕ)) × (c : Cluster) × (events : List Event) × (bound : ℕ)
+    × Says recording roles old.left header c events × AllRead old new × Did roles c (map Bound (take bound roles)) old new
+
+-- The input was accepted, and all before a change of this role's store was done, and nothing after; the change itself was made or not.
+abbrev pub EndsAtChange : RoleId → List RoleId → Option ℕ → ℕ → Bool → ℕ → Outside → Outside → Type 0
+EndsAtChange role roles tend window recording turns old new =
+    (header : Option (List ℕ)) × (c : Cluster) × (events : List Event) × (told : RoleId → List Record) × (takes : Takes) × (count : ℕ)
+    × (change : Change) × Says recording roles old.left header c events × AllRead old new
+    × (ServedPart roles tend header c window events told takes count old new
+    ⊎ ServedPart roles tend header c window events told takes (suc count) old new)
+    × IsUnderway tend c turns (begun_with header c window events told roles) takes
+    × (slice_get (whole_run tend header c window events told roles takes) count
+    ≡ Some (Kept (record { role = role; change = change })))
 
 -- nothing but the source was used
 pub record IsUntouched (old new : Outside) : Type 0 where
@@ -160,35 +214,49 @@ refused_status (refusal.BadInput line) = status.BadInput line
 refused_status refusal.BadWords = status.BadWords
 
 -- the status of an input of which a read failed
-abbrev pub AnswersPart : List RoleId → Option (List ℕ) → Option (List ℕ) → Status → Type 0
-AnswersPart roles left left_after s = (why : Refusal) × (s ≡ refused_status why) × FailsRead roles left left_after why
+abbrev pub AnswersPart : Bool → List RoleId → Option (List ℕ) → Option (List ℕ) → Status → Type 0
+AnswersPart recording roles left left_after s =
+    (why : Refusal) × (s ≡ refused_status why) × FailsRead recording roles left left_after why
 
 -- What a node answered: what was done, and why.
-pub record Answered (roles : List RoleId) (tend : Option ℕ) (window turns : ℕ) (old new : Outside)
+pub record Answered (roles : List RoleId) (tend : Option ℕ) (window : ℕ) (recording : Bool) (turns : ℕ) (old new : Outside)
     (s : Status) : Type 0 where
   -- Done: all hosted clients have finished, or none is hosted and all turns were made; Turns: all were made, and a
   -- client hasn't finished.
-  pub done : s ≡ status.Done → Ends roles tend window turns end.Done old new
-  pub turns_ended : s ≡ status.Turns → Ends roles tend window turns end.Turns old new
+  pub done : s ≡ status.Done → Ends roles tend window recording turns end.Done old new
+  pub turns_ended : s ≡ status.Turns → Ends roles tend window recording turns end.Turns old new
   -- The input is refused by a role outside the cluster, or its first bad line, or a read failed; nothing else was done.
   pub bad_words : s ≡ status.BadWords
-      → IfSome old.left (λ all. refused_of roles (input_of all) ≡ Some refusal.BadWords) × IsUntouched old new
+      → IfSome old.left (λ all. refused_of recording roles (input_of all) ≡ Some refusal.BadWords) × IsUntouched old new
   pub bad_input : (line : ℕ) → s ≡ status.BadInput line
-      → IfSome old.left (λ all. refused_of roles (input_of all) ≡ Some (refusal.BadInput line)) × IsUntouched old new
+      → IfSome old.left (λ all. refused_of recording roles (input_of all) ≡ Some (refusal.BadInput line)) × IsUntouched old new
   pub read_fault : s ≡ status.ReadFault → Rises old.reads new.reads × IsUntouched old new
   -- A failure after that: its count has risen, and the first actions of the run were done.
-  pub link_fault : s ≡ status.LinkFault → Rises old.links new.links × EndsEarly roles tend window turns old new
-  pub write_fault : s ≡ status.WriteFault → Rises old.writes new.writes × EndsEarly roles tend window turns old new
+  pub link_fault : s ≡ status.LinkFault → Rises old.links new.links × EndsEarly roles tend window recording turns old new
+  -- A bind failed, or a take, which was next.
+  pub link_fault_at : s ≡ status.LinkFault → EndsBinding roles recording old new
+      ⊎ ((what : Option (List ℕ)) × EndsAt (Some (Took what)) roles tend window recording turns old new)
+  pub write_fault : s ≡ status.WriteFault → Rises old.writes new.writes × EndsEarly roles tend window recording turns old new
   pub store_fault : (role : RoleId) → s ≡ status.StoreFault role
-      → Rises (old.stores role) (new.stores role) × EndsEarly roles tend window turns old new
+      → Rises (old.stores role) (new.stores role) × EndsEarly roles tend window recording turns old new
+  -- A store failed as it was opened, or at a change of it, which was next.
+  pub store_fault_at : (role : RoleId) → s ≡ status.StoreFault role → EndsBinding roles recording old new
+      ⊎ EndsAtChange role roles tend window recording turns old new
   -- The first store that isn't one of its role's is reported with the place of its first fault.
-  pub bad_store : (role : RoleId) (at : ℕ) → s ≡ status.BadStore role at → EndsEarly roles tend window turns old new
+  pub bad_store : (role : RoleId) (at : ℕ) → s ≡ status.BadStore role at → EndsEarly roles tend window recording turns old new
   pub bad_place : (role : RoleId) (at : ℕ) → s ≡ status.BadStore role at → old.tells ≡ true
-      → (c : Cluster) × (events : List Event) × Says roles old.left c events × IsFirstBad roles c old.held role at
-  pub no_memory : s ≡ status.NoMemory → IsUntouched old new ⊎ EndsEarly roles tend window turns old new
+      → (header : Option (List ℕ)) × (c : Cluster) × (events : List Event) × Says recording roles old.left header c events
+      × IsFirstBad roles c old.held role at
+  -- Of a node that is to record: the first store that has a record is reported, and nothing is printed.
+  pub not_fresh : (role : RoleId) → s ≡ status.NotFresh role
+      → (recording ≡ true) × EndsEarly roles tend window recording turns old new × (new.out ≡ old.out)
+  pub used : (role : RoleId) → s ≡ status.NotFresh role → old.tells ≡ true → IsFirstUsed roles old.held role
+  -- The lines of the next step don't fit the record; all before it was done.
+  pub record_full : s ≡ status.RecordFull → (recording ≡ true) × EndsAt (Some Filled) roles tend window recording turns old new
+  pub no_memory : s ≡ status.NoMemory → IsUntouched old new ⊎ EndsEarly roles tend window recording turns old new
   -- A failed read is always reported, unless the whole lines before it are refused. A failed write or take, and a
   -- store that failed, is always reported.
-  pub heard : (new.reads ≡ old.reads) ⊎ AnswersPart roles old.left new.left s
+  pub heard : (new.reads ≡ old.reads) ⊎ AnswersPart recording roles old.left new.left s
   pub written : (s ≡ status.WriteFault → ⊥) → new.writes ≡ old.writes
   pub linked : (s ≡ status.LinkFault → ⊥) → new.links ≡ old.links
   pub stored : (role : RoleId) → (s ≡ status.StoreFault role → ⊥) → new.stores role ≡ old.stores role
@@ -200,32 +268,41 @@ pub record NoFault (old new : Outside) : Type 0 where
   pub writes : Rises old.writes new.writes → ⊥
   pub stores : (role : RoleId) → Rises (old.stores role) (new.stores role) → ⊥
 
--- the whole input is known and refused for nothing, and the depot is known to hold for each hosted role a store of
--- its own
-pub record IsGood (roles : List RoleId) (old : Outside) : Type 0 where
+-- The whole input is known and refused for nothing, and the depot is known to hold for each hosted role a store of
+-- its own.
+pub record IsGood (recording : Bool) (roles : List RoleId) (old : Outside) : Type 0 where
   pub all : List ℕ
   pub left : old.left ≡ Some all
-  pub accepted : refused_of roles (input_of all) ≡ None
+  pub accepted : refused_of recording roles (input_of all) ≡ None
   pub tells : old.tells ≡ true
-  pub stores : (c : Cluster) (events : List Event) (i : ℕ) (role : RoleId) (at : ℕ) → Says roles old.left c events
+  pub stores : (header : Option (List ℕ)) (c : Cluster) (events : List Event) (i : ℕ) (role : RoleId) (at : ℕ)
+      → Says recording roles old.left header c events
       → slice_get roles i ≡ Some role → IsBadAs c role (old.held role) at role.kind → ⊥
 
--- the run came to its end, or memory ran out
-abbrev pub EndsWell : Status → Type 0
-EndsWell status.Done = Unit {0}
-EndsWell status.Turns = Unit {0}
-EndsWell status.NoMemory = Unit {0}
-EndsWell other = ⊥
+-- the run came to its end, or to the end of its record, or memory ran out; or a store has a record, of a node that is to record
+abbrev pub EndsWell : Bool → Status → Type 0
+EndsWell recording status.Done = Unit {0}
+EndsWell recording status.Turns = Unit {0}
+EndsWell recording status.NoMemory = Unit {0}
+EndsWell recording status.RecordFull = recording ≡ true
+EndsWell recording (status.NotFresh role) = recording ≡ true
+EndsWell recording other = ⊥
 
 -- Where all is good and nothing fails, the run comes to its end, or memory ran out.
-abbrev pub Completes : List RoleId → Outside → Outside → Status → Type 0
-Completes roles old new s = NoFault old new → IsGood roles old → EndsWell s
+abbrev pub Completes : Bool → List RoleId → Outside → Outside → Status → Type 0
+Completes recording roles old new s = NoFault old new → IsGood recording roles old → EndsWell recording s
+
+-- Where all is good and nothing fails, a node that is to record always reports a store that has a record, or memory ran out.
+abbrev pub TellsUsed : Bool → List RoleId → Outside → Outside → Status → Type 0
+TellsUsed recording roles old new s =
+    NoFault old new → IsGood recording roles old → recording ≡ true → (role : RoleId) → IsFirstUsed roles old.held role
+    → (s ≡ status.NotFresh role) ⊎ (s ≡ status.NoMemory)
 
 -- Where the whole input is known and accepted and nothing fails, a store that isn't one of its role's is always
 -- reported, or memory ran out.
-abbrev pub TellsBad : List RoleId → Outside → Outside → Status → Type 0
-TellsBad roles old new s =
+abbrev pub TellsBad : Bool → List RoleId → Outside → Outside → Status → Type 0
+TellsBad recording roles old new s =
     NoFault old new → old.tells ≡ true → (all : List ℕ) → old.left ≡ Some all
-    → (c : Cluster) (events : List Event) (role : RoleId) (at : ℕ)
-    → Says roles old.left c events → IsFirstBad roles c old.held role at
+    → (header : Option (List ℕ)) (c : Cluster) (events : List Event) (role : RoleId) (at : ℕ)
+    → Says recording roles old.left header c events → IsFirstBad roles c old.held role at
     → (s ≡ status.BadStore role at) ⊎ (s ≡ status.NoMemory)

@@ -9,14 +9,9 @@ use Rattle.cx_base.specs.declared.role.RoleId.{RoleId}
 use Rattle.cx_journal.specs.Files.{Files, files_image, files_records}
 use Rattle.cx_journal.specs.Store.{store_told, store_whole}
 use Rattle.cx_journal.specs.declared.store.Store.{Store}
-use Rattle.cx_keeper.specs.Keeper.{Change, Append, Renewal}
 use Rattle.cx_inv_open.specs.Reopened.{stored_as}
-use Rattle.cx_model.specs.Replica.{replica_renewed, replica_rules}
-use Rattle.cx_model.specs.Rules.{folded}
 use Rattle.cx_model.specs.World.{change, kept_by, run}
 use Rattle.cx_msg.specs.declared.input.Written.{Written}
-use Rattle.cx_msg.specs.declared.input.Written.TheVariants as written
-use Rattle.cx_msg.specs.declared.kept.Record.{Record}
 use Rattle.cx_promises.specs.Lawful.{IsLawful}
 use Rattle.cx_node.specs.Stores.{has_second, is_two}
 
@@ -43,11 +38,6 @@ MayChange (event.Session client seq floor replica key) = ⊥
 MayChange (event.Tick r) = ⊥
 MayChange (event.Crash r) = ⊥
 MayChange (event.Restart r) = ⊥
-
--- what the store with this list is asked to do, so that it keeps what the history then has
-abbrev pub change_for : List Record → Written → Change
-change_for list (written.Record r) = Append r
-change_for list (written.Snap first) = Renewal (replica_renewed (folded replica_rules list) first)
 
 -- A role's store has the list that a run leaves in it, and in the next event, if it is whole, the role changes it so.
 pub record IsNextChange {D : Type 0} (seen : D → Option (List ℕ)) (c : Cluster) (es : List Event) (e : Event)

@@ -8,10 +8,10 @@ use Rattle.cx_model.specs.Examples.{one_of_each}
 use Rattle.cx_model.specs.Replica.{replica_rules}
 use Rattle.cx_msg.specs.Letter.{Letter, letter}
 use Rattle.cx_msg.specs.declared.message.Msg.TheVariants as msg
-use Rattle.cx_node.specs.Action.{sent_in}
-use Rattle.cx_node.specs.Hosted.{Hosted, ClientAt, ReplicaAt}
-use Rattle.cx_node.specs.Run.{Moved, stays}
-use Rattle.cx_node.specs.Tending.{Care, Tended, asks_again, collected, counted, first_leader, is_beat, is_time, leader_tended, next_pass, no_care, reported, tend_ordered, untended}
+use Rattle.cx_course.specs.Action.{sent_in}
+use Rattle.cx_course.specs.Hosted.{Hosted, ClientAt, ReplicaAt}
+use Rattle.cx_course.specs.Course.{Course, Moved, course_of, stays}
+use Rattle.cx_course.specs.Tending.{Care, Tended, asks_again, collected, counted, first_leader, is_beat, is_time, leader_tended, next_pass, no_care, reported, tend_ordered, untended}
 
 -- n takes gave nothing
 abbrev pub quiet : ℕ → Care → Care
@@ -40,17 +40,21 @@ abbrev pub replica_with : ℕ → Hosted
 replica_with n =
     ReplicaAt (record { cluster = one_of_each; me = role Replica 0; live = true; durable = record (replica_rules.empty) { log = replicate n Noop }; volatile = replica_rules.fresh one_of_each })
 
+-- it alone, in a node that doesn't record
+abbrev pub alone_with : ℕ → Course
+alone_with n = course_of false (replica_with n ∷ [])
+
 -- a replica reports each further multiple of 8 slots
 pub record Reports : Type 0 where
-  pub at_8 : sent_in ((reported (role Replica 0) 7 (replica_with 8 ∷ [])).actions) ≡ letter (role Replica 0) (role Leader 0) (msg.Held 8) ∷ []
-  pub at_15 : sent_in ((reported (role Replica 0) 8 (replica_with 15 ∷ [])).actions) ≡ []
-  pub at_17 : sent_in ((reported (role Replica 0) 15 (replica_with 17 ∷ [])).actions) ≡ letter (role Replica 0) (role Leader 0) (msg.Held 17) ∷ []
+  pub at_8 : sent_in ((reported (role Replica 0) 7 (alone_with 8)).actions) ≡ letter (role Replica 0) (role Leader 0) (msg.Held 8) ∷ []
+  pub at_15 : sent_in ((reported (role Replica 0) 8 (alone_with 15)).actions) ≡ []
+  pub at_17 : sent_in ((reported (role Replica 0) 15 (alone_with 17)).actions) ≡ letter (role Replica 0) (role Leader 0) (msg.Held 17) ∷ []
 
 -- where leader 0 isn't hosted it gets no order
 pub record NoLeader : Type 0 where
-  pub ordered : tend_ordered one_of_each 1 (replica_with 8 ∷ []) ≡ stays (replica_with 8 ∷ [])
-  pub collected : collected (replica_with 8 ∷ []) ≡ stays (replica_with 8 ∷ [])
-  pub tended : leader_tended one_of_each (first_leader (replica_with 8 ∷ [])) (untended (replica_with 8 ∷ [])) ≡ stays (untended (replica_with 8 ∷ []))
+  pub ordered : tend_ordered one_of_each 1 (alone_with 8) ≡ stays (alone_with 8)
+  pub collected : collected (alone_with 8) ≡ stays (alone_with 8)
+  pub tended : leader_tended one_of_each (first_leader ((alone_with 8).hosted)) (untended (alone_with 8)) ≡ stays (untended (alone_with 8))
 
 -- when clients ask again, and when a spent leader changes
 pub record Waits : Type 0 where
@@ -79,7 +83,7 @@ three_with a b d = client_with 0 a ∷ client_with 1 b ∷ client_with 2 d ∷ [
 
 -- a pass ends when they have
 abbrev pub ends_with : List Hosted → Care → Moved Tended
-ends_with hs k = next_pass (record { care = k; hosted = hs })
+ends_with hs k = next_pass (record { care = k; course = course_of false hs })
 
 -- three passes, in each of which one client alone is answered, each time another one
 abbrev pub first_end : Moved Tended

@@ -10,13 +10,14 @@ use Rattle.cx_node.specs.declared.whom.Whom.TheVariants.{Kind, Others, Overtaken
 use Rattle.cx_node.specs.Acts.{Acts}
 use Rattle.cx_node.specs.Changing.{Changing}
 use Rattle.cx_node.specs.Doing.{Scene}
-use Rattle.cx_node.specs.Hosted.{Hosted}
-use Rattle.cx_node.specs.Run.{Moved, is_client}
-use Rattle.cx_node.specs.Tending.{Care, Tended, is_of, is_overtaken, without_care}
+use Rattle.cx_course.specs.Hosted.{Hosted}
+use Rattle.cx_course.specs.Course.{Course, Moved}
+use Rattle.cx_course.specs.Run.{is_client}
+use Rattle.cx_course.specs.Tending.{Care, Tended, is_of, is_overtaken, without_care}
 
 -- these roles, with these counts
-abbrev pub tended : Care → List Hosted → Tended
-tended k hs = record { care = k; hosted = hs }
+abbrev pub tended : Care → Course → Tended
+tended k s = record { care = k; course = s }
 
 -- which roles are meant, by their places, where these numbers were completed when the pass began
 abbrev pub is_meant : Whom → List ℕ → ℕ → Hosted → Bool

@@ -1,5 +1,5 @@
 -- How a role is woken from the bytes of its store.
-use Rattle.std.specs.Prelude.{◌≡◌, ◌⊎◌, ◌++◌, ℕ, List, length, take, Option, None, Some, Ok, Err, is_some}
+use Rattle.std.specs.Prelude.{◌≡◌, ◌⊎◌, ◌+◌, ◌++◌, ℕ, List, length, take, Option, None, Some, Ok, Err, is_some}
 use Rattle.cx_base.specs.declared.cluster.Cluster.{Cluster}
 use Rattle.cx_base.specs.declared.role.RoleId.{RoleId}
 use Rattle.cx_journal.specs.Files.{Files, files_image, files_records, front_in}
@@ -9,15 +9,16 @@ use Rattle.cx_model.specs.Rules.{Rules, Running, opened, refused}
 use Rattle.cx_msg.specs.declared.kept.Record.{Record}
 
 -- A role as the records of a store leave it: they are those of its bytes, each is one that the role could have
--- appended, and the store has them.
+-- appended, and the store has them, each with a gate.
 pub record IsWoken {D V : Type 0} (rules : Rules D V) (c : Cluster) (me : RoleId) (seen seen_after : Option Files)
-    (role : Running D V) : Type 0 where
+    (gates : List ℕ) (role : Running D V) : Type 0 where
   pub records : List Record
   pub state : role ≡ opened rules c me records
   pub accepted : refused rules c me records ≡ None
   pub read : (files : Files) → seen ≡ Some files → files_image (Some me.kind) files ≡ Ok records
   pub kept : (files : Files) → seen ≡ Some files → files_records seen_after ≡ records
   pub told : is_some seen_after ≡ is_some seen
+  pub each : length gates ≡ length records + 1
 
 -- The place, in the only or live file, at which the bytes are no store of this role: their first break, or that of the
 -- first record which the role could not have appended, or the end of records that end too early.

@@ -3,9 +3,9 @@
 ghost use Rattle.std.specs.Prelude.{◌≡◌, ◌&&◌, not, min, filter, List, length, IfOk, OnOk};
 ghost use Rattle.std.specs.List.{sum};
 ghost use Rattle.cx_base.specs.Lists.{below};
-ghost use Rattle.cx_node.specs.Hosted.{Hosted};
-ghost use Rattle.cx_node.specs.Tending.{asks_again, beat_over, clients_noted, counted, is_beat, is_marked, is_still};
-ghost use Rattle.cx_node.specs.Tending.{is_time, leader_noted, no_care, pass_begun, passes, requeued};
+ghost use Rattle.cx_course.specs.Hosted.{Hosted};
+ghost use Rattle.cx_course.specs.Tending.{asks_again, beat_over, clients_noted, counted, is_beat, is_marked, is_still};
+ghost use Rattle.cx_course.specs.Tending.{is_time, leader_noted, no_care, pass_begun, passes, requeued};
 
 use cx_base::NoMemory;
 use std::alloc::Global;
@@ -35,7 +35,7 @@ pub struct Care {
 }
 
 impl Model for Care {
-    ghost use Rattle.cx_node.specs.Tending.{Care as CareState};
+    ghost use Rattle.cx_course.specs.Tending.{Care as CareState};
 
     ghost Value = { CareState };
 
@@ -170,7 +170,7 @@ impl Care {
     }
 
     /// Counts a turn.
-    #[tactic(auto, unfolding(crate::specs::Tending::counted))]
+    #[tactic(auto, unfolding(cx_course::specs::Tending::counted))]
     pub fn count(&mut self, came: bool)
         ensures { self.new ≡ counted came self.old }
     {
@@ -182,7 +182,7 @@ impl Care {
     }
 
     /// Whether the turn ends with a beat: after 64 takes that gave nothing after one that gave nothing, or after `most` turns.
-    #[tactic(auto, unfolding(crate::specs::Tending::is_beat))]
+    #[tactic(auto, unfolding(cx_course::specs::Tending::is_beat))]
     pub fn is_beat(&self, most: u32) -> bool
         ensures { result ≡ is_beat most self.now }
     {
@@ -198,7 +198,7 @@ impl Care {
     }
 
     /// Notes at a beat where the leader is: its watermark, and whether a slot is open.
-    #[tactic(auto, unfolding(crate::specs::Tending::leader_noted))]
+    #[tactic(auto, unfolding(cx_course::specs::Tending::leader_noted))]
     pub fn note_leader(&mut self, watermark: u64, has_open: bool)
         ensures { self.new ≡ leader_noted watermark has_open self.old }
     {
@@ -211,7 +211,7 @@ impl Care {
     }
 
     /// Whether it is time for the next round of a leader that is spent.
-    #[tactic(auto, unfolding(crate::specs::Tending::is_time))]
+    #[tactic(auto, unfolding(cx_course::specs::Tending::is_time))]
     pub fn is_time(&self) -> bool
         ensures { result ≡ is_time self.now.stuck }
     {
@@ -220,7 +220,7 @@ impl Care {
     }
 
     /// Notes at a beat how many requests the clients have completed.
-    #[tactic(auto, unfolding(crate::specs::Tending::clients_noted))]
+    #[tactic(auto, unfolding(cx_course::specs::Tending::clients_noted))]
     pub fn note_clients(&mut self, done: u64)
         ensures { self.new ≡ clients_noted done self.old }
     {
@@ -233,7 +233,7 @@ impl Care {
     }
 
     /// Whether all clients ask again.
-    #[tactic(auto, unfolding(crate::specs::Tending::asks_again))]
+    #[tactic(auto, unfolding(cx_course::specs::Tending::asks_again))]
     pub fn asks_again(&self) -> bool
         ensures { result ≡ asks_again self.now.still }
     {
@@ -242,7 +242,7 @@ impl Care {
     }
 
     /// Whether a pass ends: more than two requests a client were completed in it.
-    #[tactic(auto, unfolding(crate::specs::Tending::passes))]
+    #[tactic(auto, unfolding(cx_course::specs::Tending::passes))]
     pub fn passes(&self, clients: usize, done: u64) -> bool
         ensures { result ≡ passes clients done self.now }
     {

@@ -1,7 +1,8 @@
 //! How the stores of hosted roles are given back.
 
 ghost use Rattle.std.specs.Prelude.{◌≡◌, []};
-ghost use Rattle.cx_node.specs.Guest.{AreDistinct, hosted_in};
+ghost use Rattle.cx_course.specs.Alike.{AreDistinct};
+ghost use Rattle.cx_node.specs.Guest.{hosted_in};
 ghost use Rattle.cx_node.specs.Hosting.{AreGivenBack};
 ghost use Rattle.cx_node.specs.Opening.{lent_to};
 

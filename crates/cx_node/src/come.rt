@@ -2,10 +2,11 @@
 
 use cx_msg::Datagram;
 
-/// Nothing was there, or bytes that are no datagram, or one.
+/// Nothing was there; or bytes that bring no datagram; or one, with its number among those that the node sent, where it
+/// records, else 0.
 #[derive(Drop)]
 pub enum Come {
     Nothing,
     Foreign,
-    Letter { datagram: Datagram },
+    Letter { number: u64, datagram: Datagram },
 }

@@ -1,23 +1,25 @@
 //! What the input of a node says.
 
-ghost use Rattle.std.specs.Prelude.{◌≡◌, ◌⊎◌, ◌≤◌, ℕ, Some, None, Err, false, is_some};
+ghost use Rattle.std.specs.Prelude.{◌≡◌, ◌⊎◌, ◌≤◌, ℕ, List, Some, None, Err, true, false, is_some};
 ghost use Rattle.std.specs.Prelude.{IfOk, IfErr, IfSome, IsErrOf, IsTrue};
 ghost use Rattle.std.specs.Io.KnownBytes.{IsAtEnd};
-ghost use Rattle.std.specs.List.{list_all};
+ghost use Rattle.std.specs.List.{All, list_all};
 ghost use Rattle.cx_base.specs.declared.role.RoleId.{RoleId};
 ghost use Rattle.cx_base.specs.Faults.{Rises};
 ghost use Rattle.cx_model.specs.Names.{names_role};
+ghost use Rattle.cx_record.specs.Readable.{IsRecordable};
 ghost use Rattle.cx_script.specs.Requests.{IsScript, script_of};
 ghost use Rattle.cx_cluster.specs.Reading.{header_cluster};
 ghost use Rattle.cx_node.specs.declared.input.Heard.TheVariants.{Lines, Nothing};
 ghost use Rattle.cx_node.specs.declared.input.Refusal.TheVariants as refusal;
 ghost use Rattle.cx_node.specs.Input.{FailsRead, IsAnswer, IsRefusal};
-ghost use Rattle.cx_node.specs.Input.{bad_line_of, behind, heard_of, input_of, lines, refused_of, with_port};
+ghost use Rattle.cx_node.specs.Input.{bad_line_of, behind, heard_of, input_of, lines, may_host, refused_of, with_port};
 
+use crate::HeaderText;
+use crate::hosting::may_host;
 use cx_base::{Cluster, MAX_HEADER_LENGTH, MAX_LINE_LENGTH, NoMemory, RoleId};
 use cx_cluster::{ClusterFault, read};
 use cx_edge::{ReadAll, Source, read_all};
-use cx_role::names_role;
 use cx_script::{Schedule, counted, is_long_header, read_requests, split_header};
 use std::alloc::Global;
 
@@ -31,11 +33,21 @@ pub enum Heard {
     Nothing,
     /// The header says no cluster with a port.
     BadHeader,
-    /// The header's cluster, and what the lines after it spell.
+    /// The header's text, its cluster, and what the lines after it spell.
     Lines {
+        header: HeaderText,
         cluster: Cluster,
         schedule: Schedule,
     },
+}
+
+/// What an input that was accepted says.
+#[derive(Drop)]
+pub struct Accepted {
+    /// The text of its header.
+    pub header: HeaderText,
+    pub cluster: Cluster,
+    pub schedule: Schedule,
 }
 
 /// Why an input is refused.
@@ -46,27 +58,36 @@ pub enum Refusal {
     ReadFault,
     /// The first bad line, counted from 1 after the header, which is line 0.
     BadInput { line: u64 },
-    /// A role that is to be hosted isn't in the header's cluster.
+    /// A role that is to be hosted isn't in the header's cluster, or the node is to record, and another one is.
     BadWords,
 }
 
-// A cluster with a port, and what the bytes after its header spell.
-fn with_port(alloc: Global, cluster: Cluster, rest: &[u8]) -> Result<Heard, NoMemory>
-    ensures { IfOk result (λ heard. heard ≡ with_port cluster.base_port cluster rest.now) }
+// A header's text, its cluster, which has a port, and what the bytes after it spell.
+fn with_port(
+    alloc: Global,
+    header: Vec<u8>,
+    cluster: Cluster,
+    rest: &[u8],
+) -> Result<Heard, NoMemory>
+    ensures { IfOk result (λ heard. heard ≡ with_port cluster.base_port header.items cluster rest.now) }
 {
     if cluster.base_port.is_none() {
         return Ok(Heard::BadHeader);
     }
     let schedule = read_requests(alloc, &cluster, rest)?;
-    Ok(Heard::Lines { cluster, schedule })
+    Ok(Heard::Lines {
+        header: HeaderText::new(header),
+        cluster,
+        schedule,
+    })
 }
 
 // What a header's text and the bytes after it say.
-fn behind(alloc: Global, header: &[u8], rest: &[u8]) -> Result<Heard, NoMemory>
-    ensures { IfOk result (λ heard. heard ≡ behind (header_cluster header.now) rest.now) }
+fn behind(alloc: Global, header: Vec<u8>, rest: &[u8]) -> Result<Heard, NoMemory>
+    ensures { IfOk result (λ heard. heard ≡ behind (header_cluster header.items) header.items rest.now) }
 {
-    match read(alloc, header) {
-        Ok(cluster) => with_port(alloc, cluster, rest),
+    match read(alloc, &header) {
+        Ok(cluster) => with_port(alloc, header, cluster, rest),
         Err(ClusterFault::NoMemory) => Err(NoMemory),
         Err(_) => Ok(Heard::BadHeader),
     }
@@ -78,7 +99,7 @@ fn read_input(alloc: Global, bytes: &[u8]) -> Result<Heard, NoMemory>
     ensures { IfOk result (λ heard. heard ≡ input_of bytes.now) }
 {
     match split_header(alloc, bytes)? {
-        Some((header, rest)) => behind(alloc, &header, rest),
+        Some((header, rest)) => behind(alloc, header, rest),
         None => Ok(Heard::BadHeader),
     }
 }
@@ -89,7 +110,7 @@ fn read_lines(alloc: Global, bytes: &[u8]) -> Result<Heard, NoMemory>
     ensures { IfOk result (λ heard. heard ≡ lines bytes.now) }
 {
     if let Some((header, rest)) = split_header(alloc, counted(bytes, MAX_LINE_LENGTH))? {
-        return behind(alloc, &header, rest);
+        return behind(alloc, header, rest);
     }
     if is_long_header(counted(bytes, MAX_HEADER_LENGTH)) {
         return Ok(Heard::BadHeader);
@@ -108,18 +129,6 @@ fn hear(alloc: Global, bytes: &[u8], ended: bool) -> Result<Heard, NoMemory>
     }
 }
 
-// Whether each role is in the cluster.
-fn are_named(cluster: &Cluster, roles: &[RoleId]) -> bool
-    ensures { result ≡ list_all (λ (r : RoleId). names_role cluster.now r) roles.now }
-{
-    for role in roles {
-        if !names_role(cluster, *role) {
-            return false;
-        }
-    }
-    true
-}
-
 fn bad_line(line: Option<u64>) -> Option<Refusal>
     ensures { result ≡ bad_line_of line }
 {
@@ -129,11 +138,16 @@ fn bad_line(line: Option<u64>) -> Option<Refusal>
     }
 }
 
-// Why lines after a header are refused: a role outside the cluster comes before the first bad line.
-fn refused(roles: &[RoleId], cluster: &Cluster, schedule: &Schedule) -> Option<Refusal>
-    ensures { result ≡ refused_of roles.now (Lines cluster.now schedule.now) }
+// Why lines after a header are refused: for the roles before the first bad line.
+fn refused(
+    recording: bool,
+    roles: &[RoleId],
+    cluster: &Cluster,
+    schedule: &Schedule,
+) -> Option<Refusal>
+    ensures { (header : List ℕ) → result ≡ refused_of recording roles.now (Lines header cluster.now schedule.now) }
 {
-    if are_named(cluster, roles) {
+    if may_host(recording, cluster, roles) {
         bad_line(schedule.bad())
     } else {
         Some(Refusal::BadWords)
@@ -141,16 +155,24 @@ fn refused(roles: &[RoleId], cluster: &Cluster, schedule: &Schedule) -> Option<R
 }
 
 // What is answered to what was heard of a whole input or not.
-fn answer(roles: &[RoleId], heard: Heard, ended: bool) -> Result<(Cluster, Schedule), Refusal>
+fn answer(recording: bool, roles: &[RoleId], heard: Heard, ended: bool) -> Result<Accepted, Refusal>
     requires { heard ≡ Nothing → ended ≡ false }
-    ensures { IsAnswer ended roles.now heard result }
+    ensures { IsAnswer ended recording roles.now heard result }
 {
     match heard {
         Heard::Nothing => Err(Refusal::ReadFault),
         Heard::BadHeader => Err(Refusal::BadInput { line: 0 }),
-        Heard::Lines { cluster, schedule } => match refused(roles, &cluster, &schedule) {
+        Heard::Lines {
+            header,
+            cluster,
+            schedule,
+        } => match refused(recording, roles, &cluster, &schedule) {
             Some(why) => Err(why),
-            None if ended => Ok((cluster, schedule)),
+            None if ended => Ok(Accepted {
+                header,
+                cluster,
+                schedule,
+            }),
             None => Err(Refusal::ReadFault),
         },
     }
@@ -159,51 +181,58 @@ fn answer(roles: &[RoleId], heard: Heard, ended: bool) -> Result<(Cluster, Sched
 // What is answered to these bytes.
 fn answer_bytes(
     alloc: Global,
+    recording: bool,
     roles: &[RoleId],
     bytes: &[u8],
     ended: bool,
-) -> Result<(Cluster, Schedule), Refusal>
-    ensures { IsAnswer ended roles.now (heard_of ended bytes.now) result }
+) -> Result<Accepted, Refusal>
+    ensures { IsAnswer ended recording roles.now (heard_of ended bytes.now) result }
 {
     match hear(alloc, bytes, ended) {
-        Ok(heard) => answer(roles, heard, ended),
+        Ok(heard) => answer(recording, roles, heard, ended),
         Err(NoMemory) => Err(Refusal::NoMemory),
     }
 }
 
-/// Reads the input to its end, and answers its cluster and requests, for a node of these roles. It is refused, in
-/// this order, for its header, for a role outside the cluster, and for its first bad line; `ReadFault` comes only
-/// where the source's count rose, and none of these comes before it.
+/// Reads the input to its end, and answers its header, its cluster and its requests, for a node of these roles. It is refused, in
+/// this order, for its header, for its roles (one is outside the cluster, or the node is to record, and one of the cluster is
+/// not among them), and for its first bad line; `ReadFault` comes only where the source's count rose, and none of these
+/// comes before it.
 pub fn listen<S: Source>(
     alloc: Global,
     roles: &[RoleId],
+    recording: bool,
     source: &mut S,
-) -> Result<(Cluster, Schedule), Refusal>
-    ensures heard { IfOk result (λ p. IfSome (S.left source.old) (λ all. input_of all ≡ Lines p.0 p.1)) }
-    ensures taken { IfOk result (λ p. p.1.bad ≡ None) }
-    ensures named { IfOk result (λ p. IsTrue (list_all (λ (r : RoleId). names_role p.0 r) roles.now)) }
-    ensures port { IfOk result (λ p. IsTrue (is_some p.0.base_port)) }
-    ensures scripts { IfOk result (λ p. (client : ℕ) → IsScript p.0 client (script_of client p.1.events)) }
+) -> Result<Accepted, Refusal>
+    ensures heard { IfOk result (λ a. IfSome (S.left source.old)
+        (λ all. input_of all ≡ Lines a.header a.cluster a.schedule)) }
+    ensures taken { IfOk result (λ a. a.schedule.bad ≡ None) }
+    ensures hosts { IfOk result (λ a. may_host recording a.cluster roles.now ≡ true) }
+    ensures named { IfOk result (λ a. IsTrue (list_all (λ (r : RoleId). names_role a.cluster r) roles.now)) }
+    ensures port { IfOk result (λ a. IsTrue (is_some a.cluster.base_port)) }
+    ensures scripts { IfOk result (λ a. (client : ℕ) → IsScript a.cluster client (script_of client a.schedule.events)) }
+    ensures recordable { IfOk result (λ a. (client : ℕ)
+        → All (IsRecordable a.cluster) (script_of client a.schedule.events)) }
     ensures at_end { IfOk result (λ _. IsAtEnd (S.left source.new)) }
     ensures all_read { IfOk result (λ _. S.faults source.new ≡ S.faults source.old) }
-    ensures bad_input { (line : ℕ) → result ≡ Err (refusal.BadInput line)
-        → IfSome (S.left source.old) (λ all. refused_of roles.now (input_of all) ≡ Some (refusal.BadInput line)) }
-    ensures bad_words { result ≡ Err refusal.BadWords
-        → IfSome (S.left source.old) (λ all. refused_of roles.now (input_of all) ≡ Some refusal.BadWords) }
+    ensures bad_input { (line : ℕ) → result ≡ Err (refusal.BadInput line) → IfSome (S.left source.old)
+        (λ all. refused_of recording roles.now (input_of all) ≡ Some (refusal.BadInput line)) }
+    ensures bad_words { result ≡ Err refusal.BadWords → IfSome (S.left source.old)
+        (λ all. refused_of recording roles.now (input_of all) ≡ Some refusal.BadWords) }
     ensures read_fault { IsErrOf result Refusal.ReadFault → Rises (S.faults source.old) (S.faults source.new) }
     // A failed read is always reported, unless the whole lines before it are refused.
     ensures read_failed { (S.faults source.new ≡ S.faults source.old)
-        ⊎ IfErr result (FailsRead roles.now (S.left source.old) (S.left source.new)) }
+        ⊎ IfErr result (FailsRead recording roles.now (S.left source.old) (S.left source.new)) }
     ensures later { S.faults source.old ≤ S.faults source.new }
 
     // Where no read failed, the answer is what the whole input says, or that memory ran out.
-    ensures complete { (Rises (S.faults source.old) (S.faults source.new) → ⊥)
-        → IfSome (S.left source.old) (λ all. IfErr result (IsRefusal (refused_of roles.now (input_of all)))) }
+    ensures complete { (Rises (S.faults source.old) (S.faults source.new) → ⊥) → IfSome (S.left source.old)
+        (λ all. IfErr result (IsRefusal (refused_of recording roles.now (input_of all)))) }
 {
     match read_all(alloc, source, LIMIT) {
-        ReadAll::Whole(bytes) => answer_bytes(alloc, roles, &bytes, true),
-        ReadAll::TooLong(bytes) => answer_bytes(alloc, roles, &bytes, false),
-        ReadAll::Failed(bytes) => answer_bytes(alloc, roles, &bytes, false),
+        ReadAll::Whole(bytes) => answer_bytes(alloc, recording, roles, &bytes, true),
+        ReadAll::TooLong(bytes) => answer_bytes(alloc, recording, roles, &bytes, false),
+        ReadAll::Failed(bytes) => answer_bytes(alloc, recording, roles, &bytes, false),
         ReadAll::NoMemory => Err(Refusal::NoMemory),
     }
 }

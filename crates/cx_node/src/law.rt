@@ -10,7 +10,8 @@ ghost use Rattle.cx_journal.specs.Store.{IsStoreChange, StoreLeftSince, StoreMay
 ghost use Rattle.cx_journal.specs.declared.store.Store.{Store};
 ghost use Rattle.cx_keeper.specs.declared.keeper.KeepFault.{KeepFault};
 ghost use Rattle.cx_msg.specs.declared.input.Written.{Written};
-ghost use Rattle.cx_node.specs.Stops.{IsNextChange, IsOfRun, change_for};
+ghost use Rattle.cx_course.specs.Changing.{change_for};
+ghost use Rattle.cx_node.specs.Stops.{IsNextChange, IsOfRun};
 
 use cx_disk::Disk;
 

@@ -1,6 +1,6 @@
 //! The node: its hosted roles, and how it runs.
 
-ghost use Rattle.std.specs.Prelude.{◌≡◌, Err, IfOk, IfErr};
+ghost use Rattle.std.specs.Prelude.{◌≡◌, Err, IfOk, IfErr, None, Some, if◌then◌else◌};
 ghost use Rattle.std.specs.List.{list_all, list_any};
 ghost use Rattle.cx_base.specs.Faults.{Rises};
 ghost use Rattle.cx_node.specs.declared.node.Stop.TheVariants as stop;
@@ -8,14 +8,17 @@ ghost use Rattle.cx_node.specs.Acts.{ActsLong, Blames, failed, scene_of};
 ghost use Rattle.cx_node.specs.Changing.{changing};
 ghost use Rattle.cx_node.specs.Guest.{AreReady, hosted_in, hosted_of};
 ghost use Rattle.cx_node.specs.Node.{Runs, RunsPart};
-ghost use Rattle.cx_node.specs.Run.{all_finished, has_finished, is_client};
-ghost use Rattle.cx_node.specs.Tending.{first_care};
+ghost use Rattle.cx_course.specs.Run.{all_finished, has_finished, is_client};
+ghost use Rattle.cx_course.specs.Tending.{first_care};
+ghost use Rattle.cx_record.specs.Numbers.{blank};
 
+use crate::Seat;
 use crate::care::Care;
-use crate::{Doing, Seat};
-use cx_base::{Cluster, MAX_DATAGRAM_LENGTH, NoMemory, RoleId};
+use cx_base::{Cluster, Event, MAX_DATAGRAM_LENGTH, NoMemory, RoleId};
+use cx_course::Doing;
 use cx_edge::{Link, Sink};
 use cx_keeper::Renew;
+use cx_record::Recorder;
 use cx_role::Outbox;
 use std::alloc::Global;
 use std::marker::Model;
@@ -33,6 +36,8 @@ pub enum Stop {
     LinkFault,
     /// The store of a role failed.
     StoreFault { role: RoleId },
+    /// The record has no room for the lines of the next step.
+    RecordFull,
 }
 
 impl From<NoMemory> for Stop {
@@ -58,7 +63,10 @@ pub struct Node<K> {
     pub(crate) alloc: Global,
     pub(crate) cluster: Cluster,
     pub(crate) seats: Vec<Seat<K>>,
+    // What it knows of its record, where it records.
+    pub(crate) recorder: Option<Recorder>,
     pub(crate) outbox: Outbox,
+    pub(crate) events: Vec<Event>,
     pub(crate) text: Vec<u8>,
     pub(crate) bytes: Vec<u8>,
     pub(crate) buffer: Vec<u8>,
@@ -70,19 +78,31 @@ impl<K> Model for Node<K> {
 
     ghost Value = { NodeState K };
 
-    ghost view = { λ node. record { cluster = node.cluster; guests = node.seats.items } };
+    ghost view = { λ node. record { cluster = node.cluster; guests = node.seats.items; recorded = node.recorder } };
 
     ghost invariant = { λ node. length node.buffer.items ≡ 32769 };
 }
 
+// A recorder that knows of nothing, where the node records.
+fn recorder_of(alloc: Global, recording: bool) -> Option<Recorder>
+    ensures { result ≡ (if recording then Some blank else None) }
+{
+    recording.then(|| Recorder::new(alloc))
+}
+
 impl<K: Renew + Drop> Node<K> {
-    /// A node of these roles. The memory of its buffer is taken here.
+    /// A node of these roles, which records its run or doesn't. The memory of its buffer is taken here.
     pub fn new(
         alloc: Global,
         cluster: &Cluster,
         seats: Vec<Seat<K>>,
+        recording: bool,
     ) -> Result<Self, (NoMemory, Vec<Seat<K>>)>
-        ensures node { IfOk result (λ node. node ≡ record { cluster = cluster.now; guests = seats.items }) }
+        ensures node { IfOk result (λ node. node ≡ record {
+          cluster = cluster.now;
+          guests = seats.items;
+          recorded = if recording then Some blank else None;
+        }) }
         ensures given_back { IfErr result (λ e. e.1.items ≡ seats.items) }
     {
         match vec![in alloc; 0u8; BUFFER] {
@@ -90,7 +110,9 @@ impl<K: Renew + Drop> Node<K> {
                 alloc,
                 cluster: *cluster,
                 seats,
+                recorder: recorder_of(alloc, recording),
                 outbox: Outbox::new(alloc),
+                events: Vec::new(alloc),
                 text: Vec::new(alloc),
                 bytes: Vec::new(alloc),
                 buffer,

@@ -1,6 +1,6 @@
 //! How hosted roles are opened.
 
-ghost use Rattle.std.specs.Prelude.{◌≡◌, ◌≤◌, ◌∷◌, [], ℕ, true, false, Some, Err, length};
+ghost use Rattle.std.specs.Prelude.{◌≡◌, ◌≤◌, ◌∷◌, [], ℕ, true, false, Some, None, Err, length};
 ghost use Rattle.std.specs.Prelude.{IfOk, OnOk, OnErr, IsTrue, slice_get};
 ghost use Rattle.cx_base.specs.declared.role.Kind.TheVariants as kind;
 ghost use Rattle.cx_base.specs.declared.role.RoleId.{RoleId};
@@ -11,17 +11,19 @@ ghost use Rattle.cx_model.specs.Replica.{replica_rules};
 ghost use Rattle.cx_model.specs.Rules.{opened};
 ghost use Rattle.cx_script.specs.Requests.{IsScript, script_of};
 ghost use Rattle.cx_node.specs.declared.opening.OpenStop.TheVariants as open_stop;
-ghost use Rattle.cx_node.specs.Opening.{AreApart, AreOpened, IsBadAs, IsFirstBad, IsOpened, LendsFor, NoneIsOut};
-ghost use Rattle.cx_node.specs.Opening.{StaysFor, lent_to, unwoken_stop};
+ghost use Rattle.cx_node.specs.Opening.{AreApart, AreOpened, IsBadAs, IsFirstBad, IsFirstUsed, IsOpened};
+ghost use Rattle.cx_node.specs.Opening.{LendsFor, NoneIsOut, StaysFor, first_holding, lent_to, unwoken_stop};
 ghost use Rattle.cx_node.specs.Durable.{IsDurablyOpened};
 ghost use Rattle.cx_node.specs.Stores.{SameRecords, disks_of, files_of, has_second, places_of};
 ghost use Rattle.cx_node.specs.Wake.{IsBadStore};
 
+use crate::seat::holds_record;
 use crate::{Guest, Seat, WakeStop, wake, wake_twin};
 use cx_acceptor::Acceptor;
 use cx_base::{Cluster, Event, Kind, RoleId};
 use cx_batch::{Batcher, Unbatcher};
 use cx_client::Client;
+use cx_disk::Disk;
 use cx_edge::Depot;
 use cx_journal::Store;
 use cx_leader::Leader;
@@ -41,11 +43,14 @@ pub enum OpenStop {
     StoreFault { role: RoleId },
     /// The store of a role has other bytes at this place, in bytes, than a journal of that role.
     BadStore { role: RoleId, at: u64 },
+    /// The node is to record, and the store of this role has a record.
+    NotFresh { role: RoleId },
 }
 
 // What a role could not be woken for.
 fn unwoken(me: RoleId, stop: WakeStop) -> OpenStop
-    ensures { result ≡ unwoken_stop me stop }
+    ensures stop { result ≡ unwoken_stop me stop }
+    ensures not_used { (role : RoleId) → result ≡ open_stop.NotFresh role → ⊥ }
 {
     match stop {
         WakeStop::Failed => OpenStop::StoreFault { role: me },
@@ -73,6 +78,7 @@ fn open_durable<D: Depot, R: Role>(
         × (D.tells depot.old ≡ true → IsBadStore R.rules cluster.now me (files_of (D.held depot.old) me) at) }
     ensures failed { (role : RoleId) → result ≡ Err (open_stop.StoreFault role)
         → (role ≡ me) × Rises (D.faults depot.old me) (D.faults depot.new me) }
+    ensures not_used { (role : RoleId) → result ≡ Err (open_stop.NotFresh role) → ⊥ }
 {
     let Ok(store) = depot.open(me, 0) else {
         return Err(OpenStop::StoreFault { role: me });
@@ -105,6 +111,7 @@ fn open_twin<D: Depot>(
         × (D.tells depot.old ≡ true → IsBadStore replica_rules cluster.now me (files_of (D.held depot.old) me) at) }
     ensures failed { (role : RoleId) → result ≡ Err (open_stop.StoreFault role)
         → (role ≡ me) × Rises (D.faults depot.old me) (D.faults depot.new me) }
+    ensures not_used { (role : RoleId) → result ≡ Err (open_stop.NotFresh role) → ⊥ }
 {
     let Ok(first) = depot.open(me, 0) else {
         return Err(OpenStop::StoreFault { role: me });
@@ -180,6 +187,7 @@ fn open_guest<D: Depot>(
     ensures own { (role : RoleId) (at : ℕ) → result ≡ Err (open_stop.BadStore role at) → role ≡ me }
     ensures failed { (role : RoleId) → result ≡ Err (open_stop.StoreFault role)
         → Rises (D.faults depot.old role) (D.faults depot.new role) }
+    ensures not_used { (role : RoleId) → result ≡ Err (open_stop.NotFresh role) → ⊥ }
 {
     match me.kind {
         Kind::Client => {
@@ -261,6 +269,7 @@ pub fn open_seats<D: Depot>(
     // What the depot shows of other roles stays.
     ensures apart { (who : RoleId) → ((i : ℕ) → slice_get roles.now i ≡ Some who → ⊥)
         → StaysFor D.Depot depot.old depot.new who }
+    ensures not_used { (role : RoleId) → result ≡ Err (open_stop.NotFresh role) → ⊥ }
 {
     for role in roles {
         if seats.reserve(1).is_err() {
@@ -268,6 +277,72 @@ pub fn open_seats<D: Depot>(
         }
         let guest = open_guest(alloc, cluster, *role, window, events, depot)?;
         seats.push_reserved(Seat::new(alloc, *role, guest));
+    }
+    Ok(())
+}
+
+// The first role whose store has a record, if one has.
+fn first_used<D: Disk>(seats: &[Seat<Store<D>>]) -> Option<RoleId>
+    ensures { result ≡ first_holding seats.now }
+{
+    for seat in seats {
+        if holds_record(seat) {
+            return Some(seat.name());
+        }
+    }
+    None
+}
+
+/// Opens these roles in their order. Where their node is to record, no store may have a record.
+pub fn open_all<D: Depot>(
+    alloc: Global,
+    cluster: &Cluster,
+    roles: &[RoleId],
+    recording: bool,
+    window: u8,
+    events: &[Event],
+    depot: &mut D,
+    seats: &mut Vec<Seat<Store<D::Store>>>,
+) -> Result<(), OpenStop>
+    requires named { (i : ℕ) (me : RoleId) → slice_get roles.now i ≡ Some me → IsTrue (names_role cluster.now me) }
+    requires distinct { AreApart roles.now }
+    requires scripts { (client : ℕ) → IsScript cluster.now client (script_of client events.now) }
+    requires some_window { 1 ≤ window }
+    requires window { window ≤ 64 }
+    requires empty { seats.old.items ≡ [] }
+    requires not_out { D.out depot.old ≡ [] }
+    ensures opened { AreOpened D.Store.Disk.seen D.Store.Disk.faults cluster.now window events.now
+        (D.tells depot.old) (files_of (D.held depot.old)) roles.now seats.new.items }
+    ensures all { OnOk result (length seats.new.items ≡ length roles.now) }
+    ensures fresh { recording ≡ true → OnOk result (first_holding seats.new.items ≡ None) }
+    ensures out { D.out depot.new ≡ lent_to seats.new.items }
+    ensures told { D.tells depot.new ≡ D.tells depot.old }
+    ensures held { D.tells depot.old ≡ true → SameRecords (files_of (D.held depot.old)) (files_of (D.held depot.new)) }
+    ensures bad { (role : RoleId) (at : ℕ) → result ≡ Err (open_stop.BadStore role at) → D.tells depot.old ≡ true
+        → IsFirstBad roles.now cluster.now (files_of (D.held depot.old)) role at }
+
+    // The first store that has a record, after all were opened.
+    ensures used { (role : RoleId) → result ≡ Err (open_stop.NotFresh role)
+        → (recording ≡ true)
+        × (length seats.new.items ≡ length roles.now)
+        × (D.tells depot.old ≡ true → IsFirstUsed roles.now (files_of (D.held depot.old)) role) }
+    ensures later { (role : RoleId) → D.faults depot.old role ≤ D.faults depot.new role }
+    ensures others { (who : RoleId) → (result ≡ Err (open_stop.StoreFault who) → ⊥)
+        → D.faults depot.new who ≡ D.faults depot.old who }
+    ensures failed { (role : RoleId) → result ≡ Err (open_stop.StoreFault role)
+        → Rises (D.faults depot.old role) (D.faults depot.new role) }
+    ensures apart { (who : RoleId) → ((i : ℕ) → slice_get roles.now i ≡ Some who → ⊥)
+        → StaysFor D.Depot depot.old depot.new who }
+{
+    match open_seats(alloc, cluster, roles, window, events, depot, seats) {
+        Ok(()) => {}
+        Err(stop) => return Err(stop),
+    }
+    if recording {
+        return match first_used(seats) {
+            Some(role) => Err(OpenStop::NotFresh { role }),
+            None => Ok(()),
+        };
     }
     Ok(())
 }

@@ -1,22 +1,30 @@
 //! A hosted role at its place in the node.
 
-ghost use Rattle.std.specs.Prelude.{◌≡◌, [], true, IsTrue, OnOk, OnErr};
+ghost use Rattle.std.specs.Prelude.{◌≡◌, ◌++◌, [], length, true, false, IfOk, IsTrue, None, OnOk, OnErr};
 ghost use Rattle.std.specs.Option.{option_map};
 ghost use Rattle.cx_leader.specs.Tending.{can_collect, is_new};
 ghost use Rattle.cx_model.specs.Rules.{outcome_of, running_after};
 ghost use Rattle.cx_node.specs.Changing.{changing};
 ghost use Rattle.cx_node.specs.Guest.{MakesRow, Performs, hosted_of, keeper_of, who};
-ghost use Rattle.cx_node.specs.Hosted.{ClientAt, begun, client_given, does, given, is_idle_leader, is_live, snapped};
-ghost use Rattle.cx_node.specs.Run.{has_finished, is_client};
-ghost use Rattle.cx_node.specs.Tending.{completed, held_of, is_of, leader_of, standing_of};
+ghost use Rattle.cx_course.specs.Course.{requests_by};
+ghost use Rattle.cx_course.specs.Hosted.{ClientAt, begun, client_given, does, given, is_idle_leader, is_live, snapped};
+ghost use Rattle.cx_course.specs.Run.{has_finished, is_client};
+ghost use Rattle.cx_course.specs.Tending.{completed, held_of, is_of, leader_of, standing_of};
+ghost use Rattle.cx_node.specs.Opening.{holds_record};
 ghost use Rattle.cx_node.specs.Tends.{is_leader_so};
+ghost use Rattle.cx_record.specs.Numbers.{has_room};
 
-use crate::{Doing, Guest, Standing};
-use cx_base::{Kind, NoMemory, RoleId};
+use crate::Guest;
+use crate::noting::{has_room, note_requests};
+use cx_base::{Event, Kind, NoMemory, RoleId};
 use cx_client::Client;
+use cx_course::{Doing, Standing};
+use cx_disk::Disk;
+use cx_journal::Store;
 use cx_keeper::{MemKeeper, Renew};
 use cx_leader::Leader;
-use cx_msg::Input;
+use cx_msg::{Datagram, Input};
+use cx_record::Recorder;
 use cx_role::{Outbox, Role, StepFault};
 use cx_trace::put_told;
 use std::alloc::Global;
@@ -307,6 +315,29 @@ impl<K: Renew> Seat<K> {
         }
     }
 
+    /// Adds the requests that its client sends by these datagrams to the events of its step, and returns whether the record has
+    /// room for the lines of all. Another role sends none, and of it that is taken to be so.
+    pub fn note_requests(
+        &self,
+        recorder: &Recorder,
+        sends: &[Datagram],
+        events: &mut Vec<Event>,
+    ) -> Result<bool, NoMemory>
+        ensures events { OnOk result (events.new.items ≡ events.old.items ++ requests_by (hosted_of self.now) sends.now) }
+        ensures room { has_room (length events.old.items) recorder.now ≡ true
+            → IfOk result (λ room. room ≡ has_room (length events.new.items) recorder.now) }
+        ensures none { IfOk result (λ room. room ≡ false → keeper_of self.now ≡ None) }
+        ensures client { OnErr result (keeper_of self.now ≡ None) }
+    {
+        match &self.guest {
+            Guest::Client { role } => {
+                note_requests(role.floor(), sends, events)?;
+                Ok(has_room(recorder, events))
+            }
+            _ => Ok(true),
+        }
+    }
+
     /// The keeper of its records, where it has any. It takes no memory.
     pub fn into_keeper(self) -> Option<K>
         ensures { result ≡ keeper_of self }
@@ -317,7 +348,7 @@ impl<K: Renew> Seat<K> {
     /// The role does what it is asked: its state, the change of its list, what it sends and the line that it prints are exactly
     /// those of the definition. `Failed` comes only where the change of its keeper's list failed; then, and out of
     /// memory, nothing may be sent.
-    #[tactic(auto, unfolding(crate::specs::Hosted::does))]
+    #[tactic(auto, unfolding(cx_course::specs::Hosted::does))]
     pub fn act(
         &mut self,
         what: &Doing,
@@ -333,7 +364,7 @@ impl<K: Renew> Seat<K> {
     {
         match what {
             Doing::Begin => begin(&mut self.guest, out)?,
-            Doing::Give { input } => give(
+            Doing::Give { input, .. } => give(
                 self.alloc,
                 &mut self.guest,
                 self.me.index,
@@ -344,5 +375,18 @@ impl<K: Renew> Seat<K> {
             Doing::Snap => snap(&mut self.guest, out)?,
         }
         Ok(())
+    }
+}
+
+/// Whether the store of a role, if it has one, has a record. It takes no memory.
+pub fn holds_record<D: Disk>(seat: &Seat<Store<D>>) -> bool
+    ensures { result ≡ holds_record (keeper_of seat.now) }
+{
+    match &seat.guest {
+        Guest::Leader { keeper, .. } => !keeper.is_empty(),
+        Guest::Acceptor { keeper, .. } => !keeper.is_empty(),
+        Guest::Matchmaker { keeper, .. } => !keeper.is_empty(),
+        Guest::Replica { keeper, .. } => !keeper.is_empty(),
+        _ => false,
     }
 }

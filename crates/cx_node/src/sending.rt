@@ -1,12 +1,14 @@
 //! The ports of roles, and the sending of datagrams.
 
-ghost use Rattle.std.specs.Prelude.{◌≡◌, [], ◌∷◌, OnOk, OnErr};
+ghost use Rattle.std.specs.Prelude.{◌≡◌, [], ◌∷◌, option_map, OnOk, OnErr};
 ghost use Rattle.cx_node.specs.Doing.{Asks, AsksPart};
+ghost use Rattle.cx_node.specs.Noting.{noting};
 ghost use Rattle.cx_node.specs.Ports.{before, port_of};
 
 use cx_base::{Cluster, Kind, NoMemory, RoleId, count_of};
 use cx_edge::Link;
 use cx_msg::{Datagram, encode_into};
+use cx_record::Recorder;
 use cx_role::names_role;
 use std::alloc::Global;
 
@@ -61,20 +63,33 @@ fn send_one<L: Link>(
     Ok(())
 }
 
-/// Asks the link to send these datagrams, in order, each as its bytes. One that the link loses is lost. Out of
-/// memory, the first ones were sent.
+// Where the node records, the datagram gets the next number, before it is sent.
+fn number(recorder: &mut Option<Recorder>, letter: &Datagram) -> Result<(), NoMemory>
+    ensures { OnOk result (recorder.new ≡ option_map (noting (letter.now ∷ [])) recorder.old) }
+{
+    if let Some(recorder) = recorder {
+        recorder.note(letter)?;
+    }
+    Ok(())
+}
+
+/// Asks the link to send these datagrams, in order, each as its bytes, and notes each before, where the node records. One that the
+/// link loses is lost. Out of memory, the first ones were sent.
 pub fn send_all<L: Link>(
     alloc: Global,
     cluster: &Cluster,
     letters: &[Datagram],
+    recorder: &mut Option<Recorder>,
     bytes: &mut Vec<u8>,
     link: &mut L,
 ) -> Result<(), NoMemory>
     ensures sent { OnOk result (Asks cluster.now letters.now (L.told link.old) (L.told link.new)) }
     ensures part { OnErr result (AsksPart cluster.now letters.now (L.told link.old) (L.told link.new)) }
+    ensures noted { OnOk result (recorder.new ≡ option_map (noting letters.now) recorder.old) }
     ensures still { L.faults link.new ≡ L.faults link.old }
 {
     for letter in letters {
+        number(recorder, letter)?;
         send_one(alloc, cluster, letter, bytes, link)?;
     }
     Ok(())

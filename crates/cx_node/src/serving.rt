@@ -1,7 +1,7 @@
 //! Serving: the input is read, ports are bound, stores are opened, and the node runs.
 
-ghost use Rattle.std.specs.Prelude.{◌≡◌, ◌≤◌, [], ℕ, List, Option, Result, IsTrue};
-ghost use Rattle.std.specs.List.{list_all};
+ghost use Rattle.std.specs.Prelude.{◌≡◌, ◌≤◌, [], ℕ, List, Option, Result, IfOk, IsTrue};
+ghost use Rattle.std.specs.List.{All, list_all};
 ghost use Rattle.cx_base.specs.declared.role.RoleId.{RoleId};
 ghost use Rattle.cx_journal.specs.declared.store.Store.{Store};
 ghost use Rattle.cx_model.specs.Names.{names_role};
@@ -11,19 +11,23 @@ ghost use Rattle.cx_node.specs.declared.node.RunEnd.{RunEnd};
 ghost use Rattle.cx_node.specs.declared.node.Stop.{Stop};
 ghost use Rattle.cx_node.specs.Acts.{failed, scene_of};
 ghost use Rattle.cx_node.specs.Guest.{AreReady};
-ghost use Rattle.cx_node.specs.Hosting.{AreGivenBack, HostAnswered, Ran, ended_status, hosting, store_gives};
-ghost use Rattle.cx_node.specs.Hosting.{unopened_status};
+ghost use Rattle.cx_node.specs.Hosting.{AreGivenBack, HostAnswered, Ran, ended_status, hosting, known_first};
+ghost use Rattle.cx_node.specs.Hosting.{store_gives, unopened_status};
 ghost use Rattle.cx_node.specs.Opening.{AreApart, lent_to};
-ghost use Rattle.cx_node.specs.Serving.{Answered, Completes, TellsBad, outside, outside_read, refused_status};
+ghost use Rattle.cx_node.specs.Serving.{Answered, Completes, TellsBad, TellsUsed, head_text, outside, outside_read};
+ghost use Rattle.cx_node.specs.Serving.{recorded_header, refused_status};
+ghost use Rattle.cx_record.specs.Numbers.{Recorded};
+ghost use Rattle.cx_record.specs.Readable.{IsRecordable};
 
 use crate::Seat;
 use crate::binding::bind_all;
 use crate::closing::close_seats;
 use crate::input::{Refusal, listen};
 use crate::node::{Node, RunEnd, Stop};
-use crate::opening::{OpenStop, open_seats};
+use crate::opening::{OpenStop, open_all};
 use cx_base::{Cluster, Event, NoMemory, RoleId, Status};
-use cx_edge::{Depot, Link, Sink, Source};
+use cx_course::recorded_runs_follow;
+use cx_edge::{Depot, Link, Sink, Source, write_all};
 use cx_journal::Store;
 use std::alloc::Global;
 
@@ -47,6 +51,7 @@ fn unopened(stop: OpenStop) -> Status
         OpenStop::NoMemory => Status::NoMemory,
         OpenStop::StoreFault { role } => Status::StoreFault { role },
         OpenStop::BadStore { role, at } => Status::BadStore { role, at },
+        OpenStop::NotFresh { role } => Status::NotFresh { role },
     }
 }
 
@@ -61,7 +66,20 @@ fn ended(end: Result<RunEnd, Stop>) -> Status
         Err(Stop::WriteFault) => Status::WriteFault,
         Err(Stop::LinkFault) => Status::LinkFault,
         Err(Stop::StoreFault { role }) => Status::StoreFault { role },
+        Err(Stop::RecordFull) => Status::RecordFull,
     }
+}
+
+// What a record begins with, where the node is to record: the header, and the line that ends it.
+fn head_text(alloc: Global, recording: bool, header: &[u8]) -> Result<Vec<u8>, NoMemory>
+    ensures { IfOk result (λ text. text.items ≡ head_text (recorded_header recording header.now)) }
+{
+    let mut text = Vec::new(alloc);
+    if recording {
+        text.extend_from_slice(header)?;
+        text.extend_from_slice(b"---\n")?;
+    }
+    Ok(text)
 }
 
 // Runs the roles, and gives their stores back.
@@ -69,6 +87,7 @@ fn run_seats<L: Link, D: Depot, W: Sink>(
     alloc: Global,
     cluster: &Cluster,
     seats: Vec<Seat<Store<D::Store>>>,
+    recording: bool,
     turns: u32,
     tend: Option<u32>,
     link: &mut L,
@@ -77,17 +96,17 @@ fn run_seats<L: Link, D: Depot, W: Sink>(
 ) -> Status
     requires ready { AreReady cluster.now seats.items }
     requires lent { D.out depot.old ≡ lent_to seats.items }
-    ensures ran { (after : List (Guest (Store D.Store))) × (answer : Result RunEnd Stop)
+    ensures ran { (after : List (Guest (Store D.Store))) × (known : Option Recorded) × (answer : Result RunEnd Stop)
         × (result ≡ ended_status answer)
-        × Ran (store_gives D.Store.Disk) tend cluster.now turns answer
-        (scene_of L.Link W.Sink (hosting cluster.now seats.items) link.old out.old)
-        (scene_of L.Link W.Sink (hosting cluster.now after) link.new out.new)
+        × Ran (store_gives D.Store.Disk) tend cluster.now turns [] answer
+        (scene_of L.Link W.Sink (hosting cluster.now seats.items (known_first recording)) link.old out.old)
+        (scene_of L.Link W.Sink (hosting cluster.now after known) link.new out.new)
         (failed L.Link W.Sink link.old out.old) (failed L.Link W.Sink link.new out.new)
         × AreGivenBack D.Depot D.Store.Disk after depot.old depot.new }
     ensures told { D.tells depot.new ≡ D.tells depot.old }
     ensures given_back { D.out depot.new ≡ [] }
 {
-    match Node::new(alloc, cluster, seats) {
+    match Node::new(alloc, cluster, seats, recording) {
         Ok(mut node) => {
             let end = node.run(turns, tend, link, out);
             close_seats(depot, node.into_seats());
@@ -100,9 +119,45 @@ fn run_seats<L: Link, D: Depot, W: Sink>(
     }
 }
 
-// Hosts the roles over what the input says.
+// The same behind a text that is printed first.
+fn run_behind<L: Link, D: Depot, W: Sink>(
+    alloc: Global,
+    cluster: &Cluster,
+    seats: Vec<Seat<Store<D::Store>>>,
+    recording: bool,
+    text: &[u8],
+    turns: u32,
+    tend: Option<u32>,
+    link: &mut L,
+    depot: &mut D,
+    out: &mut W,
+) -> Status
+    requires ready { AreReady cluster.now seats.items }
+    requires lent { D.out depot.old ≡ lent_to seats.items }
+    ensures ran { (after : List (Guest (Store D.Store))) × (known : Option Recorded) × (answer : Result RunEnd Stop)
+        × (result ≡ ended_status answer)
+        × Ran (store_gives D.Store.Disk) tend cluster.now turns text.now answer
+        (scene_of L.Link W.Sink (hosting cluster.now seats.items (known_first recording)) link.old out.old)
+        (scene_of L.Link W.Sink (hosting cluster.now after known) link.new out.new)
+        (failed L.Link W.Sink link.old out.old) (failed L.Link W.Sink link.new out.new)
+        × AreGivenBack D.Depot D.Store.Disk after depot.old depot.new }
+    ensures told { D.tells depot.new ≡ D.tells depot.old }
+    ensures given_back { D.out depot.new ≡ [] }
+{
+    if !write_all(out, text) {
+        close_seats(depot, seats);
+        return Status::WriteFault;
+    }
+    run_seats(
+        alloc, cluster, seats, recording, turns, tend, link, depot, out,
+    )
+}
+
+// Hosts the roles over what the input says, which has this header.
 fn host<L: Link, D: Depot, W: Sink>(
     alloc: Global,
+    recording: bool,
+    header: &[u8],
     cluster: &Cluster,
     roles: &[RoleId],
     window: u8,
@@ -116,21 +171,37 @@ fn host<L: Link, D: Depot, W: Sink>(
     requires named { IsTrue (list_all (λ (r : RoleId). names_role cluster.now r) roles.now) }
     requires distinct { AreApart roles.now }
     requires scripts { (client : ℕ) → IsScript cluster.now client (script_of client events.now) }
+    requires recordable { (client : ℕ) → All (IsRecordable cluster.now) (script_of client events.now) }
     requires some_window { 1 ≤ window }
     requires window { window ≤ 64 }
     requires lent { D.out depot.old ≡ [] }
     ensures answered { (left left_after : Option (List ℕ)) (reads reads_after : ℕ)
-        → HostAnswered roles.now tend cluster.now window events.now turns
+        → HostAnswered roles.now tend (recorded_header recording header.now) cluster.now window events.now turns
         (outside_read L.Link D.Depot W.Sink left reads link.old depot.old out.old)
         (outside_read L.Link D.Depot W.Sink left_after reads_after link.new depot.new out.new) result }
     ensures given_back { D.out depot.new ≡ [] }
 {
+    recorded_runs_follow();
     if !bind_all(cluster, roles, link) {
         return Status::LinkFault;
     }
+    let Ok(text) = head_text(alloc, recording, header) else {
+        return Status::NoMemory;
+    };
     let mut opened = Vec::new(alloc);
-    match open_seats(alloc, cluster, roles, window, events, depot, &mut opened) {
-        Ok(()) => run_seats(alloc, cluster, opened, turns, tend, link, depot, out),
+    match open_all(
+        alloc,
+        cluster,
+        roles,
+        recording,
+        window,
+        events,
+        depot,
+        &mut opened,
+    ) {
+        Ok(()) => run_behind(
+            alloc, cluster, opened, recording, &text, turns, tend, link, depot, out,
+        ),
         Err(stop) => {
             close_seats(depot, opened);
             unopened(stop)
@@ -144,12 +215,17 @@ fn host<L: Link, D: Depot, W: Sink>(
 /// requests outstanding, 1 to 64. What was bound, sent, printed and kept is exactly the node's run, or a prefix of it
 /// where something failed, and every store is given back whatever happens. A role or a port that is bound already is
 /// a fault of the link.
+///
+/// With `recording` the node records its run: it hosts all roles of the cluster, from stores without records, and prints, in the
+/// place of what clients are told, the header and the lines of a schedule. At each moment between two steps the model's run of
+/// these lines has sent, kept and answered what the node did.
 pub fn serve<S: Source, L: Link, D: Depot, W: Sink>(
     alloc: Global,
     roles: &[RoleId],
     turns: u32,
     tend: Option<u32>,
     window: u8,
+    recording: bool,
     input: &mut S,
     link: &mut L,
     depot: &mut D,
@@ -159,24 +235,29 @@ pub fn serve<S: Source, L: Link, D: Depot, W: Sink>(
     requires lent { D.out depot.old ≡ [] }
     requires some_window { 1 ≤ window }
     requires window { window ≤ 64 }
-    ensures answered { Answered roles.now tend window turns
+    ensures answered { Answered roles.now tend window recording turns
         (outside S.Source L.Link D.Depot W.Sink input.old link.old depot.old out.old)
         (outside S.Source L.Link D.Depot W.Sink input.new link.new depot.new out.new) result }
-    ensures complete { Completes roles.now
+    ensures complete { Completes recording roles.now
         (outside S.Source L.Link D.Depot W.Sink input.old link.old depot.old out.old)
         (outside S.Source L.Link D.Depot W.Sink input.new link.new depot.new out.new) result }
-    ensures tells_bad { TellsBad roles.now
+    ensures tells_used { TellsUsed recording roles.now
+        (outside S.Source L.Link D.Depot W.Sink input.old link.old depot.old out.old)
+        (outside S.Source L.Link D.Depot W.Sink input.new link.new depot.new out.new) result }
+    ensures tells_bad { TellsBad recording roles.now
         (outside S.Source L.Link D.Depot W.Sink input.old link.old depot.old out.old)
         (outside S.Source L.Link D.Depot W.Sink input.new link.new depot.new out.new) result }
     ensures given_back { D.out depot.new ≡ [] }
 {
-    match listen(alloc, roles, input) {
-        Ok((cluster, schedule)) => host(
+    match listen(alloc, roles, recording, input) {
+        Ok(accepted) => host(
             alloc,
-            &cluster,
+            recording,
+            accepted.header.as_bytes(),
+            &accepted.cluster,
             roles,
             window,
-            schedule.events(),
+            accepted.schedule.events(),
             turns,
             tend,
             link,

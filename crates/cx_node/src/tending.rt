@@ -9,17 +9,21 @@ ghost use Rattle.cx_leader.specs.Tending.{can_collect, is_new};
 ghost use Rattle.cx_node.specs.Acts.{Acts, ActsPart, Blames, failed, scene_of};
 ghost use Rattle.cx_node.specs.Changing.{changing};
 ghost use Rattle.cx_node.specs.Guest.{AreReady, hosted_in, hosted_of};
-ghost use Rattle.cx_node.specs.Run.{is_client, stays};
-ghost use Rattle.cx_node.specs.Tending.{beat, clients_tended, collected, completed, first_leader, flushed, gets};
-ghost use Rattle.cx_node.specs.Tending.{heeded, held_by, in_turn, is_so, leader_asked, leader_cared, next_pass, reported, standing_of};
-ghost use Rattle.cx_node.specs.Tending.{tend_comes, tend_ordered, tend_prepared, tended_turn, those_tick, ticks_if, turn_ended};
+ghost use Rattle.cx_node.specs.Node.{course_at};
+ghost use Rattle.cx_record.specs.Numbers.{numbered};
+ghost use Rattle.cx_course.specs.Course.{stays};
+ghost use Rattle.cx_course.specs.Run.{is_client};
+ghost use Rattle.cx_course.specs.Tending.{beat, clients_tended, collected, completed, first_leader, flushed, gets};
+ghost use Rattle.cx_course.specs.Tending.{heeded, held_by, in_turn, is_so, leader_asked, leader_cared, next_pass, reported, standing_of};
+ghost use Rattle.cx_course.specs.Tending.{tend_comes, tend_ordered, tend_prepared, tended_turn, those_tick, ticks_if, turn_ended};
 ghost use Rattle.cx_node.specs.TendedParts.{ActsTended, ActsTurn, Counts, leader_part};
 ghost use Rattle.cx_node.specs.Tends.{done_of, is_leader_so, is_meant};
 
 use crate::care::Care;
 use crate::turning::{first_grid, receive};
-use crate::{Come, Doing, Node, Seat, Standing, Stop, Whom};
+use crate::{Come, Node, Seat, Stop, Whom};
 use cx_base::{Cluster, Kind, NoMemory, Order, RoleId};
+use cx_course::{Doing, Standing};
 use cx_edge::{Link, Sink};
 use cx_keeper::Renew;
 use cx_msg::{Datagram, Input};
@@ -87,7 +91,7 @@ fn completed_by<K: Renew>(alloc: Global, seats: &[Seat<K>]) -> Result<Vec<u64>, 
 }
 
 // The order that the leader gets. What it reports is noted.
-#[tactic(auto, unfolding(crate::specs::Tending::leader_asked))]
+#[tactic(auto, unfolding(cx_course::specs::Tending::leader_asked))]
 fn leader_order(cluster: &Cluster, standing: Standing, care: &mut Care) -> Option<Order>
     ensures care { care.new ≡ leader_cared standing care.old }
     ensures order { result ≡ leader_asked cluster.now standing (leader_cared standing care.old) }
@@ -178,6 +182,7 @@ impl<K: Renew + Drop> Node<K> {
             Some(order) => self.act_named(
                 first_name(),
                 &Doing::Give {
+                    number: 0,
                     input: Input::Order { order },
                 },
                 link,
@@ -204,7 +209,11 @@ impl<K: Renew + Drop> Node<K> {
         ensures cluster { self.new.cluster ≡ self.old.cluster }
     {
         if is_meant_at(whom, care, place, &self.seats) {
-            return self.act(place, &Doing::Give { input: Input::Tick }, link, out);
+            let tick = Doing::Give {
+                number: 0,
+                input: Input::Tick,
+            };
+            return self.act(place, &tick, link, out);
         }
         Ok(())
     }
@@ -307,7 +316,11 @@ impl<K: Renew + Drop> Node<K> {
         ensures cluster { self.new.cluster ≡ self.old.cluster }
     {
         if self.holds_more(role, before) {
-            return self.act_named(role, &Doing::Give { input: Input::Tick }, link, out);
+            let tick = Doing::Give {
+                number: 0,
+                input: Input::Tick,
+            };
+            return self.act_named(role, &tick, link, out);
         }
         Ok(())
     }
@@ -335,7 +348,7 @@ impl<K: Renew + Drop> Node<K> {
     ) -> Result<(), Stop>
         requires ready { AreReady self.old.cluster self.old.guests }
         ensures acts { ActsPart (changing K.append_gives K.renew_gives) self.old.cluster
-            (λ hs. if same_role to (role kind.Leader 0) then collected hs else stays hs) result
+            (λ s. if same_role to (role kind.Leader 0) then collected s else stays s) result
             (scene_of L.Link W.Sink self.old link.old out.old) (scene_of L.Link W.Sink self.new link.new out.new) }
         ensures blames { Blames result (failed L.Link W.Sink link.old out.old) (failed L.Link W.Sink link.new out.new) }
         ensures cluster { self.new.cluster ≡ self.old.cluster }
@@ -349,13 +362,14 @@ impl<K: Renew + Drop> Node<K> {
     // A role takes a datagram; a replica may then tick, and leader 0 collect.
     fn heed<L: Link, W: Sink>(
         &mut self,
+        number: u64,
         datagram: Datagram,
         link: &mut L,
         out: &mut W,
     ) -> Result<(), Stop>
         requires ready { AreReady self.old.cluster self.old.guests }
         ensures acts { ActsPart (changing K.append_gives K.renew_gives) self.old.cluster
-            (heeded datagram) result
+            (heeded (numbered number datagram)) result
             (scene_of L.Link W.Sink self.old link.old out.old) (scene_of L.Link W.Sink self.new link.new out.new) }
         ensures blames { Blames result (failed L.Link W.Sink link.old out.old) (failed L.Link W.Sink link.new out.new) }
         ensures cluster { self.new.cluster ≡ self.old.cluster }
@@ -365,6 +379,7 @@ impl<K: Renew + Drop> Node<K> {
         self.act_named(
             to,
             &Doing::Give {
+                number,
                 input: Input::Take { datagram },
             },
             link,
@@ -379,17 +394,17 @@ impl<K: Renew + Drop> Node<K> {
         requires ready { AreReady self.old.cluster self.old.guests }
         ensures acts { (what : Option (List ℕ))
             × Acts (changing K.append_gives K.renew_gives) self.old.cluster (what ∷ [])
-            (tend_comes what (hosted_in self.old.guests)) (done_of result)
+            (tend_comes what (course_at self.old)) (done_of result)
             (scene_of L.Link W.Sink self.old link.old out.old) (scene_of L.Link W.Sink self.new link.new out.new)
             × IfOk result (λ came. came ≡ is_some what) }
         ensures blames { Blames (done_of result)
             (failed L.Link W.Sink link.old out.old) (failed L.Link W.Sink link.new out.new) }
         ensures cluster { self.new.cluster ≡ self.old.cluster }
     {
-        let come = receive(self.alloc, &mut self.buffer, link)?;
+        let come = receive(self.alloc, &self.recorder, &mut self.buffer, link)?;
         match come {
-            Come::Letter { datagram } => {
-                self.heed(datagram, link, out)?;
+            Come::Letter { number, datagram } => {
+                self.heed(number, datagram, link, out)?;
                 Ok(true)
             }
             Come::Foreign => Ok(true),
@@ -436,7 +451,7 @@ impl<K: Renew + Drop> Node<K> {
         ensures acts { ActsTended (changing K.append_gives K.renew_gives) self.old.cluster
             (leader_part self.old.cluster) result care.old
             (scene_of L.Link W.Sink self.old link.old out.old) (scene_of L.Link W.Sink self.new link.new out.new) }
-        ensures care { Counts (leader_part self.old.cluster) result care.old care.new (hosted_in self.old.guests) }
+        ensures care { Counts (leader_part self.old.cluster) result care.old care.new (course_at self.old) }
         ensures blames { Blames result (failed L.Link W.Sink link.old out.old) (failed L.Link W.Sink link.new out.new) }
         ensures cluster { self.new.cluster ≡ self.old.cluster }
     {
@@ -460,7 +475,7 @@ impl<K: Renew + Drop> Node<K> {
         ensures acts { ActsTended (changing K.append_gives K.renew_gives) self.old.cluster
             next_pass result care.old
             (scene_of L.Link W.Sink self.old link.old out.old) (scene_of L.Link W.Sink self.new link.new out.new) }
-        ensures care { Counts next_pass result care.old care.new (hosted_in self.old.guests) }
+        ensures care { Counts next_pass result care.old care.new (course_at self.old) }
         ensures blames { Blames result (failed L.Link W.Sink link.old out.old) (failed L.Link W.Sink link.new out.new) }
         ensures cluster { self.new.cluster ≡ self.old.cluster }
     {
@@ -481,7 +496,7 @@ impl<K: Renew + Drop> Node<K> {
         ensures acts { ActsTended (changing K.append_gives K.renew_gives) self.old.cluster
             clients_tended result care.old
             (scene_of L.Link W.Sink self.old link.old out.old) (scene_of L.Link W.Sink self.new link.new out.new) }
-        ensures care { Counts clients_tended result care.old care.new (hosted_in self.old.guests) }
+        ensures care { Counts clients_tended result care.old care.new (course_at self.old) }
         ensures blames { Blames result (failed L.Link W.Sink link.old out.old) (failed L.Link W.Sink link.new out.new) }
         ensures cluster { self.new.cluster ≡ self.old.cluster }
     {
@@ -508,7 +523,7 @@ impl<K: Renew + Drop> Node<K> {
         ensures acts { ActsTended (changing K.append_gives K.renew_gives) self.old.cluster
             (beat self.old.cluster) result care.old
             (scene_of L.Link W.Sink self.old link.old out.old) (scene_of L.Link W.Sink self.new link.new out.new) }
-        ensures care { Counts (beat self.old.cluster) result care.old care.new (hosted_in self.old.guests) }
+        ensures care { Counts (beat self.old.cluster) result care.old care.new (course_at self.old) }
         ensures blames { Blames result (failed L.Link W.Sink link.old out.old) (failed L.Link W.Sink link.new out.new) }
         ensures cluster { self.new.cluster ≡ self.old.cluster }
     {
@@ -531,7 +546,7 @@ impl<K: Renew + Drop> Node<K> {
             (turn_ended self.old.cluster most came) result care.old
             (scene_of L.Link W.Sink self.old link.old out.old) (scene_of L.Link W.Sink self.new link.new out.new) }
         ensures care { Counts
-            (turn_ended self.old.cluster most came) result care.old care.new (hosted_in self.old.guests) }
+            (turn_ended self.old.cluster most came) result care.old care.new (course_at self.old) }
         ensures blames { Blames result (failed L.Link W.Sink link.old out.old) (failed L.Link W.Sink link.new out.new) }
         ensures cluster { self.new.cluster ≡ self.old.cluster }
     {

@@ -1,24 +1,26 @@
 //! The parts of a turn.
 
-ghost use Rattle.std.specs.Prelude.{◌≡◌, ◌==◌, ◌%◌, ◌||◌, Err};
+ghost use Rattle.std.specs.Prelude.{◌≡◌, ◌==◌, ◌%◌, ◌||◌, Err, IfOk, None, Some};
 ghost use Rattle.cx_base.specs.Faults.{Rises};
 ghost use Rattle.cx_base.specs.declared.role.RoleId.{RoleId};
 ghost use Rattle.cx_node.specs.declared.node.Stop.TheVariants as stop;
-ghost use Rattle.cx_node.specs.Acts.{ActsPart, ActsTaking, Blames, Receives, failed, scene_of};
+ghost use Rattle.cx_node.specs.Acts.{ActsPart, ActsTaking, Blames, Receives, come_of, failed, scene_of};
 ghost use Rattle.cx_node.specs.Changing.{changing};
 ghost use Rattle.cx_node.specs.Guest.{AreReady};
 ghost use Rattle.cx_base.specs.Role.{role};
 ghost use Rattle.cx_base.specs.declared.role.Kind.TheVariants as kind;
-ghost use Rattle.cx_node.specs.Run.{comes, grid_of, lead_at, ordered, place_of, prepared, snaps, ticked, turn};
+ghost use Rattle.cx_course.specs.Run.{comes, grid_of, lead_at, ordered, place_of, prepared, snaps, ticked, turn};
 ghost use Rattle.cx_node.specs.TendedParts.{ActsTurn};
-ghost use Rattle.cx_node.specs.Tending.{any_turn};
+ghost use Rattle.cx_course.specs.Tending.{any_turn};
 
 use crate::care::Care;
-use crate::{Come, Doing, Node, Stop};
-use cx_base::{Cluster, Grid, Kind, Order, RoleId};
+use crate::{Come, Node, Stop};
+use cx_base::{Cluster, Grid, Kind, NoMemory, Order, RoleId};
+use cx_course::Doing;
 use cx_edge::{Link, Sink, TakeEnd};
 use cx_keeper::Renew;
 use cx_msg::{Input, WireFault, decode};
+use cx_record::Recorder;
 use std::alloc::Global;
 
 // The greatest number of members of a grid, and the first acceptors.
@@ -57,22 +59,63 @@ fn is_tick_turn(n: u32) -> bool
     n % 64 == 0
 }
 
-/// Takes what the link gives.
-pub fn receive<L: Link>(alloc: Global, buffer: &mut [u8], link: &mut L) -> Result<Come, Stop>
-    ensures told { Receives (L.told link.old) (L.told link.new) result }
+// The datagram that bytes spell, if they spell one.
+fn spelled(alloc: Global, bytes: &[u8]) -> Result<Come, NoMemory>
+    ensures { IfOk result (λ come. come ≡ come_of None (Some bytes.now)) }
+{
+    match decode(alloc, bytes) {
+        Ok(datagram) => Ok(Come::Letter {
+            number: 0,
+            datagram,
+        }),
+        Err(fault) => match fault {
+            WireFault::NoMemory => Err(NoMemory),
+            _ => Ok(Come::Foreign),
+        },
+    }
+}
+
+// The last datagram with these bytes that the node sent, if it sent one.
+fn recalled(recorder: &Recorder, bytes: &[u8]) -> Result<Come, NoMemory>
+    ensures { IfOk result (λ come. come ≡ come_of (Some recorder.now) (Some bytes.now)) }
+{
+    match recorder.find(bytes)? {
+        Some(found) => Ok(Come::Letter {
+            number: found.number,
+            datagram: found.datagram,
+        }),
+        None => Ok(Come::Foreign),
+    }
+}
+
+// What bytes bring that a take gave.
+fn brought(alloc: Global, recorder: &Option<Recorder>, bytes: &[u8]) -> Result<Come, NoMemory>
+    ensures { IfOk result (λ come. come ≡ come_of recorder.now (Some bytes.now)) }
+{
+    match recorder {
+        Some(recorder) => recalled(recorder, bytes),
+        None => spelled(alloc, bytes),
+    }
+}
+
+/// Takes what the link gives. Where the node records, bytes bring a datagram only if the node sent it.
+pub fn receive<L: Link>(
+    alloc: Global,
+    recorder: &Option<Recorder>,
+    buffer: &mut [u8],
+    link: &mut L,
+) -> Result<Come, Stop>
+    ensures told { Receives recorder.now (L.told link.old) (L.told link.new) result }
     ensures fault { result ≡ Err stop.LinkFault → Rises (L.faults link.old) (L.faults link.new) }
     ensures no_fault { (result ≡ Err stop.LinkFault → ⊥) → L.faults link.new ≡ L.faults link.old }
     ensures no_write { result ≡ Err stop.WriteFault → ⊥ }
     ensures no_store { (role : RoleId) → result ≡ Err (stop.StoreFault role) → ⊥ }
 {
     match link.take(buffer) {
-        TakeEnd::Got(count) => match decode(alloc, &buffer[..count]) {
-            Ok(datagram) => Ok(Come::Letter { datagram }),
-            Err(fault) => match fault {
-                WireFault::NoMemory => Err(Stop::NoMemory),
-                _ => Ok(Come::Foreign),
-            },
-        },
+        TakeEnd::Got(count) => {
+            let come = brought(alloc, recorder, &buffer[..count])?;
+            Ok(come)
+        }
         TakeEnd::Nothing => Ok(Come::Nothing),
         TakeEnd::Failed => Err(Stop::LinkFault),
     }
@@ -83,7 +126,7 @@ impl<K: Renew + Drop> Node<K> {
     fn lead<L: Link, W: Sink>(&mut self, link: &mut L, out: &mut W) -> Result<(), Stop>
         requires ready { AreReady self.old.cluster self.old.guests }
         ensures acts { ActsPart (changing K.append_gives K.renew_gives) self.old.cluster
-            (λ hs. lead_at self.old.cluster (place_of (role kind.Leader 0) hs) hs) result
+            (λ s. lead_at self.old.cluster (place_of (role kind.Leader 0) s.hosted) s) result
             (scene_of L.Link W.Sink self.old link.old out.old) (scene_of L.Link W.Sink self.new link.new out.new) }
         ensures blames { Blames result (failed L.Link W.Sink link.old out.old) (failed L.Link W.Sink link.new out.new) }
         ensures cluster { self.new.cluster ≡ self.old.cluster }
@@ -98,6 +141,7 @@ impl<K: Renew + Drop> Node<K> {
         self.act(
             place,
             &Doing::Give {
+                number: 0,
                 input: Input::Order { order },
             },
             link,
@@ -155,13 +199,14 @@ impl<K: Renew + Drop> Node<K> {
         ensures blames { Blames result (failed L.Link W.Sink link.old out.old) (failed L.Link W.Sink link.new out.new) }
         ensures cluster { self.new.cluster ≡ self.old.cluster }
     {
-        let come = receive(self.alloc, &mut self.buffer, link)?;
+        let come = receive(self.alloc, &self.recorder, &mut self.buffer, link)?;
         match come {
-            Come::Letter { datagram } => {
+            Come::Letter { number, datagram } => {
                 let to = datagram.to();
                 self.act_named(
                     to,
                     &Doing::Give {
+                        number,
                         input: Input::Take { datagram },
                     },
                     link,
@@ -182,7 +227,11 @@ impl<K: Renew + Drop> Node<K> {
         ensures cluster { self.new.cluster ≡ self.old.cluster }
     {
         if is_tick_turn(n) {
-            return self.all_act(&Doing::Give { input: Input::Tick }, link, out);
+            let tick = Doing::Give {
+                number: 0,
+                input: Input::Tick,
+            };
+            return self.all_act(&tick, link, out);
         }
         Ok(())
     }

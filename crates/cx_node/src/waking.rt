@@ -44,7 +44,7 @@ pub fn wake<D: Disk, R: Role>(
     requires kind { me.kind ≡ R.rules.kind }
     requires named { IsTrue (names_role cluster.now me) }
     ensures role { IfOk result (λ p. IsWoken R.rules cluster.now me (one_told (D.seen disk)) (one_told (D.seen p.0.disk))
-        (R.state p.1)) }
+        p.0.gates (R.state p.1)) }
     ensures whole { IfOk result (λ p. p.0.whole ≡ true) }
     ensures lasts { is_some (D.seen disk) ≡ true
         → IfOk result (λ p. (c : List ℕ) → D.may_leave p.0.disk c → IsImageOf (told_records (D.seen p.0.disk)) c) }
@@ -86,7 +86,7 @@ pub fn wake_twin<D: Disk>(
     requires kind { me.kind ≡ kind.Replica }
     requires named { IsTrue (names_role cluster.now me) }
     ensures role { IfOk result (λ p. IsWoken replica_rules cluster.now me (both_told (D.seen first) (D.seen second))
-        (both_told (D.seen p.0.first) (D.seen p.0.second)) p.1) }
+        (both_told (D.seen p.0.first) (D.seen p.0.second)) p.0.gates p.1) }
     ensures whole { IfOk result (λ p. p.0.whole ≡ true) }
     ensures lasts { BothTell D.seen first second
         → IfOk result (λ p. (a b : List ℕ) → D.may_leave p.0.first a → D.may_leave p.0.second b

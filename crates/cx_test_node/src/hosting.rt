@@ -6,12 +6,13 @@ ghost use Rattle.cx_node.specs.Opening.{AreApart};
 
 use cx_base::{Kind, RoleId, Status};
 use cx_disk::{MemDisk, Room, Unsynced};
-use cx_edge::{LinkFailing, LinkRoom, MemDepot, MemLink, MemSink, MemSource, Shelf};
+use cx_edge::{Front, LinkFailing, LinkRoom, MemDepot, MemLink, MemSink, MemSource, Shelf};
 use cx_node::serve;
 use std::alloc::Global;
 use std::test::Fail;
 
-const HEADER: &str = "f = 0
+/// The header of its input.
+pub(crate) const HEADER: &str = "f = 0
 leaders = 1
 proxies = 1
 acceptors = 1
@@ -86,7 +87,7 @@ const LINK_ROOM: LinkRoom = LinkRoom {
     bytes: 65_536,
 };
 
-const OUT_ROOM: usize = 256;
+const OUT_ROOM: usize = 1024;
 
 fn role(kind: Kind) -> RoleId {
     RoleId::new(kind, 0)
@@ -138,20 +139,21 @@ fn stop_of(kind: Kind, side: u8, stop: Option<(u8, u64)>) -> Option<u64> {
     }
 }
 
-fn link(alloc: Global) -> Result<MemLink, Fail> {
+fn link(alloc: Global, fronts: &[Front]) -> Result<MemLink, Fail> {
     let failing = LinkFailing {
         binds: Vec::new(alloc),
         sends: Vec::new(alloc),
         takes: Vec::new(alloc),
     };
-    Ok(MemLink::new(alloc, LINK_ROOM, failing, &[])?)
+    Ok(MemLink::new(alloc, LINK_ROOM, failing, fronts)?)
 }
 
-fn input(alloc: Global, lines: &str) -> Result<MemSource, Fail> {
+/// Bytes behind a header.
+pub(crate) fn with_header(alloc: Global, header: &str, lines: &str) -> Result<Vec<u8>, Fail> {
     let mut bytes = Vec::new(alloc);
-    bytes.extend_from_slice(HEADER.as_bytes())?;
+    bytes.extend_from_slice(header.as_bytes())?;
     bytes.extend_from_slice(lines.as_bytes())?;
-    Ok(MemSource::new(bytes, Vec::new(alloc)))
+    Ok(bytes)
 }
 
 /// Hosts the roles over these lines: how that ended, and what was printed.
@@ -166,11 +168,29 @@ pub(crate) fn host(
     requires lent { depot_out depot.old ≡ [] }
     ensures { depot_out depot.new ≡ [] }
 {
-    let mut input = input(alloc, lines)?;
-    let mut link = link(alloc)?;
+    let input = with_header(alloc, HEADER, lines)?;
+    host_over(alloc, depot, roles, turns, false, input, &[])
+}
+
+/// Hosts the roles over this input, and with these datagrams in front of others: how that ended, and what was printed.
+pub(crate) fn host_over(
+    alloc: Global,
+    depot: &mut MemDepot,
+    roles: &[RoleId],
+    turns: u32,
+    recording: bool,
+    input: Vec<u8>,
+    fronts: &[Front],
+) -> Result<(Status, Vec<u8>), Fail>
+    requires apart { AreApart roles.now }
+    requires lent { depot_out depot.old ≡ [] }
+    ensures { depot_out depot.new ≡ [] }
+{
+    let mut input = MemSource::new(input, Vec::new(alloc));
+    let mut link = link(alloc, fronts)?;
     let mut out = MemSink::new(alloc, OUT_ROOM, Vec::new(alloc))?;
     let status = serve(
-        alloc, roles, turns, None, 1, &mut input, &mut link, depot, &mut out,
+        alloc, roles, turns, None, 1, recording, &mut input, &mut link, depot, &mut out,
     );
     Ok((status, out.as_slice().to_vec(alloc)?))
 }

@@ -1,4 +1,5 @@
-//! Tests of nodes whose replica puts its list anew: what is kept, and what a disk that stops leaves.
+//! Tests of nodes whose replica puts its list anew: what is kept, and what a disk that stops leaves. Tests of nodes that
+//! record.
 //!
 //! They need only public calls, so they are here and not in the crates that they test: a crate with tests is proved twice.
 //! Nothing builds on this crate.
@@ -6,5 +7,7 @@
 
 #[cfg(test)]
 mod hosting;
+#[cfg(test)]
+mod record_tests;
 #[cfg(test)]
 mod renewal_tests;

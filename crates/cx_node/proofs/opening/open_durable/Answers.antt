@@ -18,5 +18,5 @@ returns-in-Err-clause-lends g c =
     (λ t. one_stays g.D.Store.Disk.seen c.args.me (g.D.Depot.held c.args.depot.now) (g.D.Depot.held c.close.new.self)
     c.in-Ok.store c.in-Err.store c.requires.one (lent.seen t) c.in-Err.ensures.tells c.in-Err.ensures.same
     (back.held (lent.told ∙ t)))
-    (λ none. back.still (c.in-Err.ensures.still (λ failed. none (c.unwoken.ensures ∙ ap (unwoken_stop c.args.me) failed))
+    (λ none. back.still (c.in-Err.ensures.still (λ failed. none (c.unwoken.ensures.stop ∙ ap (unwoken_stop c.args.me) failed))
     ∙ lent.fresh) ∙ lent.still c.args.me)

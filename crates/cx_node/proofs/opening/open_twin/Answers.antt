@@ -76,7 +76,7 @@ returns-in-Err-clause-lends g c =
     ∙ first_back.held (second.told ∙ first.told ∙ t) file e)
     (second_back.held (first_back.told ∙ second.told ∙ first.told ∙ t)))
     (λ none. let same = c.in-Err.ensures.still
-    (λ failed. none (c.unwoken.ensures ∙ ap (unwoken_stop c.args.me) failed)) in
+    (λ failed. none (c.unwoken.ensures.stop ∙ ap (unwoken_stop c.args.me) failed)) in
     second_back.still (same.1 ∙ second.fresh) ∙ first_back.still (same.0 ∙ first.fresh) ∙ second.still c.args.me
     ∙ first.still c.args.me)
 
@@ -84,7 +84,7 @@ pub returns-in-Err-clause-bad : goal.returns-in-Err-clause-bad
 returns-in-Err-clause-bad g c = λ role at e.
     let first = c.in-Ok.ensures in
     let second = c.in-Ok-open.ensures in
-    let why = unwoken_bad c.args.me c.in-Err.stop role at (sym c.unwoken.ensures ∙ same_stop _ _ e) in (
+    let why = unwoken_bad c.args.me c.in-Err.stop role at (sym c.unwoken.ensures.stop ∙ same_stop _ _ e) in (
       why.1,
       λ t. bad_two replica_rules c.args.cluster.now (g.D.Depot.held c.args.depot.now) c.args.me at
           (ap has_second c.requires.kind)

@@ -1,7 +1,7 @@
 use Rattle.std.proofs.Common.{◌≡◌, ◌∙◌, ℕ, List, ap, ap₂, replicate, rules, sym}
 use Rattle.std.proofs.lemmas.Simd.{splat_is_map}
 use Rattle.cx_base.specs.Lists.{below}
-use Rattle.cx_node.specs.Tending.{no_care}
+use Rattle.cx_course.specs.Tending.{no_care}
 use Rattle.cx_node.proofs.care.Care.new.Goals as goal
 
 pub returns : goal.returns

@@ -1,11 +1,11 @@
 use Rattle.std.proofs.Common.{◌≡◌, ◌+◌, Ok, Err, arith, sym, ap, ◌∙◌, subst}
 use Rattle.std.proofs.lemmas.Result.{err_from_is_err_and}
 use Rattle.cx_base.specs.declared.cluster.Cluster.{Cluster}
+use Rattle.cx_node.specs.Node.{course_at}
 use Rattle.cx_node.specs.Acts.{scene_of}
 use Rattle.cx_node.specs.declared.node.Stop.TheVariants as stop
 use Rattle.cx_node.specs.Changing.{changing}
-use Rattle.cx_node.specs.Guest.{hosted_in}
-use Rattle.cx_node.specs.Tending.{any_turn}
+use Rattle.cx_course.specs.Tending.{any_turn}
 use Rattle.cx_node.specs.Tends.{TendsOnce, tended}
 use Rattle.cx_node.proofs.Actions.{blames_then}
 use Rattle.cx_node.proofs.Turned.{begun_underway, never_begun, stopped_begun, stopped_turn, turned_underway}
@@ -51,7 +51,7 @@ loop-made-preserved g c =
           (scene_of g.L.Link g.W.Sink c.args.self.now c.args.link.now c.args.out.now) before now l.care c.turn.new.care
           c.loop-made-test.true (sym c.has_finished.ensures ∙ c.if-has_finished.false) l.invariant.acts
           (subst (λ (cl : Cluster). TendsOnce (changing g.K.Keeper.append_gives g.K.Renew.renew_gives) cl
-          (λ what. any_turn c.args.tend cl (l.made + 1) what (tended l.care (hosted_in l.self.guests)))
+          (λ what. any_turn c.args.tend cl (l.made + 1) what (tended l.care (course_at l.self)))
           (Ok tt) before now c.turn.new.care) l.invariant.cluster c.in_ok-turn.ensures.acts);
       blames = blames_then (Ok tt) _ _ _ l.invariant.blames c.in_ok-turn.ensures.blames;
       cluster = c.in_ok-turn.ensures.cluster ∙ l.invariant.cluster;
@@ -71,5 +71,5 @@ returns-in_err-turn-clause-acts g c =
     l.care c.turn.new.care
     c.loop-made-test.true (sym c.has_finished.ensures ∙ c.if-has_finished.false) l.invariant.acts
     (subst (λ (cl : Cluster). TendsOnce (changing g.K.Keeper.append_gives g.K.Renew.renew_gives) cl
-    (λ what. any_turn c.args.tend cl (l.made + 1) what (tended l.care (hosted_in l.self.guests)))
+    (λ what. any_turn c.args.tend cl (l.made + 1) what (tended l.care (course_at l.self)))
     (Err c.in_err-turn.field-0.0) before now c.turn.new.care) l.invariant.cluster c.in_err-turn.ensures.acts))

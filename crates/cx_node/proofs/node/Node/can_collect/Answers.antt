@@ -7,7 +7,7 @@ use Rattle.cx_model.specs.Leader.{LeaderDurable, LeaderVolatile}
 use Rattle.cx_model.specs.Rules.{Running}
 use Rattle.cx_node.specs.Guest.{hosted_in}
 use Rattle.cx_node.specs.Node.{NodeState}
-use Rattle.cx_node.specs.Run.{place_of}
+use Rattle.cx_course.specs.Run.{place_of}
 use Rattle.cx_node.specs.Tends.{is_leader_so}
 use Rattle.cx_node.proofs.Places.{place_within}
 use Rattle.cx_node.proofs.Tended.{first_none, first_some}

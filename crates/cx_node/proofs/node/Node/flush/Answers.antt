@@ -1,16 +1,16 @@
 use Rattle.std.proofs.Common.{sym, ◌∙◌}
 use Rattle.cx_base.specs.declared.role.Kind.TheVariants as kind
+use Rattle.cx_node.specs.Node.{course_at}
+use Rattle.cx_node.specs.Acts.{scene_of}
 use Rattle.cx_node.specs.Changing.{changing}
-use Rattle.cx_node.specs.Doing.{scene}
-use Rattle.cx_node.specs.Guest.{hosted_in}
-use Rattle.cx_node.specs.Tending.{is_of, kind_ticks, those_tick}
+use Rattle.cx_course.specs.Tending.{is_of, kind_ticks, those_tick}
 use Rattle.cx_node.proofs.Tended.{act_as, flush_due, flush_none, kind_is}
 use Rattle.cx_node.proofs.node.Node.flush.Goals as goal
 
 pub returns-then-has_paused-clause-acts : goal.returns-then-has_paused-clause-acts
 returns-then-has_paused-clause-acts g c =
-    flush_due (changing g.K.Keeper.append_gives g.K.Renew.renew_gives) c.args.self.now.cluster c.args.care.now c.args.came c.tick_those.result (scene c.args.self.now.guests (g.L.Link.told c.args.link.now) (g.W.Sink.taken c.args.out.now)) (scene c.tick_those.new.self.guests (g.L.Link.told c.tick_those.new.link) (g.W.Sink.taken c.tick_those.new.out)) (sym c.has_paused.ensures ∙ c.if-has_paused.true)
-    (act_as (changing g.K.Keeper.append_gives g.K.Renew.renew_gives) c.args.self.now.cluster (kind_ticks kind.Batcher (hosted_in c.args.self.now.guests)) (those_tick (λ i h. is_of kind.Batcher h) (hosted_in c.args.self.now.guests)) c.tick_those.result (scene c.args.self.now.guests (g.L.Link.told c.args.link.now) (g.W.Sink.taken c.args.out.now)) (scene c.tick_those.new.self.guests (g.L.Link.told c.tick_those.new.link) (g.W.Sink.taken c.tick_those.new.out)) (kind_is kind.Batcher (hosted_in c.args.self.now.guests)) c.tick_those.ensures.acts)
+    flush_due (changing g.K.Keeper.append_gives g.K.Renew.renew_gives) c.args.self.now.cluster c.args.care.now c.args.came c.tick_those.result (scene_of g.L.Link g.W.Sink c.args.self.now c.args.link.now c.args.out.now) (scene_of g.L.Link g.W.Sink c.tick_those.new.self c.tick_those.new.link c.tick_those.new.out) (sym c.has_paused.ensures ∙ c.if-has_paused.true)
+    (act_as (changing g.K.Keeper.append_gives g.K.Renew.renew_gives) c.args.self.now.cluster (kind_ticks kind.Batcher (course_at c.args.self.now)) (those_tick (λ i h. is_of kind.Batcher h) (course_at c.args.self.now)) c.tick_those.result (scene_of g.L.Link g.W.Sink c.args.self.now c.args.link.now c.args.out.now) (scene_of g.L.Link g.W.Sink c.tick_those.new.self c.tick_those.new.link c.tick_those.new.out) (kind_is kind.Batcher (course_at c.args.self.now)) c.tick_those.ensures.acts)
 
 pub returns-clause-acts : goal.returns-clause-acts
-returns-clause-acts g c = flush_none (changing g.K.Keeper.append_gives g.K.Renew.renew_gives) c.args.self.now.cluster c.args.care.now c.args.came (scene c.args.self.now.guests (g.L.Link.told c.args.link.now) (g.W.Sink.taken c.args.out.now)) (sym c.has_paused.ensures ∙ c.if-has_paused.false) c.requires.ready
+returns-clause-acts g c = flush_none (changing g.K.Keeper.append_gives g.K.Renew.renew_gives) c.args.self.now.cluster c.args.care.now c.args.came (scene_of g.L.Link g.W.Sink c.args.self.now c.args.link.now c.args.out.now) (sym c.has_paused.ensures ∙ c.if-has_paused.false) c.requires.ready

@@ -3,12 +3,12 @@ use Rattle.std.proofs.lemmas.Result.{err_from_is_err_and}
 use Rattle.cx_base.specs.Role.{role, same_role}
 use Rattle.cx_base.specs.declared.cluster.Cluster.{Cluster}
 use Rattle.cx_base.specs.declared.role.Kind.TheVariants as kind
+use Rattle.cx_node.specs.Node.{course_at}
 use Rattle.cx_node.specs.Changing.{changing}
-use Rattle.cx_node.specs.Run.{stays}
-use Rattle.cx_node.specs.Acts.{Acts}
-use Rattle.cx_node.specs.Doing.{scene}
+use Rattle.cx_course.specs.Course.{stays}
+use Rattle.cx_node.specs.Acts.{Acts, scene_of}
 use Rattle.cx_node.specs.Guest.{hosted_in}
-use Rattle.cx_node.specs.Tending.{collected, held_by, reported}
+use Rattle.cx_course.specs.Tending.{collected, held_by, reported}
 use Rattle.cx_node.proofs.Tended.{heed_collect, heed_report, heed_take}
 use Rattle.cx_node.proofs.node.Node.heed.Goals as goal
 
@@ -16,24 +16,24 @@ pub returns-in_err-act_named-clause-acts : goal.returns-in_err-act_named-clause-
 returns-in_err-act_named-clause-acts g c =
     let p = err_from_is_err_and c.from_residual.result c.from_residual.ensures.1 in
     let is : c.from_residual.result ≡ Err c.in_err-act_named.field-0.0 = p.1 ∙ ap Err p.2 in
-    rw is (heed_take (changing g.K.Keeper.append_gives g.K.Renew.renew_gives) c.args.self.now.cluster c.args.datagram c.in_err-act_named.field-0.0 (scene c.args.self.now.guests (g.L.Link.told c.args.link.now) (g.W.Sink.taken c.args.out.now)) (scene c.act_named.new.self.guests (g.L.Link.told c.act_named.new.link) (g.W.Sink.taken c.act_named.new.out)) (rw c.to-to.ensures.to at c.in_err-act_named.ensures.acts))
+    rw is (heed_take (changing g.K.Keeper.append_gives g.K.Renew.renew_gives) c.args.self.now.cluster c.args.number c.args.datagram c.in_err-act_named.field-0.0 (scene_of g.L.Link g.W.Sink c.args.self.now c.args.link.now c.args.out.now) (scene_of g.L.Link g.W.Sink c.act_named.new.self c.act_named.new.link c.act_named.new.out) (rw c.to-to.ensures.to at c.in_err-act_named.ensures.acts))
 
 pub returns-in_err-report-clause-acts : goal.returns-in_err-report-clause-acts
 returns-in_err-report-clause-acts g c =
-    let taken = (scene c.act_named.new.self.guests (g.L.Link.told c.act_named.new.link) (g.W.Sink.taken c.act_named.new.out)) in
-    let told = (scene c.report.new.self.guests (g.L.Link.told c.report.new.link) (g.W.Sink.taken c.report.new.out)) in
+    let taken = (scene_of g.L.Link g.W.Sink c.act_named.new.self c.act_named.new.link c.act_named.new.out) in
+    let told = (scene_of g.L.Link g.W.Sink c.report.new.self c.report.new.link c.report.new.out) in
     let p = err_from_is_err_and c.from_residual-in_err-report.result c.from_residual-in_err-report.ensures.1 in
     let is : c.from_residual-in_err-report.result ≡ Err c.in_err-report.field-0.0 = p.1 ∙ ap Err p.2 in
     rw is
-    (heed_report (changing g.K.Keeper.append_gives g.K.Renew.renew_gives) c.args.self.now.cluster c.args.datagram c.in_err-report.field-0.0 (scene c.args.self.now.guests (g.L.Link.told c.args.link.now) (g.W.Sink.taken c.args.out.now)) taken told (rw c.to-to.ensures.to at c.in_ok-act_named.ensures.acts)
-    (subst (λ (cl : Cluster). Acts (changing g.K.Keeper.append_gives g.K.Renew.renew_gives) cl [] (reported c.args.datagram.to (held_by c.args.datagram.to (hosted_in c.args.self.now.guests)) (hosted_in c.act_named.new.self.guests)) (Err c.in_err-report.field-0.0) taken told) c.in_ok-act_named.ensures.cluster (rw (c.held_by-before.ensures, c.to-to.ensures.to) at c.in_err-report.ensures.acts)))
+    (heed_report (changing g.K.Keeper.append_gives g.K.Renew.renew_gives) c.args.self.now.cluster c.args.number c.args.datagram c.in_err-report.field-0.0 (scene_of g.L.Link g.W.Sink c.args.self.now c.args.link.now c.args.out.now) taken told (rw c.to-to.ensures.to at c.in_ok-act_named.ensures.acts)
+    (subst (λ (cl : Cluster). Acts (changing g.K.Keeper.append_gives g.K.Renew.renew_gives) cl [] (reported c.args.datagram.to (held_by c.args.datagram.to (hosted_in c.args.self.now.guests)) (course_at c.act_named.new.self)) (Err c.in_err-report.field-0.0) taken told) c.in_ok-act_named.ensures.cluster (rw (c.held_by-before.ensures, c.to-to.ensures.to) at c.in_err-report.ensures.acts)))
 
 pub returns-clause-acts : goal.returns-clause-acts
 returns-clause-acts g c =
-    let taken = (scene c.act_named.new.self.guests (g.L.Link.told c.act_named.new.link) (g.W.Sink.taken c.act_named.new.out)) in
-    let told = (scene c.report.new.self.guests (g.L.Link.told c.report.new.link) (g.W.Sink.taken c.report.new.out)) in
-    let now = (scene c.collect_for.new.self.guests (g.L.Link.told c.collect_for.new.link) (g.W.Sink.taken c.collect_for.new.out)) in
-    heed_collect (changing g.K.Keeper.append_gives g.K.Renew.renew_gives) c.args.self.now.cluster c.args.datagram c.collect_for.result (scene c.args.self.now.guests (g.L.Link.told c.args.link.now) (g.W.Sink.taken c.args.out.now)) taken told now (rw c.to-to.ensures.to at c.in_ok-act_named.ensures.acts)
-    (subst (λ (cl : Cluster). Acts (changing g.K.Keeper.append_gives g.K.Renew.renew_gives) cl [] (reported c.args.datagram.to (held_by c.args.datagram.to (hosted_in c.args.self.now.guests)) (hosted_in c.act_named.new.self.guests)) (Ok tt) taken told) c.in_ok-act_named.ensures.cluster (rw (c.held_by-before.ensures, c.to-to.ensures.to) at c.in_ok-report.ensures.acts))
-    (subst (λ (cl : Cluster). Acts (changing g.K.Keeper.append_gives g.K.Renew.renew_gives) cl [] (if same_role c.args.datagram.to (role kind.Leader 0) then collected (hosted_in c.report.new.self.guests) else stays (hosted_in c.report.new.self.guests)) c.collect_for.result told now)
+    let taken = (scene_of g.L.Link g.W.Sink c.act_named.new.self c.act_named.new.link c.act_named.new.out) in
+    let told = (scene_of g.L.Link g.W.Sink c.report.new.self c.report.new.link c.report.new.out) in
+    let now = (scene_of g.L.Link g.W.Sink c.collect_for.new.self c.collect_for.new.link c.collect_for.new.out) in
+    heed_collect (changing g.K.Keeper.append_gives g.K.Renew.renew_gives) c.args.self.now.cluster c.args.number c.args.datagram c.collect_for.result (scene_of g.L.Link g.W.Sink c.args.self.now c.args.link.now c.args.out.now) taken told now (rw c.to-to.ensures.to at c.in_ok-act_named.ensures.acts)
+    (subst (λ (cl : Cluster). Acts (changing g.K.Keeper.append_gives g.K.Renew.renew_gives) cl [] (reported c.args.datagram.to (held_by c.args.datagram.to (hosted_in c.args.self.now.guests)) (course_at c.act_named.new.self)) (Ok tt) taken told) c.in_ok-act_named.ensures.cluster (rw (c.held_by-before.ensures, c.to-to.ensures.to) at c.in_ok-report.ensures.acts))
+    (subst (λ (cl : Cluster). Acts (changing g.K.Keeper.append_gives g.K.Renew.renew_gives) cl [] (if same_role c.args.datagram.to (role kind.Leader 0) then collected (course_at c.report.new.self) else stays (course_at c.report.new.self)) c.collect_for.result told now)
     (c.in_ok-report.ensures.cluster ∙ c.in_ok-act_named.ensures.cluster) (rw c.to-to.ensures.to at c.collect_for.ensures.acts))

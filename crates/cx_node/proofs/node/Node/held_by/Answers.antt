@@ -2,7 +2,7 @@ use Rattle.std.proofs.Common.{◌≡◌, ◌<◌, Some, length, get_or, slice_ge
 use Rattle.std.proofs.lemmas.Option.{slice_get_read}
 use Rattle.cx_node.specs.Guest.{hosted_in}
 use Rattle.cx_node.specs.Node.{NodeState}
-use Rattle.cx_node.specs.Run.{place_of}
+use Rattle.cx_course.specs.Run.{place_of}
 use Rattle.cx_node.proofs.Places.{place_within}
 use Rattle.cx_node.proofs.Tended.{held_none, held_some}
 use Rattle.cx_node.proofs.node.Node.held_by.Goals as goal

@@ -5,12 +5,13 @@ use Rattle.cx_base.specs.Role.{role}
 use Rattle.cx_base.specs.declared.event.Order.TheVariants as order
 use Rattle.cx_base.specs.declared.role.Kind.TheVariants as kind
 use Rattle.cx_msg.specs.declared.input.Input.TheVariants as input
-use Rattle.cx_node.specs.declared.doing.Doing.TheVariants.{Give}
+use Rattle.cx_course.specs.declared.doing.Doing.TheVariants.{Give}
 use Rattle.cx_node.specs.Acts.{Acts, scene_of}
 use Rattle.cx_node.specs.Changing.{changing}
 use Rattle.cx_node.specs.Guest.{hosted_in}
-use Rattle.cx_node.specs.Node.{NodeState}
-use Rattle.cx_node.specs.Run.{does_at, grid_of, idle_at, place_of}
+use Rattle.cx_node.specs.Node.{NodeState, course_at}
+use Rattle.cx_course.specs.Course.{does_at}
+use Rattle.cx_course.specs.Run.{grid_of, idle_at, place_of}
 use Rattle.cx_node.proofs.Parts.{lead_busy, lead_idle, lead_none}
 use Rattle.cx_node.proofs.Places.{place_within}
 use Rattle.cx_node.proofs.Seated.{hosted_at}
@@ -70,7 +71,7 @@ returns-clause-acts g c =
     (scene_of g.L.Link g.W.Sink c.act.new.self c.act.new.link c.act.new.out) found
     (ap idle_at (hosted_at gs i h here) ∙ sym c.is_idle_leader.ensures ∙ c.if-not-is_idle_leader.false)
     (subst (λ (s : Shape). Acts (changing g.K.Keeper.append_gives g.K.Renew.renew_gives) c.args.self.now.cluster []
-    (does_at i (Give (input.Order (order.Lead s))) hs) c.act.result
+    (does_at i (Give 0 (input.Order (order.Lead s))) (course_at c.args.self.now)) c.act.result
     (scene_of g.L.Link g.W.Sink c.args.self.now c.args.link.now c.args.out.now)
     (scene_of g.L.Link g.W.Sink c.act.new.self c.act.new.link c.act.new.out))
     (c.first_grid.ensures ∙ ap grid_of same_cluster) c.act.ensures.acts)

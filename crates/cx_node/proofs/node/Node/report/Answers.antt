@@ -1,11 +1,11 @@
 use Rattle.std.proofs.Common.{sym, ◌∙◌}
+use Rattle.cx_node.specs.Acts.{scene_of}
 use Rattle.cx_node.specs.Changing.{changing}
-use Rattle.cx_node.specs.Doing.{scene}
 use Rattle.cx_node.proofs.Tended.{report_due, report_none}
 use Rattle.cx_node.proofs.node.Node.report.Goals as goal
 
 pub returns-then-holds_more-clause-acts : goal.returns-then-holds_more-clause-acts
-returns-then-holds_more-clause-acts g c = report_due (changing g.K.Keeper.append_gives g.K.Renew.renew_gives) c.args.self.now.cluster c.args.role c.args.before c.act_named.result (scene c.args.self.now.guests (g.L.Link.told c.args.link.now) (g.W.Sink.taken c.args.out.now)) (scene c.act_named.new.self.guests (g.L.Link.told c.act_named.new.link) (g.W.Sink.taken c.act_named.new.out)) (sym c.holds_more.ensures ∙ c.if-holds_more.true) c.act_named.ensures.acts
+returns-then-holds_more-clause-acts g c = report_due (changing g.K.Keeper.append_gives g.K.Renew.renew_gives) c.args.self.now.cluster c.args.role c.args.before c.act_named.result (scene_of g.L.Link g.W.Sink c.args.self.now c.args.link.now c.args.out.now) (scene_of g.L.Link g.W.Sink c.act_named.new.self c.act_named.new.link c.act_named.new.out) (sym c.holds_more.ensures ∙ c.if-holds_more.true) c.act_named.ensures.acts
 
 pub returns-clause-acts : goal.returns-clause-acts
-returns-clause-acts g c = report_none (changing g.K.Keeper.append_gives g.K.Renew.renew_gives) c.args.self.now.cluster c.args.role c.args.before (scene c.args.self.now.guests (g.L.Link.told c.args.link.now) (g.W.Sink.taken c.args.out.now)) (sym c.holds_more.ensures ∙ c.if-holds_more.false) c.requires.ready
+returns-clause-acts g c = report_none (changing g.K.Keeper.append_gives g.K.Renew.renew_gives) c.args.self.now.cluster c.args.role c.args.before (scene_of g.L.Link g.W.Sink c.args.self.now c.args.link.now c.args.out.now) (sym c.holds_more.ensures ∙ c.if-holds_more.false) c.requires.ready

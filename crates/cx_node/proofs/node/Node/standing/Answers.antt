@@ -5,8 +5,8 @@ use Rattle.cx_base.specs.Role.{role}
 use Rattle.cx_base.specs.declared.role.Kind.TheVariants as kind
 use Rattle.cx_node.specs.Guest.{hosted_in}
 use Rattle.cx_node.specs.Node.{NodeState}
-use Rattle.cx_node.specs.Run.{place_of}
-use Rattle.cx_node.specs.Tending.{standing_of}
+use Rattle.cx_course.specs.Run.{place_of}
+use Rattle.cx_course.specs.Tending.{standing_of}
 use Rattle.cx_node.proofs.Places.{place_within}
 use Rattle.cx_node.proofs.Tended.{first_none, first_some}
 use Rattle.cx_node.proofs.node.Node.standing.Goals as goal

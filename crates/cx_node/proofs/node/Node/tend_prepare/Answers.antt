@@ -1,10 +1,10 @@
 use Rattle.std.proofs.Common.{◌≡◌, [], Err, ap, ◌∙◌, subst}
 use Rattle.std.proofs.lemmas.Result.{err_from_is_err_and}
 use Rattle.cx_base.specs.declared.cluster.Cluster.{Cluster}
+use Rattle.cx_node.specs.Node.{course_at}
 use Rattle.cx_node.specs.Acts.{Acts, scene_of}
 use Rattle.cx_node.specs.Changing.{changing}
-use Rattle.cx_node.specs.Guest.{hosted_in}
-use Rattle.cx_node.specs.Run.{snaps}
+use Rattle.cx_course.specs.Run.{snaps}
 use Rattle.cx_node.proofs.Tended.{tend_prepare_order, tend_prepare_snap}
 use Rattle.cx_node.proofs.node.Node.tend_prepare.Goals as goal
 
@@ -23,5 +23,5 @@ returns-clause-acts g c =
     tend_prepare_snap (changing g.K.Keeper.append_gives g.K.Renew.renew_gives) c.args.self.now.cluster c.args.n c.snap.result
     (scene_of g.L.Link g.W.Sink c.args.self.now c.args.link.now c.args.out.now) ordered now c.in_ok-tend_order.ensures.acts
     (subst (λ (cl : Cluster). Acts (changing g.K.Keeper.append_gives g.K.Renew.renew_gives) cl []
-    (snaps c.args.n (hosted_in c.tend_order.new.self.guests)) c.snap.result ordered now)
+    (snaps c.args.n (course_at c.tend_order.new.self)) c.snap.result ordered now)
     c.in_ok-tend_order.ensures.cluster c.snap.ensures.acts)

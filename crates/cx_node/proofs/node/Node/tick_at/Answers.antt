@@ -4,11 +4,11 @@ use Rattle.cx_msg.specs.declared.input.Input.TheVariants as input
 use Rattle.cx_node.specs.Acts.{scene_of}
 use Rattle.cx_node.specs.Changing.{changing}
 use Rattle.cx_node.specs.Guest.{hosted_in, hosted_of}
-use Rattle.cx_node.specs.Node.{NodeState}
-use Rattle.cx_node.specs.Run.{does_at}
-use Rattle.cx_node.specs.Tending.{is_so}
+use Rattle.cx_node.specs.Node.{NodeState, course_at}
+use Rattle.cx_course.specs.Course.{does_at}
+use Rattle.cx_course.specs.Tending.{is_so}
 use Rattle.cx_node.specs.Tends.{is_meant}
-use Rattle.cx_node.specs.declared.doing.Doing.TheVariants.{Give}
+use Rattle.cx_course.specs.declared.doing.Doing.TheVariants.{Give}
 use Rattle.cx_node.proofs.Tended.{due, not_due, so_at, so_within}
 use Rattle.cx_node.proofs.node.Node.tick_at.Goals as goal
 
@@ -28,7 +28,7 @@ returns-then-is_meant_at-clause-acts g c =
     let same = ap (λ (s : NodeState g.row.K.Denot). s.guests) c.self.view_is in
     let i = c.args.place in
     let test = is_meant c.args.whom c.args.care.now.marks i in
-    due (changing g.K.Keeper.append_gives g.K.Renew.renew_gives) c.args.self.now.cluster (is_so test (slice_get hs i)) (does_at i (Give input.Tick) hs)
+    due (changing g.K.Keeper.append_gives g.K.Renew.renew_gives) c.args.self.now.cluster (is_so test (slice_get hs i)) (does_at i (Give 0 input.Tick) (course_at c.args.self.now))
     c.act.result (scene_of g.L.Link g.W.Sink c.args.self.now c.args.link.now c.args.out.now)
     (scene_of g.L.Link g.W.Sink c.act.new.self c.act.new.link c.act.new.out)
     (so_at test gs _ i c.is_meant_at.result (c.deref.ensures.value ∙ same) c.is_meant_at.ensures ∙ c.if-is_meant_at.true)
@@ -41,7 +41,7 @@ returns-clause-acts g c =
     let same = ap (λ (s : NodeState g.row.K.Denot). s.guests) c.self.view_is in
     let i = c.args.place in
     let test = is_meant c.args.whom c.args.care.now.marks i in
-    not_due (changing g.K.Keeper.append_gives g.K.Renew.renew_gives) c.args.self.now.cluster (is_so test (slice_get hs i)) (does_at i (Give input.Tick) hs)
+    not_due (changing g.K.Keeper.append_gives g.K.Renew.renew_gives) c.args.self.now.cluster (is_so test (slice_get hs i)) (does_at i (Give 0 input.Tick) (course_at c.args.self.now))
     (scene_of g.L.Link g.W.Sink c.args.self.now c.args.link.now c.args.out.now)
     (so_at test gs _ i c.is_meant_at.result (c.deref.ensures.value ∙ same) c.is_meant_at.ensures ∙ c.if-is_meant_at.false)
     c.requires.ready

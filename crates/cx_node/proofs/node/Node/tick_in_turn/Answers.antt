@@ -2,10 +2,11 @@ use Rattle.std.proofs.Common.{◌≡◌, ◌+◌, [], drop, get_or, Ok, Err, ref
 use Rattle.std.proofs.lemmas.List.{drop_all, drop_more}
 use Rattle.std.proofs.lemmas.Result.{err_from_is_err_and}
 use Rattle.cx_base.specs.declared.cluster.Cluster.{Cluster}
+use Rattle.cx_node.specs.Node.{course_at}
 use Rattle.cx_node.specs.Acts.{Acts, failed, scene_of}
 use Rattle.cx_node.specs.Changing.{changing}
-use Rattle.cx_node.specs.Guest.{AreReady, hosted_in}
-use Rattle.cx_node.specs.Tending.{ticks_if}
+use Rattle.cx_node.specs.Guest.{AreReady}
+use Rattle.cx_course.specs.Tending.{ticks_if}
 use Rattle.cx_node.specs.Tends.{is_meant}
 use Rattle.cx_node.proofs.Actions.{blames_then, no_blame}
 use Rattle.cx_node.proofs.Tended.{all_asked, none_asked, one_asked, one_stopped}
@@ -38,7 +39,7 @@ loop-place-preserved g c =
           (scene_of g.L.Link g.W.Sink c.args.self.now c.args.link.now c.args.out.now) before now
           (drop_more all l.place-index 0 c.loop-place-test.true) l.invariant.acts
           (subst (λ (cl : Cluster). Acts (changing g.K.Keeper.append_gives g.K.Renew.renew_gives) cl []
-          (ticks_if test place (hosted_in l.self.guests)) (Ok tt) before now)
+          (ticks_if test place (course_at l.self)) (Ok tt) before now)
           l.invariant.cluster c.in_ok-tick_at.ensures.acts);
       ready = subst (λ (cl : Cluster). AreReady cl c.tick_at.new.self.guests) l.invariant.cluster c.in_ok-tick_at.ensures.acts.ready;
       blames = blames_then (Ok tt) _ _ _ l.invariant.blames c.in_ok-tick_at.ensures.blames;
@@ -61,7 +62,7 @@ returns-in_err-tick_at-clause-acts g c =
     (scene_of g.L.Link g.W.Sink c.args.self.now c.args.link.now c.args.out.now) before now
     (drop_more all l.place-index 0 c.loop-place-test.true) l.invariant.acts
     (subst (λ (cl : Cluster). Acts (changing g.K.Keeper.append_gives g.K.Renew.renew_gives) cl []
-    (ticks_if test place (hosted_in l.self.guests)) (Err c.in_err-tick_at.field-0.0) before now)
+    (ticks_if test place (course_at l.self)) (Err c.in_err-tick_at.field-0.0) before now)
     l.invariant.cluster c.in_err-tick_at.ensures.acts))
 
 pub returns-clause-acts : goal.returns-clause-acts

@@ -1,10 +1,10 @@
 use Rattle.std.proofs.Common.{◌≡◌, [], Ok, Err, ap, ◌∙◌, subst}
 use Rattle.std.proofs.lemmas.Result.{err_from_is_err_and}
 use Rattle.cx_base.specs.declared.cluster.Cluster.{Cluster}
+use Rattle.cx_node.specs.Node.{course_at}
 use Rattle.cx_node.specs.Acts.{Acts, ActsOnce, scene_of}
 use Rattle.cx_node.specs.Changing.{changing}
-use Rattle.cx_node.specs.Guest.{hosted_in}
-use Rattle.cx_node.specs.Run.{comes, ticked}
+use Rattle.cx_course.specs.Run.{comes, ticked}
 use Rattle.cx_node.proofs.Parts.{turn_prepare, turn_take, turn_tick}
 use Rattle.cx_node.proofs.node.Node.untended_turn.Goals as goal
 
@@ -26,7 +26,7 @@ returns-in_err-take-clause-acts g c =
     (turn_take (changing g.K.Keeper.append_gives g.K.Renew.renew_gives) c.args.self.now.cluster c.args.n c.in_err-take.field-0.0
     (scene_of g.L.Link g.W.Sink c.args.self.now c.args.link.now c.args.out.now) prepared now c.in_ok-prepare.ensures.acts
     (subst (λ (cl : Cluster). ActsOnce (changing g.K.Keeper.append_gives g.K.Renew.renew_gives) cl
-    (λ what. comes what (hosted_in c.prepare.new.self.guests))
+    (λ what. comes what (course_at c.prepare.new.self))
     (Err c.in_err-take.field-0.0) prepared now) c.in_ok-prepare.ensures.cluster c.in_err-take.ensures.acts))
 
 pub returns-clause-acts : goal.returns-clause-acts
@@ -37,8 +37,8 @@ returns-clause-acts g c =
     turn_tick (changing g.K.Keeper.append_gives g.K.Renew.renew_gives) c.args.self.now.cluster c.args.n c.tick.result
     (scene_of g.L.Link g.W.Sink c.args.self.now c.args.link.now c.args.out.now) prepared taken now c.in_ok-prepare.ensures.acts
     (subst (λ (cl : Cluster). ActsOnce (changing g.K.Keeper.append_gives g.K.Renew.renew_gives) cl
-    (λ what. comes what (hosted_in c.prepare.new.self.guests))
+    (λ what. comes what (course_at c.prepare.new.self))
     (Ok tt) prepared taken) c.in_ok-prepare.ensures.cluster c.in_ok-take.ensures.acts)
     (subst (λ (cl : Cluster). Acts (changing g.K.Keeper.append_gives g.K.Renew.renew_gives) cl []
-    (ticked c.args.n (hosted_in c.take.new.self.guests)) c.tick.result taken now)
+    (ticked c.args.n (course_at c.take.new.self)) c.tick.result taken now)
     (c.in_ok-take.ensures.cluster ∙ c.in_ok-prepare.ensures.cluster) c.tick.ensures.acts)

@@ -1,9 +1,10 @@
 use Rattle.std.proofs.Common.{Option, ap, sym, ◌∙◌, rules, subst}
 use Rattle.std.specs.Prelude.{slice_get}
 use Rattle.cx_node.specs.declared.guest.Guest.{Guest}
-use Rattle.cx_node.specs.Changing.{changes_of, changing}
+use Rattle.cx_course.specs.Changing.{changes_of}
+use Rattle.cx_node.specs.Changing.{changing}
 use Rattle.cx_node.specs.Guest.{FailsIn, KeeperFails, hosted_of, keeper_of, who}
-use Rattle.cx_node.specs.Hosted.{Step, does, given}
+use Rattle.cx_course.specs.Hosted.{Step, does, given}
 use Rattle.cx_node.proofs.Acted.{given_is, sends_are, text_is}
 use Rattle.cx_node.proofs.Named.{is_shown, keeper_named, named_itself, own_name}
 use Rattle.cx_node.proofs.seat.Seat.act.Goals as goal
@@ -15,7 +16,7 @@ returns-in_err-give-in-Give-clause-step g c =
     let input = c.in-Give.input in
     let own = own_name c.self.inside.me guest c.args.self.now c.self.invariant c.self.view_is c.requires.live in
     let shown = is_shown c.self.inside.me guest c.args.self.now own c.self.view_is in
-    let moved = given_is guest c.args.self.now c.args.what.now input shown c.in-Give.is in
+    let moved = given_is guest c.args.self.now c.args.what.now c.in-Give.number input shown c.in-Give.is in
     record {
       role = search rules;
       kept = search rules;
@@ -41,7 +42,7 @@ returns-in_ok-give-in-Give-clause-step g c =
     let input = c.in-Give.input in
     let own = own_name c.self.inside.me guest c.args.self.now c.self.invariant c.self.view_is c.requires.live in
     let shown = is_shown c.self.inside.me guest c.args.self.now own c.self.view_is in
-    let moved = given_is guest c.args.self.now c.args.what.now input shown c.in-Give.is in
+    let moved = given_is guest c.args.self.now c.args.what.now c.in-Give.number input shown c.in-Give.is in
     let after = named_itself c.self.inside.me c.give.new.guest (own ∙ sym c.in_ok-give-in-Give.ensures.name) in
     let step = c.in_ok-give-in-Give.ensures.step in
     let made = given (hosted_of guest) input in

@@ -1,0 +1,126 @@
+-- Roles that are opened from stores without records are fresh.
+use Rattle.std.proofs.Common.{◌≡◌, ◌≤◌, ℕ, suc, arith, inl, inr, Bool, true, List, [], ◌∷◌, length, Option, Some, is_some, refl, sym, ap, ◌∙◌, subst}
+use Rattle.std.specs.Prelude.{slice_get}
+use Rattle.std.specs.List.{All}
+use Rattle.cx_base.specs.declared.cluster.Cluster.{Cluster}
+use Rattle.cx_base.specs.declared.event.Event.{Event}
+use Rattle.cx_base.specs.declared.role.Kind.{Kind}
+use Rattle.cx_base.specs.declared.role.Kind.TheVariants.{Client, Batcher, Leader, Proxy, Acceptor, Matchmaker}
+use Rattle.cx_base.specs.declared.role.Kind.TheVariants.{Replica, Unbatcher, Reader}
+use Rattle.cx_base.specs.declared.role.RoleId.{RoleId}
+use Rattle.cx_base.specs.Role.{role as a_role}
+use Rattle.cx_client.specs.Client.{IsClient, client_opened}
+use Rattle.cx_client.proofs.Steps.{opened_is_client}
+use Rattle.cx_course.specs.Alike.{AreDistinct, AreFresh, IsFresh, IsFreshClient, IsFreshRole}
+use Rattle.cx_course.specs.Course.{course_of}
+use Rattle.cx_course.specs.Follows.{FollowsBetween, KeepsNext}
+use Rattle.cx_course.specs.Hosted.{Hosted}
+use Rattle.cx_course.specs.Run.{Takes}
+use Rattle.cx_course.specs.Tending.{node_run}
+use Rattle.cx_journal.specs.Files.{Files}
+use Rattle.cx_journal.specs.declared.store.Store.{Store}
+use Rattle.cx_model.specs.Acceptor.{acceptor_rules}
+use Rattle.cx_model.specs.Leader.{leader_rules}
+use Rattle.cx_model.specs.Matchmaker.{matchmaker_rules}
+use Rattle.cx_model.specs.Member.{Member}
+use Rattle.cx_model.specs.Names.{names_role}
+use Rattle.cx_model.specs.Replica.{replica_rules}
+use Rattle.cx_model.specs.Rules.{Rules, opened}
+use Rattle.cx_msg.specs.declared.kept.Record.{Record}
+use Rattle.cx_record.specs.Readable.{IsRecordable}
+use Rattle.cx_script.specs.Requests.{IsScript, script_of}
+use Rattle.cx_node.specs.declared.guest.Guest.{Guest}
+use Rattle.cx_node.specs.Opening.{AreApart, AreOpened, is_durable, opened_as}
+use Rattle.cx_node.specs.Serving.{IsRecorded, hosts, run_of}
+use Rattle.cx_node.proofs.OpenedRoles.{AreOpenedFrom, distinct_opened, get_beside, get_map, hosts_opened}
+use Rattle.cx_node.proofs.Unused.{NoneIsUsed, fresh_opened}
+
+-- what holds of each place holds of each member
+all_members : {X : Type 0} (P : X → Type 0) (xs : List X) → All P xs → (x : X) → Member x xs → P x
+all_members P [] all x is = absurd is
+all_members P (y ∷ ys) all x (inl e) = subst P (sym e) (all 0 y (omega arith))
+all_members P (y ∷ ys) all x (inr more) = all_members P ys (λ k d inside. all (suc k) d (omega (arith, inside))) x more
+
+module _ (c : Cluster) (window : ℕ) (events : List Event) (scripts : (client : ℕ) → IsScript c client (script_of client events))
+    (recordable : (client : ℕ) → All (IsRecordable c) (script_of client events)) (some : 1 ≤ window) (most : window ≤ 64) where
+  client_fresh : (me : RoleId) → me.kind ≡ Client → names_role c me ≡ true
+      → IsFreshClient c (client_opened c me (script_of me.index events) window)
+  client_fresh me kind named = record {
+    client =
+        subst (λ a. IsClient (client_opened c a (script_of me.index events) window)) (ap (λ k. a_role k me.index) (sym kind))
+        (opened_is_client c me.index (script_of me.index events) window (scripts me.index) some most);
+    cluster = refl;
+    named = named;
+    lines = all_members (IsRecordable c) (script_of me.index events) (recordable me.index);
+    done = refl;
+    heard = refl;
+  }
+
+  role_fresh : {D V : Type 0} (rules : Rules D V) (me : RoleId) (records : List Record) → records ≡ [] → me.kind ≡ rules.kind
+      → names_role c me ≡ true → IsFreshRole rules c (opened rules c me records)
+  role_fresh rules me records none kind named = record { opened = ap (opened rules c me) none; kind_is = kind; named = named }
+
+  -- one of this kind
+  is_fresh : (me : RoleId) (records : List Record) (k : Kind) → me.kind ≡ k → names_role c me ≡ true
+      → (is_durable k ≡ true → records ≡ []) → IsFresh c (opened_as c window events me records k)
+  is_fresh me records Client kind named none = client_fresh me kind named
+  is_fresh me records Batcher kind named none = record { opened = refl; kind_is = kind; named = named }
+  is_fresh me records Leader kind named none = role_fresh leader_rules me records (none refl) kind named
+  is_fresh me records Proxy kind named none = record { opened = refl; kind_is = kind; named = named }
+  is_fresh me records Acceptor kind named none = role_fresh acceptor_rules me records (none refl) kind named
+  is_fresh me records Matchmaker kind named none = role_fresh matchmaker_rules me records (none refl) kind named
+  is_fresh me records Replica kind named none = role_fresh replica_rules me records (none refl) kind named
+  is_fresh me records Unbatcher kind named none = record { opened = refl; kind_is = kind; named = named }
+  is_fresh me records Reader kind named none = record { opened = refl; kind_is = kind; named = named }
+
+  -- all of them
+  pub are_fresh : (told : RoleId → List Record) (roles : List RoleId) → AreDistinct (hosts c window events told roles)
+      → ((i : ℕ) (me : RoleId) → slice_get roles i ≡ Some me → names_role c me ≡ true)
+      → ((i : ℕ) (me : RoleId) → slice_get roles i ≡ Some me → is_durable me.kind ≡ true → told me ≡ [])
+      → AreFresh c (hosts c window events told roles)
+  are_fresh told roles apart named none = record {
+    each = λ i h at.
+        let r = get_map (λ (me : RoleId). opened_as c window events me (told me) me.kind) roles i h at in
+        subst (IsFresh c) (sym r.2) (is_fresh r.0 (told r.0) r.0.kind refl (named i r.0 r.1) (none i r.0 r.1));
+    distinct = apart;
+  }
+
+-- ---- a recorded run
+
+-- what is known of recorded runs of fresh roles
+pub record IsLaw (c : Cluster) : Type 0 where
+  pub follows : (tend : Option ℕ) (takes : Takes) (hs : List Hosted) → AreFresh c hs
+      → FollowsBetween c (node_run tend c takes (course_of true hs)).actions
+  pub in_flight : (tend : Option ℕ) (takes : Takes) (hs : List Hosted) → AreFresh c hs
+      → KeepsNext c (node_run tend c takes (course_of true hs)).actions
+
+module _ {D : Type 0} (seen : D → Option (List ℕ)) (disk_faults : D → ℕ) (c : Cluster) (window : ℕ) (events : List Event)
+    (tells : Bool) (held : RoleId → Files) (roles : List RoleId) (guests : List (Guest (Store D)))
+    (apart : AreApart roles) (named : (i : ℕ) (me : RoleId) → slice_get roles i ≡ Some me → names_role c me ≡ true)
+    (scripts : (client : ℕ) → IsScript c client (script_of client events))
+    (recordable : (client : ℕ) → All (IsRecordable c) (script_of client events)) (some : 1 ≤ window) (most : window ≤ 64)
+    (law : IsLaw c) (all : AreOpened seen disk_faults c window events tells held roles guests)
+    (count : length guests ≡ length roles) (unused : NoneIsUsed guests) (told : RoleId → List Record)
+    (from : AreOpenedFrom seen disk_faults c window events tells held told roles guests) where
+  -- no role was opened from a record
+  none_told : (i : ℕ) (me : RoleId) → slice_get roles i ≡ Some me → is_durable me.kind ≡ true → told me ≡ []
+  none_told i me here durable =
+      let g = get_beside roles guests i me count here in
+      let o = from i me g.0 here g.1 in
+      sym o.1 ∙ fresh_opened seen disk_faults c window events tells held me g.0 o.0 (unused i g.0 g.1) durable
+
+  fresh : AreFresh c (hosts c window events told roles)
+  fresh =
+      are_fresh c window events scripts recordable some most told roles
+      (subst AreDistinct (hosts_opened seen disk_faults c window events tells held told roles guests count from)
+      (distinct_opened seen disk_faults c window events tells held roles guests apart all)) named none_told
+
+  pub recorded_run : (tend : Option ℕ) (header : Option (List ℕ)) → is_some header ≡ true → (takes : Takes)
+      → IsRecorded roles c told (run_of tend header c window events told roles takes).actions
+  recorded_run tend header is takes =
+      let hs = hosts c window events told roles in
+      subst (λ b. IsRecorded roles c told (node_run tend c takes (course_of b hs)).actions) (sym is) (record {
+        fresh = none_told;
+        follows = law.follows tend takes hs fresh;
+        in_flight = law.in_flight tend takes hs fresh;
+      })

@@ -1,0 +1,10 @@
+use Rattle.std.proofs.Common.{◌≡◌, ◌-◌}
+use Rattle.std.specs.List.{list_all, list_any}
+use Rattle.cx_base.specs.Lists.{below, numbers}
+use Rattle.cx_base.specs.Role.{role, same_role}
+use Rattle.cx_node.proofs.hosting.has_kind.Given as goal
+
+abbrev pub invariant-loop-index : goal.invariant-loop-index
+invariant-loop-index l =
+    list_all (λ i. list_any (same_role (role l.kind i)) l.roles) (numbers l.index (l.count - l.index))
+    ≡ list_all (λ i. list_any (same_role (role l.kind i)) l.roles) (below l.count)
