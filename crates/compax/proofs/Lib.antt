@@ -1,3 +1,4 @@
+pub mod Flags
 pub mod Hosting
 pub mod Matching
 pub mod Naming

@@ -9,4 +9,4 @@ pub lawful_answer : (said : Option Invocation) (left left_after : Option (List â
 lawful_answer None left left_after = tt
 lawful_answer (Some Replay) left left_after = lawful_input left left_after
 lawful_answer (Some (Generate seed count)) left left_after = lawful_generated seed count
-lawful_answer (Some (Node turns tend window roles)) left left_after = tt
+lawful_answer (Some (Node turns tend window recording roles)) left left_after = tt

@@ -6,18 +6,18 @@ use Rattle.clap.specs.Words.{Row, Text, fault_of, subcommand_of}
 use Rattle.cx_base.specs.declared.role.RoleId.{RoleId}
 use Rattle.compax.specs.declared.words.Invocation.{Invocation}
 use Rattle.compax.specs.declared.words.Invocation.TheVariants.{Replay, Generate, Node}
-use Rattle.compax.specs.Words.{asked_by, command, generated, has_no_kind, hosted, most_seed, most_u8, most_u32, node_with, number_at, roles_at, said, window_of}
+use Rattle.compax.specs.Words.{asked_by, command, generated, has_no_kind, hosted, is_set, most_seed, most_u8, most_u32, node_with, number_at, roles_at, said, window_of}
 
 -- what is asked for is no node, or one whose window fits
 abbrev Fits : Option Invocation → Type 0
 Fits None = Unit {0}
 Fits (Some Replay) = Unit {0}
 Fits (Some (Generate seed count)) = Unit {0}
-Fits (Some (Node turns tend window roles)) = (1 ≤ window) × (window ≤ 64)
+Fits (Some (Node turns tend window recording roles)) = (1 ≤ window) × (window ≤ 64)
 
-with_roles : (turns : ℕ) (tend : Option ℕ) (window : ℕ) (roles : Option (List RoleId)) → (1 ≤ window) × (window ≤ 64) → Fits (option_map (Node turns tend window) roles)
-with_roles turns tend window None is = tt
-with_roles turns tend window (Some roles) is = is
+with_roles : (turns : ℕ) (tend : Option ℕ) (window : ℕ) (recording : Bool) (roles : Option (List RoleId)) → (1 ≤ window) × (window ≤ 64) → Fits (option_map (Node turns tend window recording) roles)
+with_roles turns tend window recording None is = tt
+with_roles turns tend window recording (Some roles) is = is
 
 with_window : (rows : List Row) (turns window : ℕ) → Fits (option_and_then (node_with rows turns) (window_of window))
 with_window rows turns window = go (cases_Bool (nat_le 1 window && nat_le window 64))
@@ -25,7 +25,7 @@ with_window rows turns window = go (cases_Bool (nat_le 1 window && nat_le window
     go : ((nat_le 1 window && nat_le window 64) ≡ true) ⊎ ((nat_le 1 window && nat_le window 64) ≡ false) → Fits (option_and_then (node_with rows turns) (window_of window))
     go (inl is) =
         let parts = and_parts (nat_le 1 window) (nat_le window 64) is in
-        rw is (with_roles turns (number_at most_u32 (codes "tend") rows) window (roles_at (codes "ROLE") rows) (leb-true 1 window parts.0, leb-true window 64 parts.1))
+        rw is (with_roles turns (number_at most_u32 (codes "tend") rows) window (is_set (codes "record") rows) (roles_at (codes "ROLE") rows) (leb-true 1 window parts.0, leb-true window 64 parts.1))
     go (inr not) = rw not tt
 
 with_number : (rows : List Row) (turns : ℕ) (number : Option ℕ) → Fits (option_and_then (node_with rows turns) (option_and_then window_of number))
@@ -57,5 +57,5 @@ unfolding said
 said_fits words = either (has_no_kind (fault_of command words)) (option_and_then asked_by (subcommand_of command words)) None (asked_fits (subcommand_of command words)) tt
 
 -- the window of a node that words ask for
-pub window_fits : (words : List Text) (turns : ℕ) (tend : Option ℕ) (window : ℕ) (roles : List RoleId) → said words ≡ Some (Node turns tend window roles) → (1 ≤ window) × (window ≤ 64)
-window_fits words turns tend window roles is = subst Fits is (said_fits words)
+pub window_fits : (words : List Text) (turns : ℕ) (tend : Option ℕ) (window : ℕ) (recording : Bool) (roles : List RoleId) → said words ≡ Some (Node turns tend window recording roles) → (1 ≤ window) × (window ≤ 64)
+window_fits words turns tend window recording roles is = subst Fits is (said_fits words)

@@ -1,9 +1,9 @@
 -- What comes of the words.
-use Rattle.std.specs.Prelude.{◌≡◌, ◌⊎◌, ℕ, List, Option, None, Some}
+use Rattle.std.specs.Prelude.{◌≡◌, ◌⊎◌, ℕ, Bool, List, Option, None, Some}
 use Rattle.cx_base.specs.declared.role.RoleId.{RoleId}
 use Rattle.cx_base.specs.declared.status.Status.{Status}
 use Rattle.cx_base.specs.declared.status.Status.TheVariants as status
-use Rattle.cx_node.specs.Serving.{Outside, Answered as Hosted, Completes as HostedCompletes, TellsBad as HostedTellsBad}
+use Rattle.cx_node.specs.Serving.{Outside, Answered as Hosted, Completes as HostedCompletes, TellsBad as HostedTellsBad, TellsUsed as HostedTellsUsed}
 use Rattle.cx_replay.specs.Generated.{ComesOfGen, Generated, GenCompletes}
 use Rattle.cx_replay.specs.Lawful.{IsLawfulInput, IsLawfulGenerated}
 use Rattle.cx_replay.specs.Replay.{ComesOfReplay, Completes, Replayed}
@@ -23,14 +23,14 @@ abbrev pub Reads : Option Invocation → Type 0
 Reads None = ⊥
 Reads (Some Replay) = Unit {0}
 Reads (Some (Generate seed count)) = ⊥
-Reads (Some (Node turns tend window roles)) = Unit {0}
+Reads (Some (Node turns tend window recording roles)) = Unit {0}
 
 -- a node is asked for
 abbrev pub Hosts : Option Invocation → Type 0
 Hosts None = ⊥
 Hosts (Some Replay) = ⊥
 Hosts (Some (Generate seed count)) = ⊥
-Hosts (Some (Node turns tend window roles)) = Unit {0}
+Hosts (Some (Node turns tend window recording roles)) = Unit {0}
 
 -- What was answered to what the words say: the outside before and after, what is known of it and how often it has failed.
 pub record Answered (said : Option Invocation) (old new : Outside) (s : Status) : Type 0 where
@@ -51,13 +51,14 @@ pub record Answered (said : Option Invocation) (old new : Outside) (s : Status) 
   pub generating_completes : (seed count : ℕ) → said ≡ Some (Generate seed count) → GenCompletes old.writes new.writes s
   pub comes_of_gen : (seed count : ℕ) → said ≡ Some (Generate seed count) → ComesOfGen s
   -- A node bound, sent, kept and printed what the run of its roles says, or its status says why it stopped.
-  pub hosted : (turns : ℕ) (tend : Option ℕ) (window : ℕ) (roles : List RoleId) → said ≡ Some (Node turns tend window roles) → Hosted roles tend window turns old new s
-  pub hosting_completes : (turns : ℕ) (tend : Option ℕ) (window : ℕ) (roles : List RoleId) → said ≡ Some (Node turns tend window roles) → HostedCompletes roles old new s
-  pub hosting_tells_bad : (turns : ℕ) (tend : Option ℕ) (window : ℕ) (roles : List RoleId) → said ≡ Some (Node turns tend window roles) → HostedTellsBad roles old new s
+  pub hosted : (turns : ℕ) (tend : Option ℕ) (window : ℕ) (recording : Bool) (roles : List RoleId) → said ≡ Some (Node turns tend window recording roles) → Hosted roles tend window recording turns old new s
+  pub hosting_completes : (turns : ℕ) (tend : Option ℕ) (window : ℕ) (recording : Bool) (roles : List RoleId) → said ≡ Some (Node turns tend window recording roles) → HostedCompletes recording roles old new s
+  pub hosting_tells_used : (turns : ℕ) (tend : Option ℕ) (window : ℕ) (recording : Bool) (roles : List RoleId) → said ≡ Some (Node turns tend window recording roles) → HostedTellsUsed recording roles old new s
+  pub hosting_tells_bad : (turns : ℕ) (tend : Option ℕ) (window : ℕ) (recording : Bool) (roles : List RoleId) → said ≡ Some (Node turns tend window recording roles) → HostedTellsBad recording roles old new s
 
 -- What is promised of the run that the words ask for, however far it was run: of the input's, or of the generated one.
 abbrev pub IsLawfulAnswer : Option Invocation → Option (List ℕ) → Option (List ℕ) → Type 0
 IsLawfulAnswer None left left_after = Unit {0}
 IsLawfulAnswer (Some Replay) left left_after = IsLawfulInput left left_after
 IsLawfulAnswer (Some (Generate seed count)) left left_after = IsLawfulGenerated seed count
-IsLawfulAnswer (Some (Node turns tend window roles)) left left_after = Unit {0}
+IsLawfulAnswer (Some (Node turns tend window recording roles)) left left_after = Unit {0}

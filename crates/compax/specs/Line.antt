@@ -1,7 +1,7 @@
 -- The line that says on standard error how a run ended.
 use Rattle.std.specs.Prelude.{ℕ, List, [], ◌++◌, codes, decimal}
 use Rattle.cx_base.specs.declared.status.Status.{Status}
-use Rattle.cx_base.specs.declared.status.Status.TheVariants.{Done, BadWords, BadInput, ReadFault, WriteFault, LinkFault, StoreFault, Turns, NoMemory, BadStore}
+use Rattle.cx_base.specs.declared.status.Status.TheVariants.{Done, BadWords, BadInput, ReadFault, WriteFault, LinkFault, StoreFault, Turns, NoMemory, BadStore, NotFresh, RecordFull}
 use Rattle.cx_base.specs.Role.{role_text}
 
 abbrev pub line_of : Status → List ℕ
@@ -15,3 +15,5 @@ line_of (StoreFault role) = codes "store failed: " ++ role_text role ++ codes "\
 line_of Turns = codes "turns ended\n"
 line_of NoMemory = codes "no memory\n"
 line_of (BadStore role at) = codes "bad store: " ++ role_text role ++ codes " at " ++ decimal at ++ codes "\n"
+line_of (NotFresh role) = codes "store not empty: " ++ role_text role ++ codes "\n"
+line_of RecordFull = codes "record full\n"

@@ -1,10 +1,12 @@
 -- What the words of a command line say, by clap's definitions for this command.
 use Rattle.std.specs.Prelude.{◌≡◌, ℕ, List, [], ◌∷◌, codes, pos, Bool, true, false, ◌&&◌, nat_le, Option, Some, None, option_map, option_and_then, if◌then◌else◌}
+use Rattle.std.specs.Option.{option_map_or}
 use Rattle.std.specs.Str.{bytes_eq}
 use Rattle.std.specs.Str.Parse.{digits_value, without_leading_plus}
 use Rattle.clap.specs.ValueTests.{is_unsigned_in}
 use Rattle.clap.specs.Lexer.{usize_max}
 use Rattle.clap.specs.Words.{App, Kinds, Row, Rule, Text, all_of, fault_of, new_app, new_rule, one_of, subcommand_of, subcommand_rows_of, with_rule, with_subcommand}
+use Rattle.clap.specs.declared.builder.action.ArgAction.TheVariants.{SetTrue}
 use Rattle.clap.specs.declared.builder.value_parser.ValueParser.TheVariants as parser
 use Rattle.clap.specs.declared.parser.matches.ArgMatches.{ArgMatches}
 use Rattle.cx_base.specs.declared.role.RoleId.{RoleId}
@@ -13,7 +15,7 @@ use Rattle.compax.specs.declared.words.Invocation.TheVariants.{Replay, Generate,
 use Rattle.compax.specs.Roles.{roles_of}
 
 -- ---- the command: `replay`; `gen` with a number of 64 bits and one of 16, both required; or `node` with a number of turns and a window,
--- which have defaults, another number or none, and after them one role or more
+-- which have defaults, another number or none, a flag or none, and after them one role or more
 
 abbrev pub most_seed : ℕ
 most_seed = 18446744073709551615
@@ -45,6 +47,10 @@ tend_rule = record (new_rule (codes "tend")) { long = Some (codes "tend"); parse
 abbrev pub window_rule : Rule
 window_rule = record (new_rule (codes "window")) { long = Some (codes "window"); defaults = codes "1" ∷ []; parser = Some (parser.Signed (pos 0) (pos most_u8)) }
 
+-- `--record`
+abbrev pub record_rule : Rule
+record_rule = record (new_rule (codes "record")) { long = Some (codes "record"); action = Some SetTrue }
+
 abbrev pub roles_rule : Rule
 roles_rule = record (new_rule (codes "ROLE")) { required = true; range = Some (record { start_inclusive = 1; end_inclusive = usize_max }) }
 
@@ -54,8 +60,12 @@ replay = new_app (codes "replay")
 abbrev pub generate : App
 generate = with_rule (with_rule (new_app (codes "gen")) seed_rule) count_rule
 
+-- `node` with its options alone
+abbrev pub node_options : App
+node_options = with_rule (with_rule (with_rule (with_rule (new_app (codes "node")) turns_rule) tend_rule) window_rule) record_rule
+
 abbrev pub node : App
-node = with_rule (with_rule (with_rule (with_rule (new_app (codes "node")) turns_rule) tend_rule) window_rule) roles_rule
+node = with_rule node_options roles_rule
 
 abbrev pub requires_subcommand : App → App
 requires_subcommand a = record a { top = record a.top { subcommand_required = true } }
@@ -87,9 +97,13 @@ window_of window = if nat_le 1 window && nat_le window 64 then Some window else 
 abbrev pub window_at : List Row → Option ℕ
 window_at rows = option_and_then window_of (number_at most_u8 (codes "window") rows)
 
+-- whether a flag is among the words: its value is `true` then, and else `false`
+abbrev pub is_set : Text → List Row → Bool
+is_set id rows = option_map_or (λ (t : Text). bytes_eq t (codes "true")) (one_of id rows) false
+
 -- a node with this number of turns and this window
 abbrev pub node_with : List Row → ℕ → ℕ → Option Invocation
-node_with rows turns window = option_map (Node turns (number_at most_u32 (codes "tend") rows) window) (roles_at (codes "ROLE") rows)
+node_with rows turns window = option_map (Node turns (number_at most_u32 (codes "tend") rows) window (is_set (codes "record") rows)) (roles_at (codes "ROLE") rows)
 
 abbrev pub hosted : List Row → Option Invocation
 hosted rows = option_and_then (λ turns. option_and_then (node_with rows turns) (window_at rows)) (number_at most_u32 (codes "turns") rows)

@@ -47,6 +47,16 @@ fn write_store_fault<E: Sink>(err: &mut E, role: RoleId)
     write_parts(err, &[b"store failed: ", kind, b":", index, b"\n"]);
 }
 
+fn write_not_fresh<E: Sink>(err: &mut E, role: RoleId)
+    ensures { Says (E.taken err.old) (E.taken err.new) (E.faults err.old) (E.faults err.new)
+        (codes "store not empty: " ++ role_text role ++ codes "\n") }
+{
+    let kind = role.kind.text().as_bytes();
+    let mut buffer = Buffer::new();
+    let index = buffer.format(role.index).as_bytes();
+    write_parts(err, &[b"store not empty: ", kind, b":", index, b"\n"]);
+}
+
 fn write_bad_store<E: Sink>(err: &mut E, role: RoleId, at: u64)
     ensures { Says (E.taken err.old) (E.taken err.new) (E.faults err.old) (E.faults err.new)
         (codes "bad store: " ++ role_text role ++ codes " at " ++ decimal at ++ codes "\n") }
@@ -77,5 +87,7 @@ pub fn write_line<E: Sink>(err: &mut E, status: &Status)
         Status::Turns => write(err, b"turns ended\n"),
         Status::NoMemory => write(err, b"no memory\n"),
         Status::BadStore { role, at } => write_bad_store(err, *role, *at),
+        Status::NotFresh { role } => write_not_fresh(err, *role),
+        Status::RecordFull => write(err, b"record full\n"),
     }
 }

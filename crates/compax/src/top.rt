@@ -42,6 +42,7 @@ fn answer<S: Source, W: Sink, L: Link, D: Depot>(
             turns,
             tend,
             window,
+            recording,
             roles,
         } => serve(
             alloc,
@@ -49,6 +50,7 @@ fn answer<S: Source, W: Sink, L: Link, D: Depot>(
             turns,
             tend,
             window,
+            recording,
             input,
             link,
             depot,
@@ -60,13 +62,14 @@ fn answer<S: Source, W: Sink, L: Link, D: Depot>(
 /// Does what the words say, the first of which is the program's name: `replay` reads a schedule from the source, and writes the
 /// trace and the summary of its run to `out`; `gen SEED COUNT` runs COUNT events that are made from a seed, and writes a
 /// short summary; `node --turns N --tend N --window W ROLE..` hosts these roles over the link and the depot, with the requests
-/// of the source, and writes the answers. The line of the status goes to `err`, whose failing never changes the status.
+/// of the source, and writes the answers, or with `--record` its run as a schedule. The line of the status goes to `err`, whose
+/// failing never changes the status.
 ///
 /// `BadWords` comes exactly where the words say none of these, and then nothing is read or written, and where a role of a node
-/// isn't in the cluster of its header. Every other status is the command's own, and out of memory. The run of a schedule is
-/// lawful: no slot has two chosen values, each replica's values begin one command list, every answer is that list's, and reads
-/// are fresh. A role or a port that is bound already is a fault of the link. The depot must have no store out, and has none out
-/// at the end.
+/// isn't in the cluster of its header, or a node is to record and lacks a role of that cluster. Every other status is the
+/// command's own, and out of memory. The run of a schedule is lawful: no slot has two chosen values, each replica's values begin
+/// one command list, every answer is that list's, and reads are fresh. A role or a port that is bound already is a fault of the
+/// link. The depot must have no store out, and has none out at the end.
 pub fn top<S: Source, W: Sink, E: Sink, L: Link, D: Depot>(
     alloc: Global,
     words: &[String],

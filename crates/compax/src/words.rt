@@ -1,16 +1,16 @@
 //! What the words of a command line ask for, as clap reads them.
 
-ghost use Rattle.std.specs.Prelude.{◌≡◌, ◌∷◌, ℕ, List, [], IfOk, None, Some, false, map, codes, string_bytes};
+ghost use Rattle.std.specs.Prelude.{◌≡◌, ◌∷◌, ℕ, List, [], IfOk, None, Some, true, false, map, codes, string_bytes};
 ghost use Rattle.clap.specs.Words.{app_of, found_of, rows_of, rule_of};
 ghost use Rattle.clap.specs.declared.builder.command.Command.TheViews.{out-Command};
 ghost use Rattle.cx_base.specs.declared.role.Kind.TheVariants.{Batcher, Client};
 ghost use Rattle.cx_base.specs.Role.{role};
 ghost use Rattle.compax.specs.declared.words.Invocation.TheVariants.{Generate as Gen, Node as Host, Replay};
-ghost use Rattle.compax.specs.Words.{IsMatch, asked_by, command, count_rule, generate, generated, hosted, most_count, most_seed, most_u32, most_u8, node, number_at, roles_at, roles_rule, said, seed_rule, tend_rule, turns_rule, window_at, window_rule};
+ghost use Rattle.compax.specs.Words.{IsMatch, asked_by, command, count_rule, generate, generated, hosted, is_set, most_count, most_seed, most_u32, most_u8, node, node_options, number_at, record_rule, roles_at, roles_rule, said, seed_rule, tend_rule, turns_rule, window_at, window_rule};
 
 use crate::roles::Roles;
 use clap::error::ErrorKind;
-use clap::{Arg, ArgMatches, Command, value_parser};
+use clap::{Arg, ArgAction, ArgMatches, Command, value_parser};
 use std::alloc::{AllocError, Global};
 
 /// What a command line asks for.
@@ -24,11 +24,12 @@ pub enum Invocation {
         count: u16,
     },
     /// To host these roles for at most N turns, and to tend them where a number is given; each client among them may have W requests
-    /// outstanding, 1 to 64: `node --turns N --tend N --window W ROLE..`.
+    /// outstanding, 1 to 64. With the flag their run is recorded: `node --record --turns N --tend N --window W ROLE..`.
     Node {
         turns: u32,
         tend: Option<u32>,
         window: u8,
+        recording: bool,
         roles: Roles,
     },
 }
@@ -80,6 +81,15 @@ fn window<'a>(alloc: Global) -> Arg<'a>
         .value_parser(value_parser!(u8))
 }
 
+fn record<'a>(alloc: Global) -> Arg<'a>
+    ensures rule { rule_of result ≡ record_rule }
+    ensures local { result.global ≡ false }
+{
+    Arg::new(alloc, "record")
+        .long("record")
+        .action(ArgAction::SetTrue)
+}
+
 fn roles<'a>(alloc: Global) -> Arg<'a>
     ensures rule { rule_of result ≡ roles_rule }
     ensures local { result.global ≡ false }
@@ -96,15 +106,23 @@ fn generate<'a>(alloc: Global) -> Result<Command<'a>, AllocError>
         .arg(count(alloc))
 }
 
-fn node<'a>(alloc: Global) -> Result<Command<'a>, AllocError>
-    ensures app { IfOk result (λ c. app_of c ≡ node) }
+// `node` with its options alone.
+fn node_options<'a>(alloc: Global) -> Result<Command<'a>, AllocError>
+    ensures app { IfOk result (λ c. app_of c ≡ node_options) }
     ensures local { IfOk result (λ c. (out-Command c).has_globals ≡ false) }
 {
     Command::new(alloc, "node")
         .arg(turns(alloc))?
         .arg(tend(alloc))?
         .arg(window(alloc))?
-        .arg(roles(alloc))
+        .arg(record(alloc))
+}
+
+fn node<'a>(alloc: Global) -> Result<Command<'a>, AllocError>
+    ensures app { IfOk result (λ c. app_of c ≡ node) }
+    ensures local { IfOk result (λ c. (out-Command c).has_globals ≡ false) }
+{
+    node_options(alloc)?.arg(roles(alloc))
 }
 
 fn command<'a>(alloc: Global) -> Result<Command<'a>, AllocError>
@@ -168,6 +186,13 @@ fn window_given(matches: &ArgMatches) -> Option<u8>
     None
 }
 
+// Whether `--record` is among the words.
+fn recording_given(matches: &ArgMatches) -> bool
+    ensures { result ≡ is_set (codes "record") (rows_of (found_of matches.now)) }
+{
+    matches.get_one::<bool>("record").unwrap_or(false)
+}
+
 fn roles_given(alloc: Global, matches: &ArgMatches) -> Result<Option<Roles>, AllocError>
     ensures { IfOk result (λ roles. roles ≡ roles_at (codes "ROLE") (rows_of (found_of matches.now))) }
 {
@@ -190,6 +215,7 @@ fn hosted(alloc: Global, matches: &ArgMatches) -> Result<Option<Invocation>, All
             turns,
             tend: tend_given(matches),
             window,
+            recording: recording_given(matches),
             roles,
         })),
         _ => Ok(None),
@@ -240,7 +266,7 @@ pub fn said(alloc: Global, words: &[String]) -> Result<Option<Invocation>, Alloc
 }
 
 /// What words say that are written out, whatever the program is called: a law of the definition.
-#[tactic(auto, using(crate::proofs::Spoken::replay_said, crate::proofs::Spoken::least_said, crate::proofs::Spoken::most_said, crate::proofs::Spoken::seed_above, crate::proofs::Spoken::count_above, crate::proofs::Spoken::nothing_said, crate::proofs::Spoken::help_said, crate::proofs::Spoken::node_said, crate::proofs::Spoken::turns_said, crate::proofs::Spoken::no_turn_said, crate::proofs::Spoken::tend_said, crate::proofs::Spoken::most_tend_said, crate::proofs::Spoken::tend_below, crate::proofs::Spoken::tend_above, crate::proofs::Spoken::tend_twice, crate::proofs::Spoken::window_said, crate::proofs::Spoken::no_window_said, crate::proofs::Spoken::window_above, crate::proofs::Spoken::no_role_said, crate::proofs::Spoken::twice_said, crate::proofs::Spoken::misspelt_said))]
+#[tactic(auto, using(crate::proofs::Spoken::replay_said, crate::proofs::Spoken::least_said, crate::proofs::Spoken::most_said, crate::proofs::Spoken::seed_above, crate::proofs::Spoken::count_above, crate::proofs::Spoken::nothing_said, crate::proofs::Spoken::help_said, crate::proofs::Spoken::node_said, crate::proofs::Spoken::turns_said, crate::proofs::Spoken::no_turn_said, crate::proofs::Spoken::tend_said, crate::proofs::Spoken::most_tend_said, crate::proofs::Spoken::tend_below, crate::proofs::Spoken::tend_above, crate::proofs::Spoken::tend_twice, crate::proofs::Spoken::window_said, crate::proofs::Spoken::no_window_said, crate::proofs::Spoken::window_above, crate::proofs::Spoken::record_said, crate::proofs::Spoken::all_said, crate::proofs::Spoken::record_behind, crate::proofs::Spoken::record_twice, crate::proofs::Spoken::record_valued, crate::proofs::Spoken::no_role_said, crate::proofs::Spoken::twice_said, crate::proofs::Spoken::misspelt_said))]
 pub fn said_of_words_written_out()
     ensures replay { (program : List ℕ) → said (program ∷ codes "replay" ∷ []) ≡ Some Replay }
     ensures least { (program : List ℕ) → said (program ∷ codes "gen" ∷ codes "0" ∷ codes "0" ∷ []) ≡ Some (Gen 0 0) }
@@ -253,18 +279,18 @@ pub fn said_of_words_written_out()
     ensures nothing { (program : List ℕ) → said (program ∷ []) ≡ None }
     ensures help { (program : List ℕ) → said (program ∷ codes "--help" ∷ []) ≡ None }
     ensures node { (program : List ℕ) → said (program ∷ codes "node" ∷ codes "client:0" ∷ [])
-        ≡ Some (Host 1000000 None 1 (role Client 0 ∷ [])) }
+        ≡ Some (Host 1000000 None 1 false (role Client 0 ∷ [])) }
     ensures turns { (program : List ℕ)
         → said (program ∷ codes "node" ∷ codes "--turns" ∷ codes "75" ∷ codes "client:0"
-        ∷ codes "batcher:0" ∷ []) ≡ Some (Host 75 None 1 (role Client 0 ∷ role Batcher 0 ∷ [])) }
+        ∷ codes "batcher:0" ∷ []) ≡ Some (Host 75 None 1 false (role Client 0 ∷ role Batcher 0 ∷ [])) }
     ensures no_turn { (program : List ℕ)
         → said (program ∷ codes "node" ∷ codes "--turns" ∷ codes "0" ∷ codes "client:0" ∷ []) ≡ None }
     ensures tend { (program : List ℕ)
         → said (program ∷ codes "node" ∷ codes "--tend" ∷ codes "64" ∷ codes "client:0" ∷ [])
-        ≡ Some (Host 1000000 (Some 64) 1 (role Client 0 ∷ [])) }
+        ≡ Some (Host 1000000 (Some 64) 1 false (role Client 0 ∷ [])) }
     ensures most_tend { (program : List ℕ)
         → said (program ∷ codes "node" ∷ codes "--tend" ∷ codes "65536" ∷ codes "--turns" ∷ codes "75"
-        ∷ codes "client:0" ∷ []) ≡ Some (Host 75 (Some 65536) 1 (role Client 0 ∷ [])) }
+        ∷ codes "client:0" ∷ []) ≡ Some (Host 75 (Some 65536) 1 false (role Client 0 ∷ [])) }
     ensures tend_below { (program : List ℕ)
         → said (program ∷ codes "node" ∷ codes "--tend" ∷ codes "63" ∷ codes "client:0" ∷ []) ≡ None }
     ensures tend_above { (program : List ℕ)
@@ -275,11 +301,25 @@ pub fn said_of_words_written_out()
         ∷ codes "client:0" ∷ []) ≡ None }
     ensures window { (program : List ℕ)
         → said (program ∷ codes "node" ∷ codes "--window" ∷ codes "64" ∷ codes "client:0" ∷ [])
-        ≡ Some (Host 1000000 None 64 (role Client 0 ∷ [])) }
+        ≡ Some (Host 1000000 None 64 false (role Client 0 ∷ [])) }
     ensures no_window { (program : List ℕ)
         → said (program ∷ codes "node" ∷ codes "--window" ∷ codes "0" ∷ codes "client:0" ∷ []) ≡ None }
     ensures window_above { (program : List ℕ)
         → said (program ∷ codes "node" ∷ codes "--window" ∷ codes "65" ∷ codes "leader:0" ∷ []) ≡ None }
+    ensures record { (program : List ℕ)
+        → said (program ∷ codes "node" ∷ codes "--record" ∷ codes "client:0" ∷ [])
+        ≡ Some (Host 1000000 None 1 true (role Client 0 ∷ [])) }
+    ensures all { (program : List ℕ)
+        → said (program ∷ codes "node" ∷ codes "--tend" ∷ codes "64" ∷ codes "--window" ∷ codes "4" ∷ codes "--turns"
+        ∷ codes "75" ∷ codes "--record" ∷ codes "client:0" ∷ [])
+        ≡ Some (Host 75 (Some 64) 4 true (role Client 0 ∷ [])) }
+    ensures record_behind { (program : List ℕ)
+        → said (program ∷ codes "node" ∷ codes "client:0" ∷ codes "--record" ∷ codes "batcher:0"
+        ∷ []) ≡ Some (Host 1000000 None 1 true (role Client 0 ∷ role Batcher 0 ∷ [])) }
+    ensures record_twice { (program : List ℕ)
+        → said (program ∷ codes "node" ∷ codes "--record" ∷ codes "--record" ∷ codes "client:0" ∷ []) ≡ None }
+    ensures record_valued { (program : List ℕ)
+        → said (program ∷ codes "node" ∷ codes "--record=true" ∷ codes "client:0" ∷ []) ≡ None }
     ensures no_role { (program : List ℕ) → said (program ∷ codes "node" ∷ []) ≡ None }
     ensures twice { (program : List ℕ)
         → said (program ∷ codes "node" ∷ codes "client:0" ∷ codes "client:0" ∷ []) ≡ None }

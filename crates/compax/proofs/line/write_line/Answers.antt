@@ -20,3 +20,9 @@ returns-in-Turns g c = rw c.in-Turns.is c.write-in-Turns.ensures
 
 pub returns-in-BadStore : goal.returns-in-BadStore
 returns-in-BadStore g c = rw c.in-BadStore.is c.write_bad_store.ensures
+
+pub returns-in-NotFresh : goal.returns-in-NotFresh
+returns-in-NotFresh g c = rw c.in-NotFresh.is c.write_not_fresh.ensures
+
+pub returns-in-RecordFull : goal.returns-in-RecordFull
+returns-in-RecordFull g c = rw c.in-RecordFull.is c.write-in-RecordFull.ensures
