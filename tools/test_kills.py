@@ -1,13 +1,12 @@
 """Tests of tools/kills: what it sees lost where a start has lost something, and that it sees nothing where nothing is. $COMPAX may name the program."""
 
 import os
-import random
 import re
 import unittest
 from unittest import mock
 
 from headers import program
-from trials import Trial, run, tool_of
+from trials import Trial, run
 
 
 class KillsTest(Trial):
@@ -39,21 +38,6 @@ class KillsTest(Trial):
             status, _, said = self.kills(before)
             self.assertEqual(status, 1)
             self.assertIn(f"kills: the node ended with {why}", said)
-
-
-class ClientTest(unittest.TestCase):
-    """Which answers a client expects."""
-
-    def asked(self, *words: str) -> list[str]:
-        client = tool_of("kills").Client(0, random.Random(1))
-        for word in words:
-            client.ask(*word.split())
-        return [client.reply_to(command) for _, command in client.waiting]
-
-    def test_answers(self) -> None:
-        self.assertEqual(self.asked("get a", "put a", "app a", "get a", "del b", "del a", "del a", "app a", "get a"),
-                         ["none", "ok", "len 4", "is v2v3", "none", "was v2v3", "none", "len 2", "is v8"])
-        self.assertEqual(self.asked(*["app a"] * 26, "put a", "app a")[-6:], ["len 60", "len 63", "full", "full", "ok", "len 6"])
 
 
 if __name__ == "__main__":
