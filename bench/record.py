@@ -21,7 +21,7 @@ TOP = pathlib.Path(__file__).resolve().parent.parent
 sys.path.insert(0, str(TOP / "tools"))
 
 from clients import Client  # noqa: E402
-from headers import KINDS, Header, free_ports, header_of, program  # noqa: E402
+from headers import KINDS, Header, Unusable, free_ports, header_of, program  # noqa: E402
 
 HEADER = """\
 f = 1
@@ -77,4 +77,7 @@ def main() -> int:
 
 
 if __name__ == "__main__":
-    sys.exit(main())
+    try:
+        sys.exit(main())
+    except Unusable as error:
+        sys.exit(f"record: {error}")
