@@ -115,6 +115,7 @@ def answers(replies):
 
 
 def token():
+    """A client and its number; an asking, a reader and its turn, is spelled the same."""
     return Token(index(), seq())
 
 
@@ -303,16 +304,24 @@ def sessions():
         yield datagram_entry(message, message.froms[0])
 
 
+def turns():
+    """The records of turns, six."""
+    kept = [R.Turn(1), R.Turn(2), R.Turn(255), R.Turn(U32), R.Turn(U64 - 1), R.Turn(U64)]
+    for rec in kept:
+        assert rec.tag == 16
+        yield record_entry(rec)
+
+
 print("""\
 //! Bytes of datagrams and records, as another implementation of the format writes them: tools/vectors.py prints this file.
 
 /// Datagrams of the kinds 1 to 29, eight of each, then records of the first seven tags, six of each, then ten datagrams and two
-/// records whose commands tell floors, then records of the last four tags, six of each, and then eight datagrams of the last kind,
-/// 38, in hexadecimal. A semicolon ends an entry. A mark `_` stands where a basic field of the body begins, as the other
-/// implementation says where it meets a cut.
+/// records whose commands tell floors, then records of the tags 8 to 11, six of each, then eight datagrams of the last kind, 38,
+/// and then six records of the last tag, 16, in hexadecimal. A semicolon ends an entry. A mark `_` stands where a basic field of
+/// the body begins, as the other implementation says where it meets a cut.
 pub const ENTRIES: &str = "\
 """)
-for entry in [*datagrams(), *records(), *floors(), *renewed(), *sessions()]:
+for entry in [*datagrams(), *records(), *floors(), *renewed(), *sessions(), *turns()]:
     entry += ";"
     for i in range(0, len(entry), WIDTH):
         print(entry[i:i + WIDTH])

@@ -1,7 +1,7 @@
 -- The words for the result of a step.
 use Rattle.std.specs.Prelude.{ℕ, List, codes}
 use Rattle.cx_base.specs.declared.why.Why.{Why}
-use Rattle.cx_base.specs.declared.why.Why.TheVariants.{Absent, Again, Answered, Applied, Asked, Asking, Batched, Bypassed, Chosen, Collected, Collecting, Counted, Crashed, Deferred, Done, Down, Early, End, Fetched, Full, Heard, Held, Idle, Informed, Informing, Kept, Later, Leads, Matched, Nack, Nacked, Old, Opened, Past, Phase1, Promised, Proposed, Raised, Resent, Retired, Same, Sent, Snapped, Stale, Started, Stranger, Torn, Unasked, Unbatched, Up, Voted, Waiting, Window}
+use Rattle.cx_base.specs.declared.why.Why.TheVariants.{Absent, Again, Answered, Applied, Asked, Asking, Batched, Bypassed, Chosen, Collected, Collecting, Counted, Crashed, Deferred, Done, Down, Early, End, Fetched, Full, Heard, Held, Idle, Informed, Informing, Kept, Later, Leads, Matched, Nack, Nacked, Old, Opened, Past, Phase1, Promised, Proposed, Queued, Raised, Resent, Retired, Same, Sent, Snapped, Stale, Started, Stranger, Torn, Unasked, Unbatched, Up, Voted, Waiting, Window}
 
 abbrev pub why_text : Why → List ℕ
 why_text Absent = codes "absent"
@@ -41,6 +41,7 @@ why_text Past = codes "past"
 why_text Phase1 = codes "phase1"
 why_text Promised = codes "promised"
 why_text Proposed = codes "proposed"
+why_text Queued = codes "queued"
 why_text Raised = codes "raised"
 why_text Resent = codes "resent"
 why_text Retired = codes "retired"

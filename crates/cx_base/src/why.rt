@@ -80,6 +80,8 @@ pub enum Why {
     Promised,
     /// The value has a slot.
     Proposed,
+    /// The read waits until the asking that runs is done.
+    Queued,
     /// The watermark of rounds was raised.
     Raised,
     /// All that is waited for was sent again.
@@ -157,6 +159,7 @@ impl Why {
             Why::Phase1 => "phase1",
             Why::Promised => "promised",
             Why::Proposed => "proposed",
+            Why::Queued => "queued",
             Why::Raised => "raised",
             Why::Resent => "resent",
             Why::Retired => "retired",

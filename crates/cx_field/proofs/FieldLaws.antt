@@ -21,7 +21,7 @@ use Rattle.cx_field.specs.declared.parts.Entry.{Entry}
 use Rattle.cx_field.specs.declared.parts.NackReason.{NackReason}
 use Rattle.cx_field.specs.declared.parts.NackReason.TheVariants as nack
 use Rattle.cx_field.specs.declared.parts.Vote.{Vote}
-use Rattle.cx_field.specs.Fields.{slot, mark, at, seq, round_fields, round, round0, member, grid, name_byte, name, floor_below, told_shape, floor_cases, told_cases, told_op, told_floor, meant_floor, make_command, command_parts, command_with, command, commands_with, commands, value_shape, value_cases, value_with, value, reply_len, reply_shape, reply_cases, reply, values, last_passes, in_window, entry, entries, vote_with, votes_with, votes, answered, answers, pair, pairs, note, notes, found_shape, found_cases, found, reason_shape, reason_cases, reason, token}
+use Rattle.cx_field.specs.Fields.{slot, mark, at, seq, round_fields, round, round0, member, grid, name_byte, name, floor_below, told_shape, floor_cases, told_cases, told_op, told_floor, meant_floor, make_command, command_parts, command_with, command, commands_with, commands, value_shape, value_cases, value_with, value, reply_len, reply_shape, reply_cases, reply, values, last_passes, in_window, entry, entries, vote_with, votes_with, votes, answered, answers, pair, pairs, note, notes, found_shape, found_cases, found, reason_shape, reason_cases, reason, token, asking}
 
 pub slot-exact : IsExact slot
 unfolding slot
@@ -349,3 +349,7 @@ reason-exact = tagged-exact reason_shape reason_cases (
 pub token-exact : IsExact token
 unfolding token
 token-exact = shaped-exact {A = ℕ × ℕ} (λ x. record { client = x.0; seq = x.1 }) (λ t. (t.client, t.seq)) (u16 ▷ seq) (▷-exact u16 seq u16-exact seq-exact) (λ x _. refl) (λ t. refl)
+
+pub asking-exact : IsExact asking
+unfolding asking
+asking-exact = shaped-exact {A = ℕ × ℕ} (λ x. record { reader = x.0; turn = x.1 }) (λ a. (a.reader, a.turn)) (u16 ▷ seq) (▷-exact u16 seq u16-exact seq-exact) (λ x _. refl) (λ a. refl)

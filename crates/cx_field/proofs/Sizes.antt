@@ -15,7 +15,7 @@ use Rattle.cx_base.specs.declared.command.Reply.TheVariants as replies
 use Rattle.cx_wire.specs.Format.{u8, u16, u32, u64, only, whole, then_by, ◌▷◌, times}
 use Rattle.cx_wire.proofs.Laws.{both}
 use Rattle.cx_wire.proofs.Sizes.{IsShort, u8-short, u16-short, u32-short, u64-short, weaker, only-short, whole-short, then_by-short, ▷-short, shaped-short, times-short, counted-short, tagged-short}
-use Rattle.cx_field.specs.Fields.{slot, mark, seq, at, round_fields, round, round0, member, grid, name_byte, name, floor_below, told_shape, told_cases, told_op, make_command, command_parts, command_with, command, commands_with, commands, value_shape, value_cases, value_with, value, reply_len, reply_shape, reply_cases, reply, last_passes, in_window, entry, entries, vote_with, votes_with, votes, answered, answers, pair, pairs, note, notes, found_shape, found_cases, found, reason_shape, reason_cases, reason, token}
+use Rattle.cx_field.specs.Fields.{slot, mark, seq, at, round_fields, round, round0, member, grid, name_byte, name, floor_below, told_shape, told_cases, told_op, make_command, command_parts, command_with, command, commands_with, commands, value_shape, value_cases, value_with, value, reply_len, reply_shape, reply_cases, reply, last_passes, in_window, entry, entries, vote_with, votes_with, votes, answered, answers, pair, pairs, note, notes, found_shape, found_cases, found, reason_shape, reason_cases, reason, token, asking}
 use Rattle.cx_field.specs.declared.parts.Entry.{Entry}
 use Rattle.cx_field.specs.declared.parts.NackReason.{NackReason}
 use Rattle.cx_field.specs.declared.parts.NackReason.TheVariants as nack
@@ -212,3 +212,7 @@ reason-short = tagged-short reason_shape reason_cases 0 reason-sizes
 pub token-short : IsShort token 10
 unfolding token
 token-short = shaped-short {A = ℕ × ℕ} (λ x. record { client = x.0; seq = x.1 }) (λ t. (t.client, t.seq)) (u16 ▷ seq) 10 (▷-short u16 seq 2 8 u16-short seq-short)
+
+pub asking-short : IsShort asking 10
+unfolding asking
+asking-short = shaped-short {A = ℕ × ℕ} (λ x. record { reader = x.0; turn = x.1 }) (λ a. (a.reader, a.turn)) (u16 ▷ seq) 10 (▷-short u16 seq 2 8 u16-short seq-short)

@@ -23,6 +23,7 @@ use Rattle.cx_field.specs.declared.parts.NackReason.{NackReason}
 use Rattle.cx_field.specs.declared.parts.NackReason.TheVariants as nack
 use Rattle.cx_field.specs.declared.parts.Vote.{Vote}
 use Rattle.cx_field.specs.declared.parts.Token.{Token}
+use Rattle.cx_field.specs.declared.parts.Asking.{Asking}
 use Rattle.cx_wire.specs.Format.{Format, u8, u16, u32, u64, only, whole, then_by, ◌▷◌, nothing, shaped, times, counted, Shape, shape, Case, case, tagged}
 
 -- a slot, below 2^40
@@ -37,7 +38,7 @@ mark = only (λ n. nat_le n (2 ^ 40)) u64
 unfoldable pub at : Format ℕ
 at = only (λ n. nat_le 1 n && nat_le n (2 ^ 40)) u64
 
--- a client's number of a request
+-- a client's number of a request, or a reader's turn
 unfoldable pub seq : Format ℕ
 seq = only (λ n. nat_le 1 n) u64
 
@@ -275,3 +276,7 @@ reason = tagged reason_shape reason_cases
 -- a read: its client and its number
 unfoldable pub token : Format Token
 token = shaped (λ x. record { client = x.0; seq = x.1 }) (λ t. (t.client, t.seq)) (u16 ▷ seq)
+
+-- an asking of a reader: the reader and its turn
+unfoldable pub asking : Format Asking
+asking = shaped (λ x. record { reader = x.0; turn = x.1 }) (λ a. (a.reader, a.turn)) (u16 ▷ seq)

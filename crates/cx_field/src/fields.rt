@@ -17,7 +17,7 @@ use crate::lists::{
     AnsweredItems, CommandItems, EntryItems, MemberItems, NoteItems, PairItems, ValueItems,
     VoteItems,
 };
-use crate::parts::{Answers, Entries, LogValues, NackReason, Notes, Pairs, Token, Votes};
+use crate::parts::{Answers, Asking, Entries, LogValues, NackReason, Notes, Pairs, Token, Votes};
 use crate::reader::Reader;
 use cx_base::{
     Command, Commands, Few, Grid, Key, MEMBERS, Name, OUTSTANDING, Op, Reply, Round, SLOTS, Text,
@@ -64,7 +64,7 @@ pub fn at_from(reader: &mut Reader<'_>) -> Result<u64, ReadFault>
     Ok(at)
 }
 
-/// A client's number of a request, 1 or more, in eight bytes.
+/// A client's number of a request, or a reader's turn: 1 or more, in eight bytes.
 #[tactic(auto, unfolding(crate::specs::Fields::seq))]
 pub fn seq_from(reader: &mut Reader<'_>) -> Result<u64, ReadFault>
     ensures read { Reads field.seq reader.old result reader.new }
@@ -334,6 +334,16 @@ pub fn token_from(reader: &mut Reader<'_>) -> Result<Token, ReadFault>
     let client = reader.u16()?;
     let seq = seq_from(reader)?;
     Ok(Token { client, seq })
+}
+
+/// An asking of a reader: the reader in two bytes, and its turn.
+#[tactic(auto, unfolding(crate::specs::Fields::asking))]
+pub fn asking_from(reader: &mut Reader<'_>) -> Result<Asking, ReadFault>
+    ensures { Reads field.asking reader.old result reader.new }
+{
+    let who = reader.u16()?;
+    let turn = seq_from(reader)?;
+    Ok(Asking { reader: who, turn })
 }
 
 /// Why a matchmaker refuses a round: a byte, 0 it is collected, 1 a later one is recorded, 2 there is no room.

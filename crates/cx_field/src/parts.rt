@@ -50,6 +50,19 @@ impl Duplicate for Token {
     }
 }
 
+/// An asking of a reader: the reader, and its turn, which is 1 or more. All reads of a batch are asked for under one turn.
+#[derive(Clone, Copy, PartialEq, Eq)]
+pub struct Asking {
+    pub reader: u16,
+    pub turn: u64,
+}
+
+impl Duplicate for Asking {
+    fn copy(&self, _alloc: Global) -> Result<Self, NoMemory> {
+        Ok(*self)
+    }
+}
+
 /// Why a matchmaker does not record a round.
 #[derive(Clone, Copy, PartialEq, Eq)]
 pub enum NackReason {

@@ -11,7 +11,7 @@ use crate::lists::{
     AnsweredItems, CommandItems, EntryItems, MemberItems, NoteItems, PairItems, ValueItems,
     VoteItems,
 };
-use crate::parts::{Answers, Entries, LogValues, NackReason, Notes, Pairs, Token, Votes};
+use crate::parts::{Answers, Asking, Entries, LogValues, NackReason, Notes, Pairs, Token, Votes};
 use cx_base::{Command, Commands, Grid, Key, Name, NoMemory, Op, Reply, Round, Text, Value};
 use cx_wire::{put_u8, put_u16, put_u32, put_u64};
 
@@ -39,7 +39,7 @@ pub fn put_at(out: &mut Vec<u8>, at: u64) -> Result<(), NoMemory>
     put_u64(out, at)
 }
 
-/// Appends a client's number of a request, eight bytes.
+/// Appends a client's number of a request, or a reader's turn, eight bytes.
 #[tactic(auto, unfolding(crate::specs::Fields::seq))]
 pub fn put_seq(out: &mut Vec<u8>, seq: u64) -> Result<(), NoMemory>
     ensures { OnOk result (Appends field.seq seq 8 out.old.items out.new.items) }
@@ -264,6 +264,15 @@ pub fn put_token(out: &mut Vec<u8>, token: &Token) -> Result<(), NoMemory>
 {
     put_u16(out, token.client)?;
     put_seq(out, token.seq)
+}
+
+/// Appends an asking of a reader, ten bytes.
+#[tactic(auto, unfolding(crate::specs::Fields::asking))]
+pub fn put_asking(out: &mut Vec<u8>, asking: &Asking) -> Result<(), NoMemory>
+    ensures { OnOk result (Appends field.asking asking.now 10 out.old.items out.new.items) }
+{
+    put_u16(out, asking.reader)?;
+    put_seq(out, asking.turn)
 }
 
 /// Appends values, at most 30,017 bytes.

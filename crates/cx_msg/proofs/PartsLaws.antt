@@ -7,7 +7,7 @@ use Rattle.cx_base.specs.declared.role.Kind.TheVariants.{Client, Batcher, Leader
 use Rattle.cx_base.specs.declared.role.RoleId.{RoleId}
 use Rattle.cx_wire.specs.Format.{u8, u16, u32, u64}
 use Rattle.cx_wire.proofs.Laws.{both}
-use Rattle.cx_field.specs.Fields.{slot, mark, at, seq, round, round0, grid, name, command, commands, value, reply, in_window, entries, votes, answers, found, reason, token, values, pairs, notes}
+use Rattle.cx_field.specs.Fields.{slot, mark, at, seq, round, round0, grid, name, command, commands, value, reply, in_window, entries, votes, answers, found, reason, token, asking, values, pairs, notes}
 use Rattle.cx_msg.specs.Messages.{body_shape, answer, match_b, match_nack, match_read_ack, nack, phase1b, phase2a, pre_read, pre_read_ack, propose, read_answer, read_key, read_req, results, round_slot, sess_read, slot_value}
 use Rattle.cx_msg.specs.Letter.{Letter, letter, senders, receivers, is_listed, fits}
 use Rattle.cx_msg.specs.LetterParts.{PartsFit}
@@ -158,21 +158,21 @@ parts from to (ReadReq sq pr key) h =
     let p = both (seq.fits sq) (u16.fits pr && (name 32).fits key) f.msg in
     let q = both (u16.fits pr) ((name 32).fits key) p.1 in
     (record { sent = listed_role from 1 f.from; received = listed_role to 9 f.to }, p.0, q.0, q.1)
-parts from to (MatchRead tok) h =
-    let f = fitting (letter from to (MatchRead tok)) h in
+parts from to (MatchRead a) h =
+    let f = fitting (letter from to (MatchRead a)) h in
     (record { sent = listed_role from 9 f.from; received = listed_role to 6 f.to }, f.msg)
-parts from to (MatchReadAck tok w es) h =
-    let f = fitting (letter from to (MatchReadAck tok w es)) h in
-    let p = both (token.fits tok) (round0.fits w && entries.fits es) f.msg in
+parts from to (MatchReadAck a w es) h =
+    let f = fitting (letter from to (MatchReadAck a w es)) h in
+    let p = both (asking.fits a) (round0.fits w && entries.fits es) f.msg in
     let q = both (round0.fits w) (entries.fits es) p.1 in
     (record { sent = listed_role from 6 f.from; received = listed_role to 9 f.to }, p.0, q.0, q.1)
-parts from to (PreRead tok w) h =
-    let f = fitting (letter from to (PreRead tok w)) h in
-    let p = both (token.fits tok) (round0.fits w) f.msg in
+parts from to (PreRead a w) h =
+    let f = fitting (letter from to (PreRead a w)) h in
+    let p = both (asking.fits a) (round0.fits w) f.msg in
     (record { sent = listed_role from 9 f.from; received = listed_role to 5 f.to }, p.0, p.1)
-parts from to (PreReadAck tok w n) h =
-    let f = fitting (letter from to (PreReadAck tok w n)) h in
-    let p = both (token.fits tok) (round0.fits w && mark.fits n) f.msg in
+parts from to (PreReadAck a w n) h =
+    let f = fitting (letter from to (PreReadAck a w n)) h in
+    let p = both (asking.fits a) (round0.fits w && mark.fits n) f.msg in
     let q = both (round0.fits w) (mark.fits n) p.1 in
     (record { sent = listed_role from 5 f.from; received = listed_role to 9 f.to }, p.0, q.0, q.1)
 parts from to (Read tok n key) h =
@@ -204,6 +204,7 @@ RecordPartsFit (kept.Base f h p c) = IsTrue (mark.fits f) × IsTrue (mark.fits h
 RecordPartsFit (kept.Pairs ps) = IsTrue (pairs.fits ps)
 RecordPartsFit (kept.Notes c f ns) = IsTrue (u16.fits c) × IsTrue (u64.fits f) × IsTrue (notes.fits ns)
 RecordPartsFit (kept.Tail vs) = IsTrue (values.fits vs)
+RecordPartsFit (kept.Turn n) = IsTrue (seq.fits n)
 
 pub record_parts : (r : Record) → IsTrue (record_fits r) → RecordPartsFit r
 record_parts (kept.Promise r) h = h
@@ -228,3 +229,4 @@ record_parts (kept.Notes c f ns) h =
     let q = both (u64.fits f) (notes.fits ns) t.1 in
     (t.0, q.0, q.1)
 record_parts (kept.Tail vs) h = h
+record_parts (kept.Turn n) h = h

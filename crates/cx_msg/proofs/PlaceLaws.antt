@@ -9,7 +9,7 @@ use Rattle.cx_msg.specs.Messages.{body_with, cases_with, version_of}
 use Rattle.cx_msg.specs.Letter.{Letter, is_kind, senders, receivers, is_listed, magic, header}
 use Rattle.cx_msg.specs.Decoding.{finished, after_header, with_header, decoded}
 use Rattle.cx_msg.specs.Decodes.{Faults}
-use Rattle.cx_msg.specs.Records.{record_shape, record_cases, ended, with_tag, recorded}
+use Rattle.cx_msg.specs.Records.{record_shape, record_cases, is_tag, ended, with_tag, recorded}
 use Rattle.cx_msg.specs.Decodes.{Decodes}
 use Rattle.cx_msg.specs.Places.{LiesIn}
 use Rattle.cx_msg.specs.declared.kept.Record.{Record}
@@ -125,7 +125,7 @@ tag_lies bytes (Err miss) e is_bytes same given = subst (λ (x : WireFault). Lie
 tag_lies bytes (Ok (tag, body)) e is_bytes same given =
     let t = u8-exact.takes bytes (tag, body) is_bytes same in
     let len : length bytes ≡ 1 + length body = omega (arith, ap length t.0.parts, length-append (u8.spell tag) body, u8-size tag) in
-    elim (stopped (not (nat_le 1 tag && nat_le tag 11)) (faults.Kind tag) e _ given) [
+    elim (stopped (not (is_tag tag)) (faults.Kind tag) e _ given) [
       | inl here ↦ subst (λ (x : WireFault). LiesIn 1 bytes x) here.1 tt
       | inr rest ↦ ended_lies bytes tag body (by_tag record_cases tag (length body) body) e t.0.rest_fits len refl rest
     ]

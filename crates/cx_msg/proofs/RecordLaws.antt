@@ -1,17 +1,17 @@
 -- What decodes as a record is spelled so, and what is spelled decodes.
 use Rattle.std.proofs.Common.{◌≡◌, ℕ, ◌<◌, Bool, true, false, ◌&&◌, not, cond, List, [], ◌∷◌, ◌++◌, length, Result, Ok, Err, refl, sym, ap, ◌∙◌, lit<}
-use Rattle.std.specs.Prelude.{IfOk, IsTrue, nat_le}
+use Rattle.std.specs.Prelude.{IfOk, IsTrue}
 use Rattle.std.proofs.lemmas.List.{append-nil}
 use Rattle.cx_wire.specs.Format.{Miss, u8, u16, u32, u64, ◌▷◌, by_tag}
 use Rattle.cx_wire.proofs.Laws.{IsBytes, IsExact, Takes-then, u8-exact, u16-exact, u32-exact, u64-exact, ▷-exact, case-sound, case-again, AllSound, ReadsAgain, by_tag-takes, tag_fits}
-use Rattle.cx_field.specs.Fields.{slot, mark, round, grid, value, values, pairs, notes}
-use Rattle.cx_msg.specs.Records.{vote, round_mark, round_grid, base, client_notes, record_shape, record_cases, kept_record, fits, spelling, ended, with_tag, recorded}
+use Rattle.cx_field.specs.Fields.{slot, mark, seq, round, grid, value, values, pairs, notes}
+use Rattle.cx_msg.specs.Records.{vote, round_mark, round_grid, base, client_notes, record_shape, record_cases, kept_record, fits, spelling, is_tag, ended, with_tag, recorded}
 use Rattle.cx_msg.specs.Decodes.{Decodes}
 use Rattle.cx_msg.specs.declared.kept.Record.{Record}
 use Rattle.cx_msg.specs.declared.kept.Record.TheVariants as kept
 use Rattle.cx_msg.specs.declared.fault.WireFault.{WireFault}
 use Rattle.cx_msg.specs.declared.fault.WireFault.TheVariants as faults
-use Rattle.cx_field.proofs.FieldLaws.{slot-exact, mark-exact, round-exact, grid-exact, value-exact, values-exact, pairs-exact, notes-exact}
+use Rattle.cx_field.proofs.FieldLaws.{slot-exact, mark-exact, seq-exact, round-exact, grid-exact, value-exact, values-exact, pairs-exact, notes-exact}
 
 vote-exact : IsExact vote
 vote-exact = ▷-exact round (slot ▷ (mark ▷ value)) round-exact (▷-exact slot (mark ▷ value) slot-exact (▷-exact mark value mark-exact value-exact))
@@ -50,7 +50,10 @@ records-sound = (
                   case-sound record_shape 9 pairs (λ x. kept.Pairs x) pairs-exact (λ _. refl),
                   (
                     case-sound record_shape 10 client_notes (λ x. kept.Notes x.0 x.1.0 x.1.1) client_notes-exact (λ _. refl),
-                    (case-sound record_shape 11 values (λ x. kept.Tail x) values-exact (λ _. refl), tt),
+                    (
+                      case-sound record_shape 11 values (λ x. kept.Tail x) values-exact (λ _. refl),
+                      (case-sound record_shape 16 seq (λ x. kept.Turn x) seq-exact (λ _. refl), tt),
+                    ),
                   ),
                 ),
               ),
@@ -75,9 +78,10 @@ record-again (kept.Base f h p c) left rest fits = case-again {A = Record} 8 base
 record-again (kept.Pairs ps) left rest fits = case-again {A = Record} 9 pairs (λ x. kept.Pairs x) ps rest pairs-exact fits
 record-again (kept.Notes c f ns) left rest fits = case-again {A = Record} 10 client_notes (λ x. kept.Notes x.0 x.1.0 x.1.1) (c, (f, ns)) rest client_notes-exact fits
 record-again (kept.Tail vs) left rest fits = case-again {A = Record} 11 values (λ x. kept.Tail x) vs rest values-exact fits
+record-again (kept.Turn n) left rest fits = case-again {A = Record} 16 seq (λ x. kept.Turn x) n rest seq-exact fits
 
 -- a record's tag is one
-has_tag : (r : Record) → ((nat_le 1 (record_shape r).tag && nat_le (record_shape r).tag 11) ≡ true) × ((record_shape r).tag < 256)
+has_tag : (r : Record) → (is_tag (record_shape r).tag ≡ true) × ((record_shape r).tag < 256)
 has_tag (kept.Promise r) = (refl, lit< tt)
 has_tag (kept.Vote r s cw v) = (refl, lit< tt)
 has_tag (kept.Water r n) = (refl, lit< tt)
@@ -89,6 +93,7 @@ has_tag (kept.Base f h p c) = (refl, lit< tt)
 has_tag (kept.Pairs ps) = (refl, lit< tt)
 has_tag (kept.Notes c f ns) = (refl, lit< tt)
 has_tag (kept.Tail vs) = (refl, lit< tt)
+has_tag (kept.Turn n) = (refl, lit< tt)
 
 past : (b : Bool) (e : WireFault) (r : Result Record WireFault) (x : Record) → cond (not b) (Err e) r ≡ Ok x → r ≡ Ok x
 past true e r x h = h
@@ -97,7 +102,7 @@ past false e r x h = absurd cc
 tag_case : (all : ℕ) (r : Result (ℕ × List ℕ) Miss) (x : Record) → with_tag all r ≡ Ok x → (t : ℕ × List ℕ) × (r ≡ Ok t) × (ended all t.0 (by_tag record_cases t.0 (length t.1) t.1) ≡ Ok x)
 unfolding with_tag
 tag_case all (Err miss) x e = absurd cc
-tag_case all (Ok t) x e = (t, refl, past (nat_le 1 t.0 && nat_le t.0 11) (faults.Kind t.0) _ x e)
+tag_case all (Ok t) x e = (t, refl, past (is_tag t.0) (faults.Kind t.0) _ x e)
 
 ended_case : (all tag : ℕ) (r : Result (Record × List ℕ) Miss) (x : Record) → ended all tag r ≡ Ok x → r ≡ Ok (x, [])
 unfolding ended

@@ -1,11 +1,11 @@
 -- Records of a journal as bytes.
-use Rattle.std.specs.Prelude.{◌≡◌, ℕ, ◌-◌, Bool, ◌&&◌, not, nat_le, nat_lt, if◌then◌else◌, List, [], ◌∷◌, length, Result, Ok, Err}
+use Rattle.std.specs.Prelude.{◌≡◌, ℕ, ◌-◌, Bool, ◌&&◌, ◌||◌, ◌==◌, not, nat_le, nat_lt, if◌then◌else◌, List, [], ◌∷◌, length, Result, Ok, Err}
 use Rattle.cx_base.specs.Grid.{Shape as GridShape}
 use Rattle.cx_base.specs.declared.round.Round.{Round}
 use Rattle.cx_base.specs.declared.command.Value.{Value}
 use Rattle.cx_base.specs.declared.command.Note.{Note}
 use Rattle.cx_wire.specs.Format.{Format, Miss, u8, u16, u32, u64, ◌▷◌, by_tag, Shape, shape, Case, case, tagged}
-use Rattle.cx_field.specs.Fields.{slot, mark, round, grid, value, values, pairs, notes}
+use Rattle.cx_field.specs.Fields.{slot, mark, seq, round, grid, value, values, pairs, notes}
 use Rattle.cx_msg.specs.declared.kept.Record.{Record}
 use Rattle.cx_msg.specs.declared.kept.Record.TheVariants as kept
 use Rattle.cx_msg.specs.declared.fault.WireFault.{WireFault}
@@ -44,6 +44,7 @@ record_shape (kept.Base f h p c) = shape 8 base (f, (h, (p, c)))
 record_shape (kept.Pairs ps) = shape 9 pairs ps
 record_shape (kept.Notes c f ns) = shape 10 client_notes (c, (f, ns))
 record_shape (kept.Tail vs) = shape 11 values vs
+record_shape (kept.Turn n) = shape 16 seq n
 
 -- how each tag's fields are read
 unfoldable pub record_cases : List (Case Record)
@@ -58,7 +59,8 @@ record_cases =
     case 8 base (λ x. kept.Base x.0 x.1.0 x.1.1.0 x.1.1.1) ∷
     case 9 pairs (λ x. kept.Pairs x) ∷
     case 10 client_notes (λ x. kept.Notes x.0 x.1.0 x.1.1) ∷
-    case 11 values (λ x. kept.Tail x) ∷ []
+    case 11 values (λ x. kept.Tail x) ∷
+    case 16 seq (λ x. kept.Turn x) ∷ []
 
 -- a record: its tag in one byte, and its fields
 unfoldable pub kept_record : Format Record
@@ -74,7 +76,7 @@ spelling r = kept_record.spell r
 
 -- whether a tag is one
 abbrev pub is_tag : ℕ → Bool
-is_tag tag = nat_le 1 tag && nat_le tag 11
+is_tag tag = nat_le 1 tag && nat_le tag 11 || tag == 16
 
 -- the record, once its fields are read, of this many bytes in all
 unfoldable pub ended : ℕ → ℕ → Result (Record × List ℕ) Miss → Result Record WireFault

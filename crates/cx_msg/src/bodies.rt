@@ -11,9 +11,9 @@ ghost use Rattle.cx_field.specs.Reading.{Gives, Reads};
 use crate::message::Msg;
 use cx_base::WINDOW;
 use cx_field::{
-    ReadFault, Reader, answers_from, at_from, command_from, commands_from, entries_from,
-    found_from, grid_from, mark_from, name_from, reason_from, reply_from, round_from, round0_from,
-    seq_from, slot_from, token_from, value_from, votes_from,
+    ReadFault, Reader, answers_from, asking_from, at_from, command_from, commands_from,
+    entries_from, found_from, grid_from, mark_from, name_from, reason_from, reply_from, round_from,
+    round0_from, seq_from, slot_from, token_from, value_from, votes_from,
 };
 use std::alloc::Global;
 
@@ -319,10 +319,10 @@ fn read_req_from(reader: &mut Reader<'_>) -> Result<Msg, ReadFault>
 }
 
 fn match_read_from(reader: &mut Reader<'_>) -> Result<Msg, ReadFault>
-    ensures { Gives (λ m. m) result ((wire.case 24 field.token (λ x. Msg.MatchRead x)).read reader.old) reader.new }
+    ensures { Gives (λ m. m) result ((wire.case 24 field.asking (λ x. Msg.MatchRead x)).read reader.old) reader.new }
 {
-    let token = token_from(reader)?;
-    Ok(Msg::MatchRead { token })
+    let asking = asking_from(reader)?;
+    Ok(Msg::MatchRead { asking })
 }
 
 #[tactic(auto, unfolding(crate::specs::Messages::match_read_ack))]
@@ -331,11 +331,11 @@ fn match_read_ack_from(alloc: Global, reader: &mut Reader<'_>) -> Result<Msg, Re
         ((wire.case 25 message.match_read_ack (λ x. Msg.MatchReadAck x.0 x.1.0 x.1.1)).read reader.old)
         reader.new }
 {
-    let token = token_from(reader)?;
+    let asking = asking_from(reader)?;
     let watermark = round0_from(reader)?;
     let entries = entries_from(alloc, reader)?;
     Ok(Msg::MatchReadAck {
-        token,
+        asking,
         watermark,
         entries,
     })
@@ -346,9 +346,9 @@ fn pre_read_from(reader: &mut Reader<'_>) -> Result<Msg, ReadFault>
     ensures { Gives (λ m. m) result
         ((wire.case 26 message.pre_read (λ x. Msg.PreRead x.0 x.1)).read reader.old) reader.new }
 {
-    let token = token_from(reader)?;
+    let asking = asking_from(reader)?;
     let watermark = round0_from(reader)?;
-    Ok(Msg::PreRead { token, watermark })
+    Ok(Msg::PreRead { asking, watermark })
 }
 
 #[tactic(auto, unfolding(crate::specs::Messages::pre_read_ack))]
@@ -357,11 +357,11 @@ fn pre_read_ack_from(reader: &mut Reader<'_>) -> Result<Msg, ReadFault>
         ((wire.case 27 message.pre_read_ack (λ x. Msg.PreReadAck x.0 x.1.0 x.1.1)).read reader.old)
         reader.new }
 {
-    let token = token_from(reader)?;
+    let asking = asking_from(reader)?;
     let watermark = round0_from(reader)?;
     let mark = mark_from(reader)?;
     Ok(Msg::PreReadAck {
-        token,
+        asking,
         watermark,
         mark,
     })

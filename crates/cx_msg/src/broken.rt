@@ -4,7 +4,7 @@ ghost use Rattle.std.specs.Prelude.{◌≡◌, ◌≤◌, IfOk, length};
 ghost use Rattle.cx_wire.specs.Format.{cut};
 ghost use Rattle.cx_msg.specs.Records.{break_place, break_of_part};
 
-use crate::records::fields_from;
+use crate::records::{fields_from, is_tag};
 use cx_base::NoMemory;
 use cx_field::{ReadFault, Reader};
 use std::alloc::Global;
@@ -38,7 +38,7 @@ pub fn break_of_part(alloc: Global, bytes: &[u8], said: usize) -> Result<usize, 
         Err(ReadFault::Bad { .. } | ReadFault::Cut { .. }) => return Ok(have),
         Err(ReadFault::NoMemory) => return Err(NoMemory),
     };
-    if tag < 1 || tag > 11 {
+    if !is_tag(tag) {
         return Ok(0);
     }
     match fields_from(tag, alloc, &mut reader) {

@@ -77,11 +77,11 @@ fn copy_list(msg: &Msg, alloc: Global) -> Result<Msg, NoMemory>
             answers: answers.copy(alloc)?,
         }),
         Msg::MatchReadAck {
-            token,
+            asking,
             watermark,
             ref entries,
         } => Ok(Msg::MatchReadAck {
-            token,
+            asking,
             watermark,
             entries: entries.copy(alloc)?,
         }),
@@ -120,14 +120,14 @@ fn copy_small(msg: &Msg) -> Msg
         Msg::GarbageA { round, grid } => Msg::GarbageA { round, grid },
         Msg::GarbageB { round } => Msg::GarbageB { round },
         Msg::ReadReq { seq, replica, key } => Msg::ReadReq { seq, replica, key },
-        Msg::MatchRead { token } => Msg::MatchRead { token },
-        Msg::PreRead { token, watermark } => Msg::PreRead { token, watermark },
+        Msg::MatchRead { asking } => Msg::MatchRead { asking },
+        Msg::PreRead { asking, watermark } => Msg::PreRead { asking, watermark },
         Msg::PreReadAck {
-            token,
+            asking,
             watermark,
             mark,
         } => Msg::PreReadAck {
-            token,
+            asking,
             watermark,
             mark,
         },

@@ -65,6 +65,10 @@ pub enum Record {
     Tail {
         values: LogValues,
     },
+    /// A reader uses its next turn, which is 1 or more: it asks under it for the reads that wait.
+    Turn {
+        turn: u64,
+    },
 }
 
 impl Duplicate for Record {
@@ -127,6 +131,7 @@ impl Duplicate for Record {
             Record::Tail { values } => Ok(Record::Tail {
                 values: values.copy(alloc)?,
             }),
+            Record::Turn { turn } => Ok(Record::Turn { turn: *turn }),
         }
     }
 }

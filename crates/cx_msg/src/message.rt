@@ -6,10 +6,10 @@ ghost use Rattle.cx_msg.specs.Names.{name_of_message};
 use crate::names::name_of_kind;
 use crate::put_bodies::kind_of;
 use cx_base::{Command, Commands, Grid, Key, Reply, Round, Text, Value};
-use cx_field::{Answers, Entries, NackReason, Token, Votes};
+use cx_field::{Answers, Asking, Entries, NackReason, Token, Votes};
 
 /// What a datagram says. Rounds are real ones, but for a watermark, which may be none; slots are below 2^40; `cw` and
-/// `mark` are numbers of slots, at most 2^40; a client's numbers are 1 or more.
+/// `mark` are numbers of slots, at most 2^40; a client's numbers and a reader's turns are 1 or more.
 #[derive(Drop)]
 pub enum Msg {
     /// A client's command.
@@ -130,24 +130,24 @@ pub enum Msg {
         replica: u16,
         key: Key,
     },
-    /// Asks a matchmaker for its entries.
+    /// Asks a matchmaker for its entries, for the reads of a reader's turn.
     MatchRead {
-        token: Token,
+        asking: Asking,
     },
     /// The entries of a matchmaker, from the watermark on.
     MatchReadAck {
-        token: Token,
+        asking: Asking,
         watermark: Round,
         entries: Entries,
     },
-    /// Asks an acceptor how far it voted.
+    /// Asks an acceptor how far it voted, for the reads of a reader's turn.
     PreRead {
-        token: Token,
+        asking: Asking,
         watermark: Round,
     },
     /// The acceptor voted in no slot from the mark on.
     PreReadAck {
-        token: Token,
+        asking: Asking,
         watermark: Round,
         mark: u64,
     },

@@ -8,9 +8,9 @@ ghost use Rattle.cx_wire.specs.Format.{Appends};
 use crate::message::Msg;
 use cx_base::{Grid, Key, NoMemory, Reply, Round, Text, Value};
 use cx_field::{
-    Answers, Entries, NackReason, Token, Votes, put_answers, put_at, put_command, put_commands,
-    put_entries, put_found, put_grid, put_mark, put_name, put_reason, put_reply, put_round,
-    put_seq, put_slot, put_token, put_value, put_votes,
+    Answers, Asking, Entries, NackReason, Token, Votes, put_answers, put_asking, put_at,
+    put_command, put_commands, put_entries, put_found, put_grid, put_mark, put_name, put_reason,
+    put_reply, put_round, put_seq, put_slot, put_token, put_value, put_votes,
 };
 use cx_wire::put_u16;
 
@@ -194,37 +194,37 @@ fn put_read_req(out: &mut Vec<u8>, seq: u64, replica: u16, key: &Key) -> Result<
 #[tactic(auto, unfolding(crate::specs::Messages::match_read_ack))]
 fn put_match_read_ack(
     out: &mut Vec<u8>,
-    token: &Token,
+    asking: &Asking,
     watermark: &Round,
     entries: &Entries,
 ) -> Result<(), NoMemory>
-    ensures { OnOk result (Appends message.match_read_ack (token.now, (watermark.now, entries.now)) 769
+    ensures { OnOk result (Appends message.match_read_ack (asking.now, (watermark.now, entries.now)) 769
         out.old.items out.new.items) }
 {
-    put_token(out, token)?;
+    put_asking(out, asking)?;
     put_round(out, watermark)?;
     put_entries(out, entries)
 }
 
 #[tactic(auto, unfolding(crate::specs::Messages::pre_read))]
-fn put_pre_read(out: &mut Vec<u8>, token: &Token, watermark: &Round) -> Result<(), NoMemory>
-    ensures { OnOk result (Appends message.pre_read (token.now, watermark.now) 20 out.old.items out.new.items) }
+fn put_pre_read(out: &mut Vec<u8>, asking: &Asking, watermark: &Round) -> Result<(), NoMemory>
+    ensures { OnOk result (Appends message.pre_read (asking.now, watermark.now) 20 out.old.items out.new.items) }
 {
-    put_token(out, token)?;
+    put_asking(out, asking)?;
     put_round(out, watermark)
 }
 
 #[tactic(auto, unfolding(crate::specs::Messages::pre_read_ack))]
 fn put_pre_read_ack(
     out: &mut Vec<u8>,
-    token: &Token,
+    asking: &Asking,
     watermark: &Round,
     mark: u64,
 ) -> Result<(), NoMemory>
-    ensures { OnOk result (Appends message.pre_read_ack (token.now, (watermark.now, mark)) 28
+    ensures { OnOk result (Appends message.pre_read_ack (asking.now, (watermark.now, mark)) 28
         out.old.items out.new.items) }
 {
-    put_token(out, token)?;
+    put_asking(out, asking)?;
     put_round(out, watermark)?;
     put_mark(out, mark)
 }
@@ -312,18 +312,18 @@ pub fn put_body(out: &mut Vec<u8>, msg: &Msg) -> Result<(), NoMemory>
             put_round_mark(out, round, *mark)
         }
         Msg::ReadReq { seq, replica, key } => put_read_req(out, *seq, *replica, key),
-        Msg::MatchRead { token } => put_token(out, token),
+        Msg::MatchRead { asking } => put_asking(out, asking),
         Msg::MatchReadAck {
-            token,
+            asking,
             watermark,
             entries,
-        } => put_match_read_ack(out, token, watermark, entries),
-        Msg::PreRead { token, watermark } => put_pre_read(out, token, watermark),
+        } => put_match_read_ack(out, asking, watermark, entries),
+        Msg::PreRead { asking, watermark } => put_pre_read(out, asking, watermark),
         Msg::PreReadAck {
-            token,
+            asking,
             watermark,
             mark,
-        } => put_pre_read_ack(out, token, watermark, *mark),
+        } => put_pre_read_ack(out, asking, watermark, *mark),
         Msg::Read { token, mark, key } => put_read_key(out, token, *mark, key),
         Msg::ReadAnswer { seq, mark, found } => put_read_answer(out, *seq, *mark, found),
         Msg::SessRead { seq, mark, key } => put_sess_read(out, *seq, *mark, key),

@@ -9,7 +9,7 @@ ghost use Rattle.cx_msg.specs.Letter.{letter};
 use crate::datagram::Datagram;
 use crate::message::Msg;
 use cx_base::{Key, Kind, RoleId, Round, Text};
-use cx_field::{Entries, Token, found_fits, name_fits};
+use cx_field::{Asking, Entries, Token, found_fits, name_fits};
 
 /// A client's read of a key, for a reader; a replica is to answer it.
 #[tactic(auto, unfolding(crate::specs::Messages::read_req, cx_wire::specs::Format::u16))]
@@ -25,13 +25,13 @@ pub fn read_req(client: u16, reader: u16, seq: u64, replica: u16, key: Key) -> D
 
 /// A reader's question for a matchmaker's entries.
 #[tactic(auto, unfolding(cx_wire::specs::Format::u16))]
-pub fn match_read(reader: u16, matchmaker: u16, token: Token) -> Datagram
-    requires token { IsTrue (field.token.fits token) }
-    ensures { result ≡ letter (role Kind.Reader reader) (role Kind.Matchmaker matchmaker) (Msg.MatchRead token) }
+pub fn match_read(reader: u16, matchmaker: u16, asking: Asking) -> Datagram
+    requires asking { IsTrue (field.asking.fits asking) }
+    ensures { result ≡ letter (role Kind.Reader reader) (role Kind.Matchmaker matchmaker) (Msg.MatchRead asking) }
 {
     let from = RoleId::new(Kind::Reader, reader);
     let to = RoleId::new(Kind::Matchmaker, matchmaker);
-    Datagram::new(from, to, Msg::MatchRead { token })
+    Datagram::new(from, to, Msg::MatchRead { asking })
 }
 
 /// A matchmaker's entries, for a reader.
@@ -39,15 +39,15 @@ pub fn match_read(reader: u16, matchmaker: u16, token: Token) -> Datagram
 pub fn match_read_ack(
     matchmaker: u16,
     reader: u16,
-    token: Token,
+    asking: Asking,
     watermark: Round,
     entries: Entries,
 ) -> Datagram
-    requires token { IsTrue (field.token.fits token) }
+    requires asking { IsTrue (field.asking.fits asking) }
     requires watermark { IsTrue (field.round0.fits watermark) }
     requires entries { IsTrue (field.entries.fits entries) }
     ensures { result ≡ letter (role Kind.Matchmaker matchmaker) (role Kind.Reader reader)
-        (Msg.MatchReadAck token watermark entries) }
+        (Msg.MatchReadAck asking watermark entries) }
 {
     let from = RoleId::new(Kind::Matchmaker, matchmaker);
     let to = RoleId::new(Kind::Reader, reader);
@@ -55,7 +55,7 @@ pub fn match_read_ack(
         from,
         to,
         Msg::MatchReadAck {
-            token,
+            asking,
             watermark,
             entries,
         },
@@ -64,14 +64,14 @@ pub fn match_read_ack(
 
 /// A reader's question how far an acceptor voted.
 #[tactic(auto, unfolding(crate::specs::Messages::pre_read, cx_wire::specs::Format::u16))]
-pub fn pre_read(reader: u16, acceptor: u16, token: Token, watermark: Round) -> Datagram
-    requires token { IsTrue (field.token.fits token) }
+pub fn pre_read(reader: u16, acceptor: u16, asking: Asking, watermark: Round) -> Datagram
+    requires asking { IsTrue (field.asking.fits asking) }
     requires watermark { IsTrue (field.round0.fits watermark) }
-    ensures { result ≡ letter (role Kind.Reader reader) (role Kind.Acceptor acceptor) (Msg.PreRead token watermark) }
+    ensures { result ≡ letter (role Kind.Reader reader) (role Kind.Acceptor acceptor) (Msg.PreRead asking watermark) }
 {
     let from = RoleId::new(Kind::Reader, reader);
     let to = RoleId::new(Kind::Acceptor, acceptor);
-    Datagram::new(from, to, Msg::PreRead { token, watermark })
+    Datagram::new(from, to, Msg::PreRead { asking, watermark })
 }
 
 /// An acceptor's word to a reader that it voted in no slot from the mark on.
@@ -79,15 +79,15 @@ pub fn pre_read(reader: u16, acceptor: u16, token: Token, watermark: Round) -> D
 pub fn pre_read_ack(
     acceptor: u16,
     reader: u16,
-    token: Token,
+    asking: Asking,
     watermark: Round,
     mark: u64,
 ) -> Datagram
-    requires token { IsTrue (field.token.fits token) }
+    requires asking { IsTrue (field.asking.fits asking) }
     requires watermark { IsTrue (field.round0.fits watermark) }
     requires mark { IsTrue (field.mark.fits mark) }
     ensures { result ≡ letter (role Kind.Acceptor acceptor) (role Kind.Reader reader)
-        (Msg.PreReadAck token watermark mark) }
+        (Msg.PreReadAck asking watermark mark) }
 {
     let from = RoleId::new(Kind::Acceptor, acceptor);
     let to = RoleId::new(Kind::Reader, reader);
@@ -95,7 +95,7 @@ pub fn pre_read_ack(
         from,
         to,
         Msg::PreReadAck {
-            token,
+            asking,
             watermark,
             mark,
         },

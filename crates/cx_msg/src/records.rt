@@ -14,11 +14,18 @@ use crate::kept::Record;
 use cx_base::{NoMemory, Round, Value};
 use cx_field::{
     Notes, ReadFault, Reader, grid_from, mark_from, notes_from, pairs_from, put_grid, put_mark,
-    put_notes, put_pairs, put_round, put_slot, put_value, put_values, round_from, slot_from,
-    value_from, values_from,
+    put_notes, put_pairs, put_round, put_seq, put_slot, put_value, put_values, round_from,
+    seq_from, slot_from, value_from, values_from,
 };
 use cx_wire::{put_u8, put_u16, put_u32, put_u64};
 use std::alloc::Global;
+
+/// Whether records have this tag.
+pub(crate) fn is_tag(tag: u8) -> bool
+    ensures { result ≡ records.is_tag tag }
+{
+    tag >= 1 && tag <= 11 || tag == 16
+}
 
 #[tactic(auto, unfolding(crate::specs::Records::record_cases, cx_field::specs::Fields::value))]
 pub(crate) fn fields_from(
@@ -95,6 +102,9 @@ pub(crate) fn fields_from(
         11 => Ok(Record::Tail {
             values: values_from(alloc, reader)?,
         }),
+        16 => Ok(Record::Turn {
+            turn: seq_from(reader)?,
+        }),
         _ => Err(ReadFault::Bad {
             left: reader.left(),
         }),
@@ -113,7 +123,7 @@ fn read(alloc: Global, bytes: &[u8]) -> Result<Record, WireFault>
         }
         Err(ReadFault::NoMemory) => return Err(WireFault::NoMemory),
     };
-    if tag < 1 || tag > 11 {
+    if !is_tag(tag) {
         return Err(WireFault::Kind(tag));
     }
     match fields_from(tag, alloc, &mut reader) {
@@ -137,7 +147,7 @@ fn read(alloc: Global, bytes: &[u8]) -> Result<Record, WireFault>
 }
 
 /// The record that the bytes spell, all of the bytes; or the first test that they fail, in this order: no byte (`Short`), the
-/// tag, 1 to 11 (`Kind`), the fields in their order (`Field` at the first byte of the first bad one), and bytes after the
+/// tag, 1 to 11 or 16 (`Kind`), the fields in their order (`Field` at the first byte of the first bad one), and bytes after the
 /// last field (`Trailing`). The format is this project's own; it has no version, and commands may tell their floors.
 pub fn record_from(alloc: Global, bytes: &[u8]) -> Result<Record, WireFault>
     // What is read is spelled so, and has a spelling.
@@ -262,6 +272,10 @@ fn put_record(out: &mut Vec<u8>, kept: &Record) -> Result<(), NoMemory>
         Record::Tail { values } => {
             put_u8(out, 11)?;
             put_values(out, values)
+        }
+        Record::Turn { turn } => {
+            put_u8(out, 16)?;
+            put_seq(out, *turn)
         }
     }
 }

@@ -5,6 +5,8 @@
 #![tactic(auto)]
 
 #[cfg(test)]
+mod asking_tests;
+#[cfg(test)]
 mod log_tests;
 #[cfg(test)]
 mod message_tests;

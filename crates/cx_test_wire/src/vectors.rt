@@ -1,9 +1,9 @@
 //! Bytes of datagrams and records, as another implementation of the format writes them: tools/vectors.py prints this file.
 
 /// Datagrams of the kinds 1 to 29, eight of each, then records of the first seven tags, six of each, then ten datagrams and two
-/// records whose commands tell floors, then records of the last four tags, six of each, and then eight datagrams of the last kind,
-/// 38, in hexadecimal. A semicolon ends an entry. A mark `_` stands where a basic field of the body begins, as the other
-/// implementation says where it meets a cut.
+/// records whose commands tell floors, then records of the tags 8 to 11, six of each, then eight datagrams of the last kind, 38,
+/// and then six records of the last tag, 16, in hexadecimal. A semicolon ends an entry. A mark `_` stands where a basic field of
+/// the body begins, as the other implementation says where it meets a cut.
 pub const ENTRIES: &str = "
 4358010101000002012c001b_0001_0000000000000002_01_05_32_6d_39_4a_5a_09_75_39_65_71_74_59_2d_49_77;
 4358010101012c02012c002c_0001_0000000000000002_02_20_6d_44_37_71_4c_54_45_62_6b_72_4a_79_65_70_34_48_4e_58_6f_2d
@@ -734,4 +734,10 @@ _48_79_4b_61_72_5a_32_2e_76_7a_7a_36_6e_65_6f;
 4358012601000007012c0012_0000000000000100_0000010000000000_01_73;
 435801260100000700000016_0000000000000001_0000000000000021_05_57_6e_6e_55_57;
 435801260100000700020016_0000000000000001_0000010000000000_05_70_54_5f_34_43;
+10_0000000000000001;
+10_0000000000000002;
+10_00000000000000ff;
+10_00000000ffffffff;
+10_fffffffffffffffe;
+10_ffffffffffffffff;
 ";
