@@ -77,3 +77,82 @@ fn a_disk_that_fails_is_not_opened(rt: HostRuntime) -> Result<(), Fail> {
     assert!(rt; fails_to_open(rt.alloc(), &[1])?);
     Ok(())
 }
+
+// A reader's journal that has its first two turns, and the one with the first alone.
+const TURNS: [u8; 29] = [
+    1, 0, 0, 0, 9, 16, 0, 0, 0, 0, 0, 0, 0, 1, 1, 0, 0, 0, 9, 16, 0, 0, 0, 0, 0, 0, 0, 2, 0,
+];
+
+const TURN: [u8; 15] = [1, 0, 0, 0, 9, 16, 0, 0, 0, 0, 0, 0, 0, 1, 0];
+
+// The place and the byte of the break of what is no journal of this kind of role, as another implementation says.
+const BREAKS: [(Kind, &[u8], (u64, Option<u8>)); 10] = [
+    // Turn 1, in the journals of roles that keep none; a promise in a reader's.
+    (Kind::Acceptor, &TURN, (5, Some(16))),
+    (Kind::Leader, &TURN, (5, Some(16))),
+    (Kind::Matchmaker, &TURN, (5, Some(16))),
+    (Kind::Replica, &TURN, (5, Some(16))),
+    (
+        Kind::Reader,
+        &[1, 0, 0, 0, 11, 1, 0, 0, 0, 1, 0, 0, 0, 0, 0, 0, 0],
+        (5, Some(1)),
+    ),
+    // A tag above.
+    (
+        Kind::Reader,
+        &[1, 0, 0, 0, 9, 17, 0, 0, 0, 0, 0, 0, 0, 1, 0],
+        (5, Some(17)),
+    ),
+    // Turn 0, and a turn of four bytes.
+    (
+        Kind::Reader,
+        &[1, 0, 0, 0, 9, 16, 0, 0, 0, 0, 0, 0, 0, 0, 0],
+        (6, Some(0)),
+    ),
+    (
+        Kind::Reader,
+        &[1, 0, 0, 0, 5, 16, 0, 0, 0, 0, 0],
+        (6, Some(0)),
+    ),
+    // A byte behind the turn, and an end within it.
+    (
+        Kind::Reader,
+        &[1, 0, 0, 0, 10, 16, 0, 0, 0, 0, 0, 0, 0, 1, 0, 0],
+        (14, Some(0)),
+    ),
+    (Kind::Reader, &[1, 0, 0, 0, 9, 16, 0, 0, 0], (9, None)),
+];
+
+fn break_of(alloc: Global, kind: Kind, bytes: &[u8]) -> Result<Option<(u64, Option<u8>)>, Fail> {
+    let disk = disk(alloc, bytes, ROOM, &[], None)?;
+    match Journal::open(alloc, disk, kind) {
+        Ok(_) => Ok(None),
+        Err(pair) => match pair.0 {
+            OpenFault::NotJournal { at, byte } => Ok(Some((at, byte))),
+            _ => Err("failed to open".into()),
+        },
+    }
+}
+
+#[test]
+fn a_reader_keeps_turns_alone(rt: HostRuntime) -> Result<(), Fail> {
+    let alloc = rt.alloc();
+    assert_eq!(rt; break_of(alloc, Kind::Reader, &TURNS)?, None);
+    for (kind, bytes, place) in BREAKS {
+        assert_eq!(rt; break_of(alloc, kind, bytes)?, Some(place));
+    }
+    Ok(())
+}
+
+#[test]
+fn a_turn_takes_fourteen_bytes(rt: HostRuntime) -> Result<(), Fail> {
+    let alloc = rt.alloc();
+    let disk = disk(alloc, &[0, 7], ROOM, &[], None)?;
+    let Ok((mut journal, _)) = Journal::open(alloc, disk, Kind::Reader) else {
+        return Err("not opened".into());
+    };
+    let what = record_from(alloc, &TURN[5..14])?;
+    assert!(rt; journal.append(&what).is_ok());
+    assert_eq!(rt; journal.into_disk().bytes(), TURN.as_slice());
+    Ok(())
+}
