@@ -12,7 +12,7 @@ use Rattle.cx_msg.specs.Letter.{Letter, letter}
 use Rattle.cx_field.specs.Fields.{in_window}
 use Rattle.cx_msg.specs.declared.input.Input.{Input}
 use Rattle.cx_msg.specs.declared.input.Input.TheVariants.{Take, Tick, Order}
-use Rattle.cx_field.specs.declared.parts.Token.{Token}
+use Rattle.cx_field.specs.declared.parts.Asking.{Asking}
 use Rattle.cx_field.specs.declared.parts.Vote.{Vote}
 use Rattle.cx_msg.specs.declared.message.Msg.{Msg}
 use Rattle.cx_msg.specs.declared.message.Msg.TheVariants as msg
@@ -108,14 +108,14 @@ inform_row me d from i cw =
     else record { why = Informed; kept = Some (kept.Water i cw); volatile = tt; sends = informed_to me from i (max d.cw cw) ∷ [] }
 
 -- a reader asks from which slot on nothing is chosen by its vote (this project's own)
-abbrev pub pre_read_row : RoleId → AcceptorDurable → RoleId → Token → Round → Outcome (Unit {0})
-pre_read_row me d from t w = replied Asked tt (letter me from (msg.PreReadAck t w (max d.cw d.top)) ∷ [])
+abbrev pub pre_read_row : RoleId → AcceptorDurable → RoleId → Asking → Round → Outcome (Unit {0})
+pre_read_row me d from u w = replied Asked tt (letter me from (msg.PreReadAck u w (max d.cw d.top)) ∷ [])
 
 abbrev pub acceptor_takes : RoleId → AcceptorDurable → RoleId → Msg → Outcome (Unit {0})
 acceptor_takes me d from (msg.Phase1A i) = phase1a_row me d from i
 acceptor_takes me d from (msg.Phase2A i s cw v) = phase2a_row me d from i s cw v
 acceptor_takes me d from (msg.Inform i cw) = inform_row me d from i cw
-acceptor_takes me d from (msg.PreRead t w) = pre_read_row me d from t w
+acceptor_takes me d from (msg.PreRead u w) = pre_read_row me d from u w
 acceptor_takes me d from other = answered Stranger tt
 
 abbrev pub acceptor_row : Cluster → RoleId → AcceptorDurable → Unit {0} → Input → Outcome (Unit {0})

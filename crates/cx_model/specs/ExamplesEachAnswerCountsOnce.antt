@@ -14,7 +14,7 @@ use Rattle.cx_msg.specs.declared.kept.Record.TheVariants as kept
 use Rattle.cx_msg.specs.declared.message.Msg.TheVariants as msg
 use Rattle.cx_model.specs.Examples.{Line, IsRun, one_of_each, client, batcher, leader, proxy, acceptor, matchmaker, replica, unbatcher, reader, round, first, put_a, only, vote, answered, lead, deliver, left, hold, pair, ◌⇒◌, ◌keeping◌by◌, ◌sending◌}
 use Rattle.cx_model.specs.Matchmaker.{entry}
-use Rattle.cx_model.specs.Reader.{token}
+use Rattle.cx_model.specs.Reader.{asking, token}
 
 abbrev pub cluster : Cluster
 cluster =
@@ -118,29 +118,30 @@ story =
     ∷ event.Read 0 2 1 0 0 (codes "a") ⇒ why.Sent
     sending letter (client 0) (reader 0) (msg.ReadReq 2 0 (codes "a"))  -- 28
     ∷ deliver 28 ⇒ why.Started
-    sending letter (reader 0) (matchmaker 0) (msg.MatchRead (token 0 2))  -- 29
-    sending letter (reader 0) (matchmaker 1) (msg.MatchRead (token 0 2))  -- 30
-    sending letter (reader 0) (matchmaker 2) (msg.MatchRead (token 0 2))  -- 31
+    keeping kept.Turn 1 by reader 0
+    sending letter (reader 0) (matchmaker 0) (msg.MatchRead (asking 0 1))  -- 29
+    sending letter (reader 0) (matchmaker 1) (msg.MatchRead (asking 0 1))  -- 30
+    sending letter (reader 0) (matchmaker 2) (msg.MatchRead (asking 0 1))  -- 31
     ∷ deliver 29 ⇒ why.Asked
-    sending letter (matchmaker 0) (reader 0) (msg.MatchReadAck (token 0 2) no_round (entry first low_row ∷ entry later high_row ∷ []))  -- 32
+    sending letter (matchmaker 0) (reader 0) (msg.MatchReadAck (asking 0 1) no_round (entry first low_row ∷ entry later high_row ∷ []))  -- 32
     ∷ deliver 30 ⇒ why.Asked
-    sending letter (matchmaker 1) (reader 0) (msg.MatchReadAck (token 0 2) no_round (entry first low_row ∷ entry later high_row ∷ []))  -- 33
+    sending letter (matchmaker 1) (reader 0) (msg.MatchReadAck (asking 0 1) no_round (entry first low_row ∷ entry later high_row ∷ []))  -- 33
     ∷ deliver 32 ⇒ why.Counted
     ∷ deliver 32 ⇒ why.Same
     ∷ deliver 33 ⇒ why.Asking
-    sending letter (reader 0) (acceptor 0) (msg.PreRead (token 0 2) no_round)  -- 34
-    sending letter (reader 0) (acceptor 1) (msg.PreRead (token 0 2) no_round)  -- 35
-    sending letter (reader 0) (acceptor 2) (msg.PreRead (token 0 2) no_round)  -- 36
-    sending letter (reader 0) (acceptor 3) (msg.PreRead (token 0 2) no_round)  -- 37
+    sending letter (reader 0) (acceptor 0) (msg.PreRead (asking 0 1) no_round)  -- 34
+    sending letter (reader 0) (acceptor 1) (msg.PreRead (asking 0 1) no_round)  -- 35
+    sending letter (reader 0) (acceptor 2) (msg.PreRead (asking 0 1) no_round)  -- 36
+    sending letter (reader 0) (acceptor 3) (msg.PreRead (asking 0 1) no_round)  -- 37
     ∷ deliver 33 ⇒ why.Unasked
     ∷ deliver 34 ⇒ why.Asked
-    sending letter (acceptor 0) (reader 0) (msg.PreReadAck (token 0 2) no_round 1)  -- 38
+    sending letter (acceptor 0) (reader 0) (msg.PreReadAck (asking 0 1) no_round 1)  -- 38
     ∷ deliver 35 ⇒ why.Asked
-    sending letter (acceptor 1) (reader 0) (msg.PreReadAck (token 0 2) no_round 0)  -- 39
+    sending letter (acceptor 1) (reader 0) (msg.PreReadAck (asking 0 1) no_round 0)  -- 39
     ∷ deliver 36 ⇒ why.Asked
-    sending letter (acceptor 2) (reader 0) (msg.PreReadAck (token 0 2) no_round 1)  -- 40
+    sending letter (acceptor 2) (reader 0) (msg.PreReadAck (asking 0 1) no_round 1)  -- 40
     ∷ deliver 37 ⇒ why.Asked
-    sending letter (acceptor 3) (reader 0) (msg.PreReadAck (token 0 2) no_round 0)  -- 41
+    sending letter (acceptor 3) (reader 0) (msg.PreReadAck (asking 0 1) no_round 0)  -- 41
     ∷ deliver 40 ⇒ why.Counted
     ∷ deliver 41 ⇒ why.Counted
     ∷ deliver 41 ⇒ why.Same

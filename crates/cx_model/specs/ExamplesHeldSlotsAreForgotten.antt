@@ -14,7 +14,7 @@ use Rattle.cx_msg.specs.declared.kept.Record.TheVariants as kept
 use Rattle.cx_msg.specs.declared.message.Msg.TheVariants as msg
 use Rattle.cx_model.specs.Examples.{Line, IsRun, one_of_each, client, batcher, leader, proxy, acceptor, matchmaker, replica, unbatcher, reader, round, first, single, put, put_a, only, vote, answered, lead, deliver, left, hold, pair, Holding, ◌⇒◌, ◌keeping◌by◌, ◌sending◌}
 use Rattle.cx_model.specs.Matchmaker.{entry}
-use Rattle.cx_model.specs.Reader.{token}
+use Rattle.cx_model.specs.Reader.{asking, token}
 
 abbrev pub cluster : Cluster
 cluster =
@@ -130,18 +130,19 @@ story =
     ∷ event.Read 0 4 3 0 0 (codes "a") ⇒ why.Sent
     sending letter (client 0) (reader 0) (msg.ReadReq 4 0 (codes "a"))  -- 39
     ∷ deliver 39 ⇒ why.Started
-    sending letter (reader 0) (matchmaker 0) (msg.MatchRead (token 0 4))  -- 40
-    sending letter (reader 0) (matchmaker 1) (msg.MatchRead (token 0 4))  -- 41
-    sending letter (reader 0) (matchmaker 2) (msg.MatchRead (token 0 4))  -- 42
+    keeping kept.Turn 1 by reader 0
+    sending letter (reader 0) (matchmaker 0) (msg.MatchRead (asking 0 1))  -- 40
+    sending letter (reader 0) (matchmaker 1) (msg.MatchRead (asking 0 1))  -- 41
+    sending letter (reader 0) (matchmaker 2) (msg.MatchRead (asking 0 1))  -- 42
     ∷ deliver 40 ⇒ why.Asked
-    sending letter (matchmaker 0) (reader 0) (msg.MatchReadAck (token 0 4) no_round (entry first (single 0) ∷ []))  -- 43
+    sending letter (matchmaker 0) (reader 0) (msg.MatchReadAck (asking 0 1) no_round (entry first (single 0) ∷ []))  -- 43
     ∷ deliver 41 ⇒ why.Asked
-    sending letter (matchmaker 1) (reader 0) (msg.MatchReadAck (token 0 4) no_round (entry first (single 0) ∷ []))  -- 44
+    sending letter (matchmaker 1) (reader 0) (msg.MatchReadAck (asking 0 1) no_round (entry first (single 0) ∷ []))  -- 44
     ∷ deliver 43 ⇒ why.Counted
     ∷ deliver 44 ⇒ why.Asking
-    sending letter (reader 0) (acceptor 0) (msg.PreRead (token 0 4) no_round)  -- 45
+    sending letter (reader 0) (acceptor 0) (msg.PreRead (asking 0 1) no_round)  -- 45
     ∷ deliver 45 ⇒ why.Asked
-    sending letter (acceptor 0) (reader 0) (msg.PreReadAck (token 0 4) no_round 3)  -- 46
+    sending letter (acceptor 0) (reader 0) (msg.PreReadAck (asking 0 1) no_round 3)  -- 46
     ∷ deliver 46 ⇒ why.Sent
     sending letter (reader 0) (replica 0) (msg.Read (token 0 4) 3 (codes "a"))  -- 47
     ∷ deliver 47 ⇒ why.Deferred

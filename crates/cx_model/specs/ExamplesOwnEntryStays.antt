@@ -14,7 +14,7 @@ use Rattle.cx_msg.specs.declared.kept.Record.TheVariants as kept
 use Rattle.cx_msg.specs.declared.message.Msg.TheVariants as msg
 use Rattle.cx_model.specs.Examples.{Line, IsRun, one_of_each, client, batcher, leader, acceptor, matchmaker, replica, reader, round, first, single, lead, collect, deliver, left, hold, ◌⇒◌, ◌keeping◌by◌, ◌sending◌}
 use Rattle.cx_model.specs.Matchmaker.{entry}
-use Rattle.cx_model.specs.Reader.{token}
+use Rattle.cx_model.specs.Reader.{asking, token}
 
 abbrev pub cluster : Cluster
 cluster =
@@ -101,19 +101,20 @@ story =
     ∷ event.Read 0 1 0 0 0 (codes "a") ⇒ why.Sent
     sending letter (client 0) (reader 0) (msg.ReadReq 1 0 (codes "a"))  -- 25
     ∷ deliver 25 ⇒ why.Started
-    sending letter (reader 0) (matchmaker 0) (msg.MatchRead (token 0 1))  -- 26
-    sending letter (reader 0) (matchmaker 1) (msg.MatchRead (token 0 1))  -- 27
-    sending letter (reader 0) (matchmaker 2) (msg.MatchRead (token 0 1))  -- 28
+    keeping kept.Turn 1 by reader 0
+    sending letter (reader 0) (matchmaker 0) (msg.MatchRead (asking 0 1))  -- 26
+    sending letter (reader 0) (matchmaker 1) (msg.MatchRead (asking 0 1))  -- 27
+    sending letter (reader 0) (matchmaker 2) (msg.MatchRead (asking 0 1))  -- 28
     ∷ deliver 28 ⇒ why.Asked
-    sending letter (matchmaker 2) (reader 0) (msg.MatchReadAck (token 0 1) next (entry next column ∷ []))  -- 29
+    sending letter (matchmaker 2) (reader 0) (msg.MatchReadAck (asking 0 1) next (entry next column ∷ []))  -- 29
     ∷ deliver 27 ⇒ why.Asked
-    sending letter (matchmaker 1) (reader 0) (msg.MatchReadAck (token 0 1) no_round (entry first (single 0) ∷ entry next column ∷ []))  -- 30
+    sending letter (matchmaker 1) (reader 0) (msg.MatchReadAck (asking 0 1) no_round (entry first (single 0) ∷ entry next column ∷ []))  -- 30
     ∷ deliver 29 ⇒ why.Counted
     ∷ deliver 30 ⇒ why.Asking
-    sending letter (reader 0) (acceptor 1) (msg.PreRead (token 0 1) next)  -- 31
-    sending letter (reader 0) (acceptor 2) (msg.PreRead (token 0 1) next)  -- 32
+    sending letter (reader 0) (acceptor 1) (msg.PreRead (asking 0 1) next)  -- 31
+    sending letter (reader 0) (acceptor 2) (msg.PreRead (asking 0 1) next)  -- 32
     ∷ deliver 31 ⇒ why.Asked
-    sending letter (acceptor 1) (reader 0) (msg.PreReadAck (token 0 1) next 0)  -- 33
+    sending letter (acceptor 1) (reader 0) (msg.PreReadAck (asking 0 1) next 0)  -- 33
     ∷ deliver 33 ⇒ why.Sent
     sending letter (reader 0) (replica 0) (msg.Read (token 0 1) 0 (codes "a"))  -- 34
     ∷ deliver 34 ⇒ why.Answered

@@ -7,7 +7,7 @@ use Rattle.cx_base.specs.declared.why.Why.TheVariants as why
 use Rattle.cx_msg.specs.Letter.{letter}
 use Rattle.cx_msg.specs.declared.kept.Record.TheVariants as kept
 use Rattle.cx_msg.specs.declared.message.Msg.TheVariants as msg
-use Rattle.cx_model.specs.Examples.{Line, IsRun, client, replica, unbatcher, put_a, only, deliver, left, hold, pair, ◌⇒◌, ◌keeping◌by◌, ◌sending◌}
+use Rattle.cx_model.specs.Examples.{Line, IsRun, client, replica, unbatcher, put_a, only, deliver, left, hold, ◌⇒◌, ◌keeping◌by◌, ◌sending◌}
 use Rattle.cx_model.specs.ExamplesDeferredRead.{cluster, applied, each}
 
 -- the answer is sent; nothing is heard, so a replica that holds nothing answers at once

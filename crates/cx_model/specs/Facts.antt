@@ -13,6 +13,7 @@ use Rattle.cx_base.specs.declared.round.Round.{Round}
 use Rattle.cx_base.specs.Grid.{Shape}
 use Rattle.cx_base.specs.Role.{role}
 use Rattle.cx_base.specs.Round.{is_before, same_round, no_round}
+use Rattle.cx_field.specs.declared.parts.Asking.{Asking}
 use Rattle.cx_field.specs.declared.parts.Entry.{Entry}
 use Rattle.cx_field.specs.declared.parts.Token.{Token}
 use Rattle.cx_field.specs.declared.parts.Vote.{Vote}
@@ -38,9 +39,9 @@ use Rattle.cx_model.specs.Leader.{LeaderVolatile, leader_rules, round_of, is_lea
 use Rattle.cx_model.specs.Matched.{matchmakers, greatest_watermark}
 use Rattle.cx_model.specs.Matchmaker.{MatchmakerDurable, matchmaker_rules}
 use Rattle.cx_model.specs.Member.{Member}
-use Rattle.cx_model.specs.Promises.{HasKept, IsConfig, holders, watermark_in}
+use Rattle.cx_model.specs.Promises.{HasKept, HasTurn, IsConfig, IsUnder, holders, watermark_in}
 use Rattle.cx_model.specs.Proxy.{ProxyVolatile}
-use Rattle.cx_model.specs.Reader.{Reading, ReaderVolatile}
+use Rattle.cx_model.specs.Reader.{Asked, Batch, ReaderVolatile, asking, asking_of}
 use Rattle.cx_model.specs.Replica.{ReplicaVolatile}
 use Rattle.cx_model.specs.World.{World, change, run, durable_part, records_of, log_of}
 
@@ -149,12 +150,19 @@ pub record ReplicaWasTold (sent : List Letter) (me : RoleId) (v : ReplicaVolatil
   pub early : (p : Placed) → Member p v.early → (from : RoleId) × Member (letter from me (msg.Chosen p.slot p.value)) sent
   pub deferred : (r : Deferred) → Member r v.deferred → IsReadOf sent me r
 
+-- what a batch was told came in datagrams of its own turn
+pub record BatchWasTold (sent : List Letter) (me : RoleId) (b : Batch) : Type 0 where
+  pub requests : (r : Asked) → Member r b.reads
+      → Member (letter (role kind.Client r.read.client) me (msg.ReadReq r.read.seq r.replica r.key)) sent
+  pub answers : (a : MatchAnswer) → Member a b.told
+      → Member (letter (role kind.Matchmaker a.matchmaker) me (msg.MatchReadAck (asking_of me b.turn) a.watermark a.entries)) sent
+  pub acks : (a : Acked) → Member a b.acks
+      → Member (letter (role kind.Acceptor a.acceptor) me (msg.PreReadAck (asking_of me b.turn) (greatest_watermark b.told) a.mark)) sent
+
 pub record ReaderWasTold (sent : List Letter) (me : RoleId) (v : ReaderVolatile) : Type 0 where
-  pub requests : (r : Reading) → Member r v.reads → Member (letter (role kind.Client r.token.client) me (msg.ReadReq r.token.seq r.replica r.key)) sent
-  pub answers : (r : Reading) (a : MatchAnswer) → Member r v.reads → Member a r.told
-      → Member (letter (role kind.Matchmaker a.matchmaker) me (msg.MatchReadAck r.token a.watermark a.entries)) sent
-  pub acks : (r : Reading) (a : Acked) → Member r v.reads → Member a r.acks
-      → Member (letter (role kind.Acceptor a.acceptor) me (msg.PreReadAck r.token (greatest_watermark r.told) a.mark)) sent
+  pub requests : (r : Asked) → Member r v.waiting
+      → Member (letter (role kind.Client r.read.client) me (msg.ReadReq r.read.seq r.replica r.key)) sent
+  pub batch : (b : Batch) → v.running ≡ Some b → BatchWasTold sent me b
 
 -- Rounds: each is kept once, by the leader that it names, with one grid, and carries one value for each slot.
 pub record RoundFacts (w : World) : Type 0 where
@@ -193,11 +201,11 @@ pub record MatchingFacts (c : Cluster) (es : List Event) : Type 0 where
   pub has_watermark : (from to : RoleId) (i w : Round) (entries : List Entry) → Member (letter from to (msg.MatchB i w entries)) (run c es).sent
       → (w ≡ no_round) ⊎ ((w ≡ i) ⊎ ((g : Shape) × Member {X = Entry} (record { round = w; grid = g }) entries))
   -- what an answer to a reader says, when it is sent
-  pub tells_readers : (e : Event) (from to : RoleId) (t : Token) (w : Round) (entries : List Entry)
-      → Member (letter from to (msg.MatchReadAck t w entries)) (change (run c es) e).sends
+  pub tells_readers : (e : Event) (from to : RoleId) (u : Asking) (w : Round) (entries : List Entry)
+      → Member (letter from to (msg.MatchReadAck u w entries)) (change (run c es) e).sends
       → (j : Round) (g : Shape) → HasKept (run c es).kept from (kept.Match j g)
       → Member {X = Entry} (record { round = j; grid = g }) entries ⊎ (is_before j w ≡ true)
-  pub readers_watermark : (from to : RoleId) (t : Token) (w : Round) (entries : List Entry) → Member (letter from to (msg.MatchReadAck t w entries)) (run c es).sent
+  pub readers_watermark : (from to : RoleId) (u : Asking) (w : Round) (entries : List Entry) → Member (letter from to (msg.MatchReadAck u w entries)) (run c es).sent
       → (w ≡ no_round) ⊎ ((g : Shape) × Member {X = Entry} (record { round = w; grid = g }) entries)
   -- Promising: an acceptor that promised stays at or above the round and the watermark, and reports only votes of its own;
   pub promised : (a : ℕ) (to : RoleId) (i : Round) (cw : ℕ) (votes : List Vote) → Member (letter (role kind.Acceptor a) to (msg.Phase1B i cw votes)) (run c es).sent
@@ -266,17 +274,22 @@ pub record OpenRoundFacts (c : Cluster) (es : List Event) : Type 0 where
       → (s < end) × IsProposed (run c es).sent i s v
   pub from_watermark_on : (i : Round) (cw end : ℕ) → IsFinished c es i cw end → (s : ℕ) (v : Value) → IsProposed (run c es).sent i s v → cw ≤ s
 
--- Reads: answers to a reader come after the read was asked for, and their numbers are above all that their senders voted for till then.
+-- Reads: answers to a reader come after it kept the turn that they are of, and that after each read of the turn's batch was asked for; their numbers
+-- are above all that their senders voted for till then.
 pub record ReadFacts (c : Cluster) (es : List Event) : Type 0 where
-  pub matchmakers_asked : (from to : RoleId) (t : Token) (w : Round) (entries : List Entry) → Member (letter from to (msg.MatchReadAck t w entries)) (run c es).sent
-      → was_asked t (run c es).events ≡ true
-  pub acceptors_asked : (from to : RoleId) (t : Token) (w : Round) (n : ℕ) → Member (letter from to (msg.PreReadAck t w n)) (run c es).sent
-      → was_asked t (run c es).events ≡ true
+  pub matchmakers_asked : (from to : RoleId) (u : Asking) (w : Round) (entries : List Entry)
+      → Member (letter from to (msg.MatchReadAck u w entries)) (run c es).sent → HasTurn (run c es).kept u
+  pub acceptors_asked : (from to : RoleId) (u : Asking) (w : Round) (n : ℕ)
+      → Member (letter from to (msg.PreReadAck u w n)) (run c es).sent → HasTurn (run c es).kept u
+  -- a read that wasn't asked for at a moment is in no batch of a turn that was kept by then
+  pub asked_before : (more : List Event) (reader turn : ℕ) (t : Token)
+      → was_asked t (run c es).events ≡ false → IsUnder (run c (es ++ more)) reader turn t
+      → HasTurn (run c es).kept (asking reader turn) → ⊥
   -- with a real watermark, rounds were forgotten for that one before
-  pub after_garbage : (from to : RoleId) (t : Token) (w : Round) (n : ℕ) → Member (letter from to (msg.PreReadAck t w n)) (run c es).sent
+  pub after_garbage : (from to : RoleId) (u : Asking) (w : Round) (n : ℕ) → Member (letter from to (msg.PreReadAck u w n)) (run c es).sent
       → (w ≡ no_round) ⊎ ((who : RoleId) × (g : Shape) × HasKept (run c es).kept who (kept.Garbage w g))
-  pub above_votes : (e : Event) (a : ℕ) (to : RoleId) (t : Token) (w : Round) (n : ℕ)
-      → Member (letter (role kind.Acceptor a) to (msg.PreReadAck t w n)) (change (run c es) e).sends
+  pub above_votes : (e : Event) (a : ℕ) (to : RoleId) (u : Asking) (w : Round) (n : ℕ)
+      → Member (letter (role kind.Acceptor a) to (msg.PreReadAck u w n)) (change (run c es) e).sends
       → ((acceptor_of (run c es).kept a).cw ≤ n)
       × ((j : Round) (s : ℕ) (v : Value) → HasVoted (run c es).kept (role kind.Acceptor a) j s v → s < n)
   -- a read's number is above every slot that had a chosen value when the read was first asked for

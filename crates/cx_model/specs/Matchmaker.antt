@@ -16,7 +16,7 @@ use Rattle.cx_msg.specs.declared.input.Input.TheVariants.{Take, Tick, Order}
 use Rattle.cx_field.specs.declared.parts.Entry.{Entry}
 use Rattle.cx_field.specs.declared.parts.NackReason.{NackReason}
 use Rattle.cx_field.specs.declared.parts.NackReason.TheVariants as nack
-use Rattle.cx_field.specs.declared.parts.Token.{Token}
+use Rattle.cx_field.specs.declared.parts.Asking.{Asking}
 use Rattle.cx_msg.specs.declared.message.Msg.{Msg}
 use Rattle.cx_msg.specs.declared.message.Msg.TheVariants as msg
 use Rattle.cx_msg.specs.declared.kept.Record.{Record}
@@ -90,13 +90,13 @@ garbage_a_row me d from i g =
     else replied Same tt (garbage_b_to me from i ∷ [])
 
 -- a reader asks for the watermark and all entries (this project's own)
-abbrev pub match_read_row : RoleId → MatchmakerDurable → RoleId → Token → Outcome (Unit {0})
-match_read_row me d from t = replied Asked tt (letter me from (msg.MatchReadAck t d.watermark d.entries) ∷ [])
+abbrev pub match_read_row : RoleId → MatchmakerDurable → RoleId → Asking → Outcome (Unit {0})
+match_read_row me d from u = replied Asked tt (letter me from (msg.MatchReadAck u d.watermark d.entries) ∷ [])
 
 abbrev pub matchmaker_takes : RoleId → MatchmakerDurable → RoleId → Msg → Outcome (Unit {0})
 matchmaker_takes me d from (msg.MatchA i g) = match_a_row me d from i g
 matchmaker_takes me d from (msg.GarbageA i g) = garbage_a_row me d from i g
-matchmaker_takes me d from (msg.MatchRead t) = match_read_row me d from t
+matchmaker_takes me d from (msg.MatchRead u) = match_read_row me d from u
 matchmaker_takes me d from other = answered Stranger tt
 
 abbrev pub matchmaker_row : Cluster → RoleId → MatchmakerDurable → Unit {0} → Input → Outcome (Unit {0})

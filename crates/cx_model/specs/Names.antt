@@ -11,6 +11,7 @@ use Rattle.cx_base.specs.Cluster.{count_of}
 use Rattle.cx_base.specs.Fold.{commands_of}
 use Rattle.cx_base.specs.Grid.{Shape}
 use Rattle.cx_msg.specs.Letter.{Letter}
+use Rattle.cx_field.specs.declared.parts.Asking.{Asking}
 use Rattle.cx_field.specs.declared.parts.Entry.{Entry}
 use Rattle.cx_field.specs.declared.parts.Token.{Token}
 use Rattle.cx_field.specs.declared.parts.Vote.{Vote}
@@ -45,7 +46,11 @@ names_answer c a = nat_lt a.client c.clients
 abbrev pub names_token : Cluster → Token → Bool
 names_token c t = nat_lt t.client c.clients
 
--- each name in what a datagram says: leaders of rounds, members of grids, clients, replicas
+-- an asking names its reader
+abbrev pub names_asking : Cluster → Asking → Bool
+names_asking c u = nat_lt u.reader c.readers
+
+-- each name in what a datagram says: leaders of rounds, members of grids, clients, readers, replicas
 abbrev pub names_body : Cluster → Msg → Bool
 names_body c (msg.Submit command) = names_command c command
 names_body c (msg.Batch commands) = list_all (λ (k : Command). names_command c k) commands
@@ -70,14 +75,14 @@ names_body c (msg.Informed i n) = names_round c i
 names_body c (msg.GarbageA i g) = names_round c i && names_grid c g
 names_body c (msg.GarbageB i) = names_round c i
 names_body c (msg.ReadReq seq p key) = nat_lt p c.replicas
-names_body c (msg.MatchRead t) = names_token c t
-names_body c (msg.MatchReadAck t w es) = names_token c t && names_round c w && list_all (λ (e : Entry). names_entry c e) es
-names_body c (msg.PreRead t w) = names_token c t && names_round c w
-names_body c (msg.PreReadAck t w n) = names_token c t && names_round c w
+names_body c (msg.MatchRead u) = names_asking c u
+names_body c (msg.MatchReadAck u w es) = names_asking c u && names_round c w && list_all (λ (e : Entry). names_entry c e) es
+names_body c (msg.PreRead u w) = names_asking c u && names_round c w
+names_body c (msg.PreReadAck u w n) = names_asking c u && names_round c w
 names_body c (msg.Read t n key) = names_token c t
 names_body c (msg.ReadAnswer seq n text) = true
 names_body c (msg.SessRead seq n key) = true
 
--- every role, leader, member, client and replica that a datagram names lies in the cluster
+-- every role, leader, member, client, reader and replica that a datagram names lies in the cluster
 abbrev pub names : Cluster → Letter → Bool
 names c d = names_role c d.from && names_role c d.to && names_body c d.msg

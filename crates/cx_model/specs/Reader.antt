@@ -1,17 +1,21 @@
--- The reader's rows: it asks enough matchmakers for the live grids, a row of each for its greatest voted slot, and then one replica, which
--- answers once it holds this many slots (VLDB 2021: quorum reads; over several grids this project's own).
-use Rattle.std.specs.Prelude.{ℕ, ◌==◌, Bool, false, not, ◌&&◌, nat_le, max, map, filter, if◌then◌else◌, List, [], ◌∷◌, ◌++◌, length, Option, None, Some, true}
+-- The reader's rows: reads wait, and at most one batch of them runs. For a batch the reader keeps its next turn, and asks enough matchmakers for
+-- the live grids, then a row of each for its greatest voted slot; then it asks one replica for each read, which answers once it holds this
+-- many slots (VLDB 2021: quorum reads; over several grids, and in batches, this project's own).
+use Rattle.std.specs.Prelude.{ℕ, ◌+◌, ◌==◌, Bool, false, not, ◌&&◌, nat_le, nat_lt, max, map, if◌then◌else◌, List, [], ◌∷◌, ◌++◌, length, Option, None, Some, true}
 use Rattle.std.specs.List.{list_any}
 use Rattle.cx_base.specs.declared.cluster.Cluster.{Cluster}
 use Rattle.cx_base.specs.declared.role.RoleId.{RoleId}
 use Rattle.cx_base.specs.declared.role.Kind.TheVariants.{Acceptor, Matchmaker, Reader, Replica}
 use Rattle.cx_base.specs.declared.round.Round.{Round}
-use Rattle.cx_base.specs.declared.why.Why.TheVariants.{Again, Asking, Counted, Full, Idle, Old, Same, Sent, Started, Stranger, Unasked}
+use Rattle.cx_base.specs.declared.why.Why.{Why}
+use Rattle.cx_base.specs.declared.why.Why.TheVariants.{Again, Counted, End, Full, Idle, Old, Queued, Resent, Same, Sent, Started, Stranger, Unasked}
+use Rattle.cx_base.specs.declared.why.Why.TheVariants as why
 use Rattle.cx_base.specs.Role.{same_role, role}
 use Rattle.cx_base.specs.Round.{same_round}
 use Rattle.cx_msg.specs.Letter.{Letter, letter}
 use Rattle.cx_msg.specs.declared.input.Input.{Input}
 use Rattle.cx_msg.specs.declared.input.Input.TheVariants.{Take, Tick, Order}
+use Rattle.cx_field.specs.declared.parts.Asking.{Asking}
 use Rattle.cx_field.specs.declared.parts.Entry.{Entry}
 use Rattle.cx_field.specs.declared.parts.Token.{Token}
 use Rattle.cx_msg.specs.declared.message.Msg.{Msg}
@@ -23,39 +27,61 @@ use Rattle.cx_model.specs.Names.{names}
 use Rattle.cx_model.specs.Outcome.{Outcome, answered, replied}
 use Rattle.cx_model.specs.Request.{same_read}
 use Rattle.cx_model.specs.Rules.{Rules}
+use Rattle.cx_msg.specs.declared.kept.Record.{Record}
+use Rattle.cx_msg.specs.declared.kept.Record.TheVariants as kept
 
--- A read in progress: the replica that is to answer it, its key, the matchmakers' answers that were counted, and the acceptors'. It is in
--- its first stage until enough matchmakers have answered, then in its second.
-pub record Reading : Type 0 where
-  pub token : Token
+-- ---- the state
+
+-- the last turn that was kept
+pub record ReaderDurable : Type 0 where
+  pub turn : ℕ
+
+-- a read that was asked for: its client and number, the replica that is to answer it, and its key
+pub record Asked : Type 0 where
+  pub read : Token
   pub replica : ℕ
   pub key : List ℕ
+
+-- The running batch: its turn, its reads in the order in which they came, the matchmakers' answers that were counted, and the acceptors'. It is in
+-- its first stage until enough matchmakers have answered, then in its second.
+pub record Batch : Type 0 where
+  pub turn : ℕ
+  pub reads : List Asked
   pub told : List MatchAnswer
   pub acks : List Acked
 
--- the reads in progress, in the order in which they came
+-- the reads that wait for the next batch, in the order in which they came
 pub record ReaderVolatile : Type 0 where
-  pub reads : List Reading
+  pub waiting : List Asked
+  pub running : Option Batch
 
-abbrev pub reading : Token → ℕ → List ℕ → Reading
-reading t replica key = record { token = t; replica = replica; key = key; told = []; acks = [] }
+abbrev pub token : ℕ → ℕ → Token
+token client seq = record { client = client; seq = seq }
 
--- the read of a token
-abbrev pub reading_of : Token → List Reading → Option Reading
-reading_of t [] = None
-reading_of t (r ∷ rs) = if same_read t r.token then Some r else reading_of t rs
+abbrev pub asked_for : Token → ℕ → List ℕ → Asked
+asked_for t replica key = record { read = t; replica = replica; key = key }
 
--- the reads with one in the place of the earlier one of its token, or at the end
-abbrev pub with_reading : Reading → List Reading → List Reading
-with_reading one [] = one ∷ []
-with_reading one (r ∷ rs) = if same_read one.token r.token then one ∷ rs else r ∷ with_reading one rs
+-- turns end at 2^64 - 1
+abbrev pub last_turn : ℕ
+last_turn = 18446744073709551615
 
-abbrev pub without_reading : Token → List Reading → List Reading
-without_reading t rs = filter (λ (r : Reading). not (same_read t r.token)) rs
+-- whether one of these reads has this token, and whether the first has
+abbrev pub is_among : Token → List Asked → Bool
+is_among t rs = list_any (λ (r : Asked). same_read t r.read) rs
 
--- whether a read is in its second stage
-abbrev pub is_matched : Cluster → Reading → Bool
-is_matched c r = nat_le (enough c) (length r.told)
+abbrev pub is_first : Token → List Asked → Bool
+is_first t [] = false
+is_first t (r ∷ rs) = same_read t r.read
+
+-- the reads with one in the place of the earlier one of its token
+abbrev pub with_asked : Asked → List Asked → List Asked
+with_asked one [] = []
+with_asked one (r ∷ rs) = if same_read one.read r.read then one ∷ rs else r ∷ with_asked one rs
+
+abbrev pub is_matched : Cluster → Batch → Bool
+is_matched c b = nat_le (enough c) (length b.told)
+
+-- ---- what is sent
 
 -- the acceptors that were counted, and whether this one was
 abbrev pub acked_by : List Acked → List ℕ
@@ -69,89 +95,149 @@ abbrev pub greatest_mark : List Acked → ℕ
 greatest_mark [] = 0
 greatest_mark (a ∷ acks) = max a.mark (greatest_mark acks)
 
-abbrev pub match_read_to : RoleId → Token → ℕ → Letter
-match_read_to me t m = letter me (role Matchmaker m) (msg.MatchRead t)
+-- the datagrams of a turn are told apart by its reader and the turn
+abbrev pub asking : ℕ → ℕ → Asking
+asking reader turn = record { reader = reader; turn = turn }
 
-abbrev pub pre_read_to : RoleId → Reading → ℕ → Letter
-pre_read_to me r a = letter me (role Acceptor a) (msg.PreRead r.token (greatest_watermark r.told))
+abbrev pub asking_of : RoleId → ℕ → Asking
+asking_of me turn = asking me.index turn
 
-abbrev pub read_to : RoleId → Reading → ℕ → Letter
-read_to me r n = letter me (role Replica r.replica) (msg.Read r.token n r.key)
+abbrev pub same_asking : Asking → Asking → Bool
+same_asking u other = (u.reader == other.reader) && (u.turn == other.turn)
 
-abbrev pub ask_matchmakers : Cluster → RoleId → Token → List Letter
-ask_matchmakers c me t = map (match_read_to me t) (matchmakers c)
+abbrev pub match_read_to : RoleId → Asking → ℕ → Letter
+match_read_to me u m = letter me (role Matchmaker m) (msg.MatchRead u)
 
-abbrev pub read_req_over : Cluster → RoleId → ReaderVolatile → Reading → Option Reading → Outcome ReaderVolatile
-read_req_over c me v one None =
-    if nat_le 64 (length v.reads) then answered Full v
-    else replied Started (record { reads = with_reading one v.reads }) (ask_matchmakers c me one.token)
-read_req_over c me v one (Some old) = replied Again (record { reads = with_reading one v.reads }) (ask_matchmakers c me one.token)
+abbrev pub ask_matchmakers : Cluster → RoleId → ℕ → List Letter
+ask_matchmakers c me turn = map (match_read_to me (asking_of me turn)) (matchmakers c)
 
--- a client asks for a key; a read that it asks for again begins anew; at most 64 are in progress
-abbrev pub read_req_row : Cluster → RoleId → ReaderVolatile → Reading → Outcome ReaderVolatile
-read_req_row c me v one = read_req_over c me v one (reading_of one.token v.reads)
+abbrev pub pre_read_to : RoleId → Batch → ℕ → Letter
+pre_read_to me b a = letter me (role Acceptor a) (msg.PreRead (asking_of me b.turn) (greatest_watermark b.told))
 
--- the replica is asked, and the read is no longer in progress here
-abbrev pub send_read : RoleId → ReaderVolatile → Reading → ℕ → Outcome ReaderVolatile
-send_read me v r n = replied Sent (record { reads = without_reading r.token v.reads }) (read_to me r n ∷ [])
+abbrev pub ask_acceptors : Cluster → RoleId → Batch → List Letter
+ask_acceptors c me b = map (pre_read_to me b) (members_of c (live_entries b.told))
+
+abbrev pub read_to : RoleId → ℕ → Asked → Letter
+read_to me n r = letter me (role Replica r.replica) (msg.Read r.read n r.key)
+
+-- one for each read of the batch, in their order
+abbrev pub ask_replicas : RoleId → Batch → ℕ → List Letter
+ask_replicas me b n = map (read_to me n) b.reads
+
+-- ---- the rows
+
+abbrev pub new_batch : ℕ → List Asked → Batch
+new_batch turn reads = record { turn = turn; reads = reads; told = []; acks = [] }
+
+-- A batch of these reads begins behind what is sent first: its turn is kept, and all matchmakers are asked.
+abbrev pub begin : Cluster → RoleId → ReaderDurable → Why → List Letter → List Asked → Outcome ReaderVolatile
+begin c me d w first reads =
+    record {
+      why = w;
+      kept = Some (kept.Turn (d.turn + 1));
+      volatile = record { waiting = []; running = Some (new_batch (d.turn + 1) reads) };
+      sends = first ++ ask_matchmakers c me (d.turn + 1);
+    }
+
+-- where there is no turn any more, nothing changes
+abbrev pub begin_if : Cluster → RoleId → ReaderDurable → ReaderVolatile → Why → List Asked → Outcome ReaderVolatile
+begin_if c me d v w reads = if d.turn == last_turn then answered End v else begin c me d w [] reads
+
+abbrev pub request_over : Cluster → RoleId → ReaderDurable → ReaderVolatile → Asked → Option Batch → Outcome ReaderVolatile
+request_over c me d v one None =
+    if nat_le 64 (length v.waiting) then answered Full v else begin_if c me d v Started (v.waiting ++ one ∷ [])
+request_over c me d v one (Some b) =
+    if is_first one.read b.reads then begin_if c me d v Again (with_asked one b.reads ++ v.waiting)
+    else if is_among one.read b.reads then answered Same v
+    else if nat_le 64 (length v.waiting + length b.reads) then answered Full v
+    else answered Queued (record v { waiting = v.waiting ++ one ∷ [] })
+
+-- A client asks for a key. A read that waits waits on, with what it asks now; the first of the running batch begins that anew, with all that wait.
+abbrev pub request_row : Cluster → RoleId → ReaderDurable → ReaderVolatile → Asked → Outcome ReaderVolatile
+request_row c me d v one =
+    if is_among one.read v.waiting then answered Again (record v { waiting = with_asked one v.waiting })
+    else request_over c me d v one v.running
+
+-- The replicas are asked, and the batch has ended; where reads wait, the next one begins, at the last turn none.
+abbrev pub finish : Cluster → RoleId → ReaderDurable → ReaderVolatile → Batch → ℕ → Outcome ReaderVolatile
+finish c me d v b n =
+    if nat_lt 0 (length v.waiting) && not (d.turn == last_turn)
+    then begin c me d Sent (ask_replicas me b n) v.waiting
+    else replied Sent (record v { running = None }) (ask_replicas me b n)
+
+abbrev pub with_batch : ReaderVolatile → Batch → ReaderVolatile
+with_batch v b = record v { running = Some b }
 
 -- enough matchmakers have answered; where no grid is live nothing was ever voted for
-abbrev pub read_matched : Cluster → RoleId → ReaderVolatile → Reading → List Entry → Outcome ReaderVolatile
-read_matched c me v r [] = send_read me v r 0
-read_matched c me v r (e ∷ es) =
-    replied Asking (record { reads = with_reading r v.reads }) (map (pre_read_to me r) (members_of c (e ∷ es)))
+abbrev pub matched : Cluster → RoleId → ReaderDurable → ReaderVolatile → Batch → List Entry → Outcome ReaderVolatile
+matched c me d v b [] = finish c me d v b 0
+matched c me d v b (e ∷ es) = replied why.Asking (with_batch v b) (map (pre_read_to me b) (members_of c (e ∷ es)))
 
-abbrev pub match_ack_counted : Cluster → RoleId → ReaderVolatile → Reading → Outcome ReaderVolatile
-match_ack_counted c me v r =
-    if is_matched c r then read_matched c me v r (live_entries r.told)
-    else answered Counted (record { reads = with_reading r v.reads })
+abbrev pub match_ack_counted : Cluster → RoleId → ReaderDurable → ReaderVolatile → Batch → Outcome ReaderVolatile
+match_ack_counted c me d v b =
+    if is_matched c b then matched c me d v b (live_entries b.told) else answered Counted (with_batch v b)
+
+-- whether a datagram is of the running batch
+abbrev pub is_of_batch : RoleId → Batch → Asking → Bool
+is_of_batch me b u = same_asking u (asking_of me b.turn)
 
 -- a matchmaker answers
-abbrev pub match_ack_row : Cluster → RoleId → ReaderVolatile → RoleId → Round → List Entry → Option Reading → Outcome ReaderVolatile
-match_ack_row c me v from w es None = answered Unasked v
-match_ack_row c me v from w es (Some r) =
-    if is_matched c r then answered Unasked v
-    else if is_counted from.index r.told then answered Same v
-    else match_ack_counted c me v (record r { told = r.told ++ record { matchmaker = from.index; watermark = w; entries = es } ∷ [] })
+abbrev pub match_ack_row : Cluster → RoleId → ReaderDurable → ReaderVolatile → RoleId → Asking → Round → List Entry → Option Batch → Outcome ReaderVolatile
+match_ack_row c me d v from u w es None = answered Unasked v
+match_ack_row c me d v from u w es (Some b) =
+    if not (is_of_batch me b u && not (is_matched c b)) then answered Unasked v
+    else if is_counted from.index b.told then answered Same v
+    else match_ack_counted c me d v (record b { told = b.told ++ record { matchmaker = from.index; watermark = w; entries = es } ∷ [] })
 
-abbrev pub pre_read_counted : RoleId → ReaderVolatile → Reading → Outcome ReaderVolatile
-pre_read_counted me v r =
-    if rows_whole (live_entries r.told) (acked_by r.acks) then send_read me v r (greatest_mark r.acks)
-    else answered Counted (record { reads = with_reading r v.reads })
+abbrev pub pre_read_counted : Cluster → RoleId → ReaderDurable → ReaderVolatile → Batch → Outcome ReaderVolatile
+pre_read_counted c me d v b =
+    if rows_whole (live_entries b.told) (acked_by b.acks) then finish c me d v b (greatest_mark b.acks)
+    else answered Counted (with_batch v b)
 
 -- an acceptor of a live grid answers, with the watermark that it was asked with
-abbrev pub pre_read_ack_row : Cluster → RoleId → ReaderVolatile → RoleId → Round → ℕ → Option Reading → Outcome ReaderVolatile
-pre_read_ack_row c me v from w n None = answered Unasked v
-pre_read_ack_row c me v from w n (Some r) =
-    if not (is_matched c r && is_member_of (live_entries r.told) from.index) then answered Unasked v
-    else if not (same_round w (greatest_watermark r.told)) then answered Old v
-    else if has_acked from.index r.acks then answered Same v
-    else pre_read_counted me v (record r { acks = r.acks ++ record { acceptor = from.index; mark = n } ∷ [] })
+abbrev pub pre_read_ack_row : Cluster → RoleId → ReaderDurable → ReaderVolatile → RoleId → Asking → Round → ℕ → Option Batch → Outcome ReaderVolatile
+pre_read_ack_row c me d v from u w n None = answered Unasked v
+pre_read_ack_row c me d v from u w n (Some b) =
+    if not (is_of_batch me b u && is_matched c b && is_member_of (live_entries b.told) from.index) then answered Unasked v
+    else if not (same_round w (greatest_watermark b.told)) then answered Old v
+    else if has_acked from.index b.acks then answered Same v
+    else pre_read_counted c me d v (record b { acks = b.acks ++ record { acceptor = from.index; mark = n } ∷ [] })
 
-abbrev pub token : ℕ → ℕ → Token
-token client seq = record { client = client; seq = seq }
+-- a tick asks again: the matchmakers in the first stage, the acceptors in the second
+abbrev pub reader_tick : Cluster → RoleId → ReaderVolatile → Option Batch → Outcome ReaderVolatile
+reader_tick c me v None = answered Idle v
+reader_tick c me v (Some b) = replied Resent v (if is_matched c b then ask_acceptors c me b else ask_matchmakers c me b.turn)
 
-abbrev pub reader_takes : Cluster → RoleId → ReaderVolatile → RoleId → Msg → Outcome ReaderVolatile
-reader_takes c me v from (msg.ReadReq seq replica key) = read_req_row c me v (reading (token from.index seq) replica key)
-reader_takes c me v from (msg.MatchReadAck t w es) = match_ack_row c me v from w es (reading_of t v.reads)
-reader_takes c me v from (msg.PreReadAck t w n) = pre_read_ack_row c me v from w n (reading_of t v.reads)
-reader_takes c me v from other = answered Stranger v
+abbrev pub reader_takes : Cluster → RoleId → ReaderDurable → ReaderVolatile → RoleId → Msg → Outcome ReaderVolatile
+reader_takes c me d v from (msg.ReadReq seq replica key) = request_row c me d v (asked_for (token from.index seq) replica key)
+reader_takes c me d v from (msg.MatchReadAck u w es) = match_ack_row c me d v from u w es v.running
+reader_takes c me d v from (msg.PreReadAck u w n) = pre_read_ack_row c me d v from u w n v.running
+reader_takes c me d v from other = answered Stranger v
 
-abbrev pub reader_row : Cluster → RoleId → Unit {0} → ReaderVolatile → Input → Outcome ReaderVolatile
+abbrev pub reader_row : Cluster → RoleId → ReaderDurable → ReaderVolatile → Input → Outcome ReaderVolatile
 reader_row c me d v (Take letter) =
-    if same_role letter.to me && names c letter then reader_takes c me v letter.from letter.msg else answered Stranger v
-reader_row c me d v Tick = answered Idle v
+    if same_role letter.to me && names c letter then reader_takes c me d v letter.from letter.msg else answered Stranger v
+reader_row c me d v Tick = reader_tick c me v v.running
 reader_row c me d v (Order order) = answered Stranger v
 
--- a reader keeps no records; who asked asks again when it was lost
-abbrev pub reader_rules : Rules (Unit {0}) ReaderVolatile
+-- the durable part after a record: the greatest turn kept, which is the last one, since each is the last plus 1
+abbrev pub reader_after : ReaderDurable → Record → ReaderDurable
+reader_after d (kept.Turn n) = record { turn = max d.turn n }
+reader_after d other = d
+
+-- whether the reader could have appended this record
+abbrev pub reader_fits : Cluster → RoleId → ReaderDurable → Record → Bool
+reader_fits c me d (kept.Turn n) = (n == d.turn + 1) && nat_le n last_turn
+reader_fits c me d other = false
+
+abbrev pub reader_rules : Rules ReaderDurable ReaderVolatile
 reader_rules = record {
   kind = Reader;
-  empty = tt;
-  after = λ d r. tt;
-  fits = λ c me d r. false;
+  empty = record { turn = 0 };
+  after = reader_after;
+  fits = reader_fits;
   whole = λ d. true;
-  fresh = λ c. record { reads = [] };
+  fresh = λ c. record { waiting = []; running = None };
   row = reader_row;
   snap = λ c me d v. None;
   renewed = λ d first. [];

@@ -12,13 +12,16 @@ ghost use Rattle.cx_model.specs.ExamplesChangeJumpsOverHeldSlots.{ChangeJumpsOve
 ghost use Rattle.cx_model.specs.ExamplesChangeLeavesHeldSlots.{ChangeLeavesHeldSlots};
 ghost use Rattle.cx_model.specs.ExamplesChangeSettlesAnew.{ChangeSettlesAnew};
 ghost use Rattle.cx_model.specs.ExamplesCommandActsOnce.{CommandActsOnce};
+ghost use Rattle.cx_model.specs.ExamplesCutTurn.{CutTurn};
 ghost use Rattle.cx_model.specs.ExamplesDeferredRead.{DeferredRead};
 ghost use Rattle.cx_model.specs.ExamplesEachAnswerCountsOnce.{EachAnswerCountsOnce};
+ghost use Rattle.cx_model.specs.ExamplesFirstReadAgain.{FirstReadAgain};
 ghost use Rattle.cx_model.specs.ExamplesGapGetsANoop.{GapGetsANoop};
 ghost use Rattle.cx_model.specs.ExamplesGreatestRoundIsProposed.{GreatestRoundIsProposed};
 ghost use Rattle.cx_model.specs.ExamplesHeldSlotsAreForgotten.{HeldSlotsAreForgotten};
 ghost use Rattle.cx_model.specs.ExamplesKeptAppend.{KeptAppend};
 ghost use Rattle.cx_model.specs.ExamplesLateRequestsAreRefused.{LateRequestsAreRefused};
+ghost use Rattle.cx_model.specs.ExamplesLaterReadsWait.{LaterReadsWait};
 ghost use Rattle.cx_model.specs.ExamplesLaterRound.{LaterRound};
 ghost use Rattle.cx_model.specs.ExamplesLimits.{Limits};
 ghost use Rattle.cx_model.specs.ExamplesLowerNumberActs.{LowerNumberActs};
@@ -113,10 +116,28 @@ pub fn session()
     ensures { Session }
 {}
 
-/// A reader crashes and forgets the read in progress: an answer to it is not waited for. Asked again, the read begins anew,
-/// and then the late answers count.
+/// A reader crashes and forgets the running batch, but not its turn. Asked again, the read runs under the next turn, and
+/// answers to the earlier one do not count: they may be older than what is read.
 pub fn reader_forgets()
     ensures { ReaderForgets }
+{}
+
+/// Two reads come while a batch of an earlier one runs: they wait. When it is done, one asking serves both.
+pub fn later_reads_wait()
+    ensures { LaterReadsWait }
+{}
+
+/// The first read of the running batch is asked for again: the batch begins anew, under the next turn and with the read that
+/// waited. Answers to the turn before do not count. Another running read that is asked for again changes nothing, and one that
+/// waits waits on.
+pub fn first_read_again()
+    ensures { FirstReadAgain }
+{}
+
+/// A reader crashes inside the append of its turn. Where the turn was lost, nothing was asked under it, and it is the next
+/// one; where it was kept it is used up, though nobody was asked. A tick asks again under the same turn.
+pub fn cut_turn()
+    ensures { CutTurn }
 {}
 
 /// A client sends its command twice, and it is chosen in two slots. It acts once, and has the same answer again.
@@ -169,7 +190,7 @@ pub fn own_entry_stays()
 {}
 
 /// An acceptor's answer to a reader is late: since it was asked the round was retired, a value was chosen and the client
-/// has asked again. The reader does not count it, and the read sees the value.
+/// has asked again. The reader does not count it, since it is of an earlier turn, and the read sees the value.
 pub fn old_answer_is_not_counted()
     ensures { OldAnswerIsNotCounted }
 {}
