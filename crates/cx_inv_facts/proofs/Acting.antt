@@ -62,5 +62,5 @@ module _ (w : World) (act : Act) (me : RoleId) where
       (λ v first e q. absurd cc)
   act_kinds kind.Reader is =
       by_turn reader_rules w.cluster me w.kept w.roles.readers (λ t. SentAs kind.Reader t.sends) (nothing_sent _ _ kind.Reader) act
-      (λ v i cut e a. of_kind kind.Reader _ is (reader_kinds w.cluster me is v i))
+      (λ v i cut e a. of_kind kind.Reader _ is (reader_kinds w.cluster me is (durable_part reader_rules me w.kept) v i))
       (λ v first e q. absurd cc)

@@ -26,6 +26,7 @@ use Rattle.cx_model.specs.Matchmaker.{MatchmakerDurable, matchmaker_rules, match
 use Rattle.cx_model.specs.Member.{Member}
 use Rattle.cx_model.specs.Names.{names}
 use Rattle.cx_model.specs.Outcome.{Outcome, by_test, either_way}
+use Rattle.cx_model.specs.Reader.{reader_rules}
 use Rattle.cx_model.specs.Replica.{replica_rules}
 use Rattle.cx_model.specs.Request.{request}
 use Rattle.cx_model.specs.World.{run}
@@ -59,7 +60,7 @@ module _ (history longer : List KeptRecord) (more : (k : KeptRecord) → Member 
 
   says_more : (from : RoleId) (m : Msg) → AnswerSays history from m → AnswerSays longer from m
   says_more from (msg.MatchB i w entries) h = h
-  says_more from (msg.MatchReadAck t w entries) h = h
+  says_more from (msg.MatchReadAck u w entries) h = h
   says_more from (msg.Phase1B i cw votes) h = reached_more from cw h
   says_more from (msg.Informed i n) h = λ j l. promise_more from i (h j l)
   says_more from other h = tt
@@ -73,7 +74,7 @@ SendsNoAnswers other = Unit {0}
 
 no_answers : (history : List KeptRecord) (k : Kind) → SendsNoAnswers k → (from : RoleId) (m : Msg) → IsSender k m → AnswerSays history from m
 no_answers history k none from (msg.MatchB i w entries) s = absurd (subst SendsNoAnswers s none)
-no_answers history k none from (msg.MatchReadAck t w entries) s = absurd (subst SendsNoAnswers s none)
+no_answers history k none from (msg.MatchReadAck u w entries) s = absurd (subst SendsNoAnswers s none)
 no_answers history k none from (msg.Phase1B i cw votes) s = absurd (subst SendsNoAnswers s none)
 no_answers history k none from (msg.Informed i n) s = absurd (subst SendsNoAnswers s none)
 no_answers history k none from other s = tt
@@ -137,7 +138,7 @@ module _ (c : Cluster) (history : List KeptRecord) (sent : List Letter) (states 
       (by_test Told (same_round i voter.promise && nat_le n voter.cw) _ _
       (λ t. Member-one (SaysIn history) _ (promised_own i (and_parts (same_round i voter.promise) (nat_le n voter.cw) t).0))
       (λ f. Member-one (SaysIn (entry_by acceptor (kept.Water i n) ∷ history)) _ (λ j l. inr (n, inr (inl refl)))))
-  acceptor_told from (msg.PreRead t w) = Member-one (SaysIn history) _ tt
+  acceptor_told from (msg.PreRead u w) = Member-one (SaysIn history) _ tt
   acceptor_told from other = λ d m. absurd m
 
   acceptor_row-told : (i : Input) → Told (acceptor_row c acceptor voter tt i)
@@ -182,7 +183,7 @@ module _ (c : Cluster) (history : List KeptRecord) (sent : List Letter) (states 
       either_way Answers (is_before log.watermark i) _ _
       (Member-one (λ (d : Letter). AnswerSays (entry_by matchmaker (kept.Garbage i g) ∷ history) d.from d.msg) _ tt)
       (Member-one (λ (d : Letter). AnswerSays history d.from d.msg) _ tt)
-  matchmaker_told from (msg.MatchRead t) = Member-one (λ (d : Letter). AnswerSays history d.from d.msg) _ entry_there
+  matchmaker_told from (msg.MatchRead u) = Member-one (λ (d : Letter). AnswerSays history d.from d.msg) _ entry_there
   matchmaker_told from other = λ d n. absurd n
 
   matchmaker_row-told : (i : Input) → Answers (matchmaker_row c matchmaker log tt i)
@@ -217,7 +218,7 @@ answer_laws c = record {
   unbatcher = λ history sent states u i facts h is given.
       calm history sent states h (role kind.Unbatcher u) plain _ tt (unbatcher_kinds c (role kind.Unbatcher u) refl i);
   reader = λ history sent states r v i facts h is given.
-      calm history sent states h (role kind.Reader r) ReaderIn _ tt (reader_kinds c (role kind.Reader r) refl v i);
+      calm history sent states h (role kind.Reader r) ReaderIn _ tt (reader_kinds c (role kind.Reader r) refl (durable_of reader_rules (role kind.Reader r) history) v i);
 }
 
 pub answers_say : (c : Cluster) (es : List Event) → HoldsIn AnswersSay (run c es)

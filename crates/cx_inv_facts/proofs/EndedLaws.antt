@@ -28,6 +28,7 @@ use Rattle.cx_model.specs.Matchmaker.{matchmaker_rules}
 use Rattle.cx_model.specs.Member.{Member}
 use Rattle.cx_model.specs.Outcome.{Outcome}
 use Rattle.cx_model.specs.Promises.{HasKept, IsConfig}
+use Rattle.cx_model.specs.Reader.{reader_rules}
 use Rattle.cx_model.specs.Replica.{replica_rules}
 use Rattle.cx_model.specs.Request.{request}
 use Rattle.cx_inv_run.specs.Kinds.{IsSender, IsKept, OfKind}
@@ -252,5 +253,5 @@ module _ (i : Round) (cw end : ℕ) where
       unbatcher = λ history sent states u j known h at given.
           calm history sent states (h known.has) (role kind.Unbatcher u) plain _ (λ p. cc) (unbatcher_kinds c (role kind.Unbatcher u) refl j) tt;
       reader = λ history sent states r v j known h at given.
-          calm history sent states (h known.has) (role kind.Reader r) ReaderIn _ (λ p. cc) (reader_kinds c (role kind.Reader r) refl v j) tt;
+          calm history sent states (h known.has) (role kind.Reader r) ReaderIn _ (λ p. cc) (reader_kinds c (role kind.Reader r) refl (durable_of reader_rules (role kind.Reader r) history) v j) tt;
     }

@@ -12,6 +12,8 @@ use Rattle.cx_msg.specs.declared.input.Written.TheVariants as written
 use Rattle.cx_msg.specs.declared.kept.Record.{Record}
 use Rattle.cx_model.specs.Member.{Member}
 use Rattle.cx_model.specs.Outcome.{Outcome}
+use Rattle.cx_model.specs.Reader.{reader_rules}
+use Rattle.cx_model.specs.Replica.{replica_rules}
 use Rattle.cx_model.specs.World.{run}
 use Rattle.cx_inv_run.specs.Kinds.{OfKind}
 use Rattle.cx_inv_run.specs.Laws.{Lands, Laws}
@@ -20,7 +22,6 @@ use Rattle.cx_inv_run.proofs.Senders.{batcher_kinds, proxy_kinds, replica_kinds,
 use Rattle.cx_inv_run.proofs.Steps.{always}
 use Rattle.cx_inv_match.specs.Facts.{Facts}
 use Rattle.cx_inv_vote.proofs.Steps.{facts_hold}
-use Rattle.cx_model.specs.Replica.{replica_rules}
 use Rattle.cx_inv_facts.specs.Order.{Each, IsLaterChange, LaterOfOne, Ordered}
 use Rattle.cx_inv_facts.proofs.LeaderRows.{leader_next}
 use Rattle.cx_inv_facts.proofs.Next.{IsNext, AllNext, KeepsNoRounds, is_later, no_rounds, acceptor_next, matchmaker_next}
@@ -75,7 +76,7 @@ ordered_laws c = record {
   unbatcher = λ history sent states u i facts h is given.
       calm history sent states h (role kind.Unbatcher u) plain _ tt (unbatcher_kinds c (role kind.Unbatcher u) refl i);
   reader = λ history sent states r v i facts h is given.
-      calm history sent states h (role kind.Reader r) ReaderIn _ tt (reader_kinds c (role kind.Reader r) refl v i);
+      calm history sent states h (role kind.Reader r) ReaderIn _ tt (reader_kinds c (role kind.Reader r) refl (durable_of reader_rules (role kind.Reader r) history) v i);
 }
 
 pub ordered : (c : Cluster) (es : List Event) → HoldsIn Ordered (run c es)

@@ -21,6 +21,7 @@ use Rattle.cx_msg.specs.declared.input.KeptRecord.{KeptRecord}
 use Rattle.cx_model.specs.Acceptor.{acceptor_rules}
 use Rattle.cx_model.specs.Leader.{leader_rules}
 use Rattle.cx_model.specs.Matchmaker.{matchmaker_rules}
+use Rattle.cx_model.specs.Reader.{reader_rules}
 use Rattle.cx_model.specs.Request.{request}
 use Rattle.cx_model.specs.World.{run}
 use Rattle.cx_inv_run.specs.Laws.{Laws}
@@ -99,7 +100,7 @@ low_laws c = record {
   unbatcher = λ kept sent states u i known h is given.
       low_lands c kept sent states h (role kind.Unbatcher u) plain _ (calm_low c kept plain (role kind.Unbatcher u) _ tt tt (unbatcher_kinds c (role kind.Unbatcher u) refl i));
   reader = λ kept sent states r v i known h is given.
-      low_lands c kept sent states h (role kind.Reader r) ReaderIn _ (calm_low c kept ReaderIn (role kind.Reader r) _ tt tt (reader_kinds c (role kind.Reader r) refl v i));
+      low_lands c kept sent states h (role kind.Reader r) ReaderIn _ (calm_low c kept ReaderIn (role kind.Reader r) _ tt tt (reader_kinds c (role kind.Reader r) refl (durable_of reader_rules (role kind.Reader r) kept) v i));
 }
 
 -- the facts hold in every run

@@ -34,6 +34,7 @@ use Rattle.cx_model.specs.Names.{names}
 use Rattle.cx_model.specs.Ordered.{machine_ordered}
 use Rattle.cx_model.specs.Outcome.{Outcome, by_test, either_way}
 use Rattle.cx_model.specs.Promises.{appended, held_in}
+use Rattle.cx_model.specs.Reader.{reader_rules}
 use Rattle.cx_model.specs.Renewed.{IsOrdered, renewed_folds}
 use Rattle.cx_model.specs.Replica.{IsTied, Machine, ReplicaDurable, ReplicaVolatile, before, chosen_row, fetch_found, fetch_row, fetched_by, held, notes_of, pieces, read_row, replica_after, replica_renewed, replica_row, replica_rules, replica_takes, snap_mark}
 use Rattle.cx_model.specs.Request.{same_read}
@@ -351,7 +352,8 @@ stores_laws c = record {
   snap = λ history sent states p v first known h is e. snapped c history sent states h known.0 p v first is e;
   unbatcher = λ history sent states u i known h is given.
       elsewhere c history sent states h (role kind.Unbatcher u) plain _ (unbatcher_kinds c (role kind.Unbatcher u) refl i) (λ p. refl) (λ p. tt);
-  reader = λ history sent states r v i known h is given. elsewhere c history sent states h (role kind.Reader r) ReaderIn _ (reader_kinds c (role kind.Reader r) refl v i) (λ p. refl) (λ p. tt);
+  reader = λ history sent states r v i known h is given.
+      elsewhere c history sent states h (role kind.Reader r) ReaderIn _ (reader_kinds c (role kind.Reader r) refl (durable_of reader_rules (role kind.Reader r) history) v i) (λ p. refl) (λ p. tt);
 }
 
 module _ (low_facts : (c : Cluster) (es : List Event) → HoldsIn (LowFacts c) (run c es)) where

@@ -123,7 +123,7 @@ module _ (q : Requests) (c : Cluster) (history : List KeptRecord) (me : RoleId) 
       (listed_if (nat_lt s d.cw) _ _ (listed_answered plain _ tt tt) (listed_if (is_of i (vote_at s d.votes)) _ _ (plain_one _ _ _ tt) (keep_one _ _ _ _ says tt)))
   acceptor_takes_listed d h from to (msg.Inform i cw) says =
       listed_if (is_before i d.promise) _ _ (plain_one _ _ _ tt) (listed_if (same_round i d.promise && nat_le cw d.cw) _ _ (plain_one _ _ _ tt) (keep_one _ _ _ _ tt tt))
-  acceptor_takes_listed d h from to (msg.PreRead t w) says = plain_one _ _ _ tt
+  acceptor_takes_listed d h from to (msg.PreRead u w) says = plain_one _ _ _ tt
   acceptor_takes_listed d h from to other says = listed_answered plain _ tt tt
 
   pub acceptor_listed : (d : AcceptorDurable) → AreVotesAsked q d.votes → (i : Input) → Heard q history i → IsListed q history me plain (acceptor_row c me d tt i)
@@ -139,7 +139,7 @@ module _ (q : Requests) (c : Cluster) (history : List KeptRecord) (me : RoleId) 
       (listed_if (list_any (λ (e : Entry). is_before i e.round) d.entries) _ _ (plain_one _ _ _ tt)
       (listed_if (has_round i d.entries) _ _ (plain_one _ _ _ tt) (listed_if (nat_le 16 (length d.entries)) _ _ (plain_one _ _ _ tt) (keep_one _ _ _ _ tt tt))))
   matchmaker_takes_listed d from (msg.GarbageA i g) = listed_if (is_before d.watermark i) _ _ (keep_one _ _ _ _ tt tt) (plain_one _ _ _ tt)
-  matchmaker_takes_listed d from (msg.MatchRead t) = plain_one _ _ _ tt
+  matchmaker_takes_listed d from (msg.MatchRead u) = plain_one _ _ _ tt
   matchmaker_takes_listed d from other = listed_answered plain _ tt tt
 
   pub matchmaker_listed : (d : MatchmakerDurable) (i : Input) → IsListed q history me plain (matchmaker_row c me d tt i)

@@ -3,19 +3,19 @@ use Rattle.std.proofs.Common.{◌≡◌, ℕ, ◌+◌, ◌-◌, ◌≤◌, not, 
 use Rattle.std.specs.Prelude.{◌==◌, max, nat_lt, nat_le, slice_get, Option, None, Some}
 use Rattle.std.specs.List.{list_any}
 use Rattle.std.proofs.lemmas.List.{length-append, take_all}
-use Rattle.std.proofs.lemmas.Option.{same_Some}
 use Rattle.cx_base.specs.declared.cluster.Cluster.{Cluster}
 use Rattle.cx_base.specs.declared.command.Value.{Value}
 use Rattle.cx_base.specs.declared.role.Kind.TheVariants as kind
 use Rattle.cx_base.specs.declared.role.RoleId.{RoleId}
 use Rattle.cx_base.specs.declared.round.Round.{Round}
+use Rattle.cx_base.specs.declared.why.Why.{Why}
 use Rattle.cx_base.specs.Fold.{fold, text_at}
 use Rattle.cx_base.specs.Lists.{below}
 use Rattle.cx_base.specs.Log.{ready_values}
 use Rattle.cx_base.specs.Role.{role, same_role}
 use Rattle.cx_base.specs.Round.{same_round}
+use Rattle.cx_field.specs.declared.parts.Asking.{Asking}
 use Rattle.cx_field.specs.declared.parts.Entry.{Entry}
-use Rattle.cx_field.specs.declared.parts.Token.{Token}
 use Rattle.cx_msg.specs.Letter.{Letter}
 use Rattle.cx_msg.specs.declared.input.Input.{Input}
 use Rattle.cx_msg.specs.declared.input.Input.TheVariants.{Take, Tick, Order}
@@ -30,7 +30,7 @@ use Rattle.cx_model.specs.Member.{Member}
 use Rattle.cx_model.specs.Names.{names}
 use Rattle.cx_model.specs.Outcome.{Outcome, either_way}
 use Rattle.cx_model.specs.Reader as reader
-use Rattle.cx_model.specs.Reader.{Reading, ReaderVolatile, token}
+use Rattle.cx_model.specs.Reader.{Asked, Batch, ReaderDurable, ReaderVolatile, token}
 use Rattle.cx_model.specs.Replica as replica
 use Rattle.cx_model.specs.Replica.{IsTied, Machine, ReplicaDurable, ReplicaVolatile, held, machine_from, machine_of, replica_after, replica_rules}
 use Rattle.cx_model.specs.Request.{same_read}
@@ -38,7 +38,7 @@ use Rattle.cx_inv_run.specs.States.{ReplicaIn, ReaderIn, entry_by, durable_of, l
 use Rattle.cx_inv_run.proofs.Histories.{log_own}
 use Rattle.cx_inv_run.proofs.Members.{Member-both, Member-one, Member-filter}
 use Rattle.cx_inv_run.proofs.Tying.{held_is, tied_more}
-use Rattle.cx_inv_list.specs.Told.{Requests, Wants, IsTold, ListSays, InList, IsListed}
+use Rattle.cx_inv_list.specs.Told.{AreWanted, BatchWanted, Requests, Wants, IsTold, ListSays, InList, IsListed}
 use Rattle.cx_inv_list.proofs.Listed.{Sends, Heard, listed_if, listed_answered, listed_replied, one_send, each_send, both_send}
 use Rattle.cx_inv_list.proofs.Right.{are_at, log_right, results_right, map_is_fold}
 
@@ -48,82 +48,94 @@ module _ (q : Requests) (c : Cluster) (history : List KeptRecord) (me : RoleId) 
   abbrev ReaderListed : Outcome ReaderVolatile → Type 0
   ReaderListed o = IsListed q history me ReaderIn o
 
-  abbrev IsWanted : Reading → Type 0
-  IsWanted r = q.wanted r.token r.key
+  abbrev IsWanted : Asked → Type 0
+  IsWanted r = q.wanted r.read r.key
 
-  abbrev AreWanted : List Reading → Type 0
-  AreWanted rs = (r : Reading) → Member r rs → q.wanted r.token r.key
+  both_wanted : (rs more : List Asked) → AreWanted q rs → AreWanted q more → AreWanted q (rs ++ more)
+  both_wanted rs more h k = Member-both IsWanted rs more h k
 
-  with_wanted : (one : Reading) → IsWanted one → (rs : List Reading) → AreWanted rs → AreWanted (reader.with_reading one rs)
-  with_wanted one new [] h = λ r m. Member-one (λ (x : Reading). q.wanted x.token x.key) one new r m
+  with_wanted : (one : Asked) → IsWanted one → (rs : List Asked) → AreWanted q rs → AreWanted q (reader.with_asked one rs)
+  with_wanted one new [] h = λ r m. absurd m
   with_wanted one new (x ∷ rs) h =
-      either_way (λ (l : List Reading). (r : Reading) → Member r l → q.wanted r.token r.key) (same_read one.token x.token) (one ∷ rs) (x ∷ reader.with_reading one rs)
-      (λ r m. ⊎_elim (λ e. subst (λ (y : Reading). q.wanted y.token y.key) (sym e) new) (λ k. h r (inr k)) m)
+      either_way (λ (l : List Asked). AreWanted q l) (same_read one.read x.read) (one ∷ rs) (x ∷ reader.with_asked one rs)
+      (λ r m. ⊎_elim (λ e. subst (λ (y : Asked). IsWanted y) (sym e) new) (λ k. h r (inr k)) m)
       (λ r m. ⊎_elim (λ e. h r (inl e)) (with_wanted one new rs (λ y k. h y (inr k)) r) m)
 
-  reading_wanted : (t : Token) (rs : List Reading) → AreWanted rs → (r : Reading) → reader.reading_of t rs ≡ Some r → q.wanted r.token r.key
-  reading_wanted t [] h r e = cc
-  reading_wanted t (x ∷ rs) h r e =
-      either_way (λ (o : Option Reading). o ≡ Some r → q.wanted r.token r.key) (same_read t x.token) (Some x) (reader.reading_of t rs)
-      (λ k. subst (λ (y : Reading). q.wanted y.token y.key) (same_Some x r k) (h x (inl refl)))
-      (reading_wanted t rs (λ y m. h y (inr m)) r) e
+  asks_listed : (longer : List KeptRecord) (turn : ℕ) → Sends q longer (reader.ask_matchmakers c me turn)
+  asks_listed longer turn = each_send q longer (reader.match_read_to me (reader.asking_of me turn)) (matchmakers c) (λ m k. tt)
 
-  without_wanted : (t : Token) (rs : List Reading) → AreWanted rs → AreWanted (reader.without_reading t rs)
-  without_wanted t rs h r m = h r (Member-filter (λ (x : Reading). not (same_read t x.token)) r rs m).0
+  batch_listed : (longer : List KeptRecord) (b : Batch) (n : ℕ) → AreWanted q b.reads → Sends q longer (reader.ask_replicas me b n)
+  batch_listed longer b n h = each_send q longer (reader.read_to me n) b.reads (λ r m. h r m)
 
-  asks_listed : (t : Token) → Sends q history (reader.ask_matchmakers c me t)
-  asks_listed t = each_send q history (reader.match_read_to me t) (matchmakers c) (λ m k. tt)
+  module _ (d : ReaderDurable) (v : ReaderVolatile) (waiting : AreWanted q v.waiting) where
+    begin_listed : (w : Why) (first : List Letter) (rs : List Asked) → ((longer : List KeptRecord) → Sends q longer first) → AreWanted q rs
+        → ReaderListed (reader.begin c me d w first rs)
+    begin_listed w first rs says h =
+        let longer : List KeptRecord = entry_by me (kept.Turn (d.turn + 1)) ∷ history in
+        record { state = ((λ r m. absurd m), h); keeps = tt; sends = both_send q longer first (reader.ask_matchmakers c me (d.turn + 1)) (says longer) (asks_listed longer (d.turn + 1)) }
 
-  read_req_listed : (v : ReaderVolatile) → AreWanted v.reads → (one : Reading) → IsWanted one → (o : Option Reading) → ReaderListed (reader.read_req_over c me v one o)
-  read_req_listed v h one new None =
-      listed_if (nat_le 64 (length v.reads)) _ _ (listed_answered ReaderIn _ _ h) (listed_replied ReaderIn _ _ _ (with_wanted one new v.reads h) (asks_listed one.token))
-  read_req_listed v h one new (Some old) = listed_replied ReaderIn _ _ _ (with_wanted one new v.reads h) (asks_listed one.token)
+    begin_if_listed : BatchWanted q v.running → (w : Why) (rs : List Asked) → AreWanted q rs → ReaderListed (reader.begin_if c me d v w rs)
+    begin_if_listed batch w rs h = listed_if (d.turn == reader.last_turn) _ _ (listed_answered ReaderIn _ _ (waiting, batch)) (begin_listed w [] rs (λ longer x m. absurd m) h)
 
-  send_read_listed : (v : ReaderVolatile) → AreWanted v.reads → (r : Reading) → IsWanted r → (n : ℕ) → ReaderListed (reader.send_read me v r n)
-  send_read_listed v h r new n = listed_replied ReaderIn _ _ _ (without_wanted r.token v.reads h) (one_send q history me _ _ new)
+    request_listed : BatchWanted q v.running → (one : Asked) → IsWanted one → ReaderListed (reader.request_row c me d v one)
+    request_listed batch one new =
+        listed_if (reader.is_among one.read v.waiting) _ _ (listed_answered ReaderIn _ _ (with_wanted one new v.waiting waiting, batch)) (over v.running batch)
+      where
+        later : AreWanted q (v.waiting ++ one ∷ [])
+        later = both_wanted v.waiting (one ∷ []) waiting (Member-one IsWanted one new)
 
-  read_matched_listed : (v : ReaderVolatile) → AreWanted v.reads → (r : Reading) → IsWanted r → (es : List Entry) → ReaderListed (reader.read_matched c me v r es)
-  read_matched_listed v h r new [] = send_read_listed v h r new 0
-  read_matched_listed v h r new (e ∷ es) =
-      listed_replied ReaderIn _ _ _ (with_wanted r new v.reads h) (each_send q history (reader.pre_read_to me r) (members_of c (e ∷ es)) (λ a m. tt))
+        over : (o : Option Batch) → BatchWanted q o → ReaderListed (reader.request_over c me d v one o)
+        over None h = listed_if (nat_le 64 (length v.waiting)) _ _ (listed_answered ReaderIn _ _ (waiting, batch)) (begin_if_listed batch _ _ later)
+        over (Some b) h =
+            listed_if (reader.is_first one.read b.reads) _ _ (begin_if_listed batch _ _ (both_wanted (reader.with_asked one b.reads) v.waiting (with_wanted one new b.reads h) waiting))
+            (listed_if (reader.is_among one.read b.reads) _ _ (listed_answered ReaderIn _ _ (waiting, batch))
+            (listed_if (nat_le 64 (length v.waiting + length b.reads)) _ _ (listed_answered ReaderIn _ _ (waiting, batch)) (listed_answered ReaderIn _ _ (later, batch))))
 
-  match_ack_counted_listed : (v : ReaderVolatile) → AreWanted v.reads → (r : Reading) → IsWanted r → ReaderListed (reader.match_ack_counted c me v r)
-  match_ack_counted_listed v h r new =
-      listed_if (reader.is_matched c r) _ _ (read_matched_listed v h r new (live_entries r.told)) (listed_answered ReaderIn _ _ (with_wanted r new v.reads h))
+    finish_listed : (b : Batch) → AreWanted q b.reads → (n : ℕ) → ReaderListed (reader.finish c me d v b n)
+    finish_listed b h n =
+        listed_if (nat_lt 0 (length v.waiting) && not (d.turn == reader.last_turn)) _ _ (begin_listed _ (reader.ask_replicas me b n) v.waiting (λ longer. batch_listed longer b n h) waiting)
+        (listed_replied ReaderIn _ _ _ (waiting, tt) (batch_listed history b n h))
 
-  match_ack_listed : (v : ReaderVolatile) → AreWanted v.reads → (from : RoleId) (w : Round) (es : List Entry) (o : Option Reading)
-      → ((r : Reading) → o ≡ Some r → q.wanted r.token r.key) → ReaderListed (reader.match_ack_row c me v from w es o)
-  match_ack_listed v h from w es None there = listed_answered ReaderIn _ _ h
-  match_ack_listed v h from w es (Some r) there =
-      listed_if (reader.is_matched c r) _ _ (listed_answered ReaderIn _ _ h)
-      (listed_if (is_counted from.index r.told) _ _ (listed_answered ReaderIn _ _ h)
-      (match_ack_counted_listed v h (record r { told = r.told ++ record { matchmaker = from.index; watermark = w; entries = es } ∷ [] }) (there r refl)))
+    matched_listed : (b : Batch) → AreWanted q b.reads → (es : List Entry) → ReaderListed (reader.matched c me d v b es)
+    matched_listed b h [] = finish_listed b h 0
+    matched_listed b h (e ∷ es) = listed_replied ReaderIn _ _ _ (waiting, h) (each_send q history (reader.pre_read_to me b) (members_of c (e ∷ es)) (λ a m. tt))
 
-  pre_read_counted_listed : (v : ReaderVolatile) → AreWanted v.reads → (r : Reading) → IsWanted r → ReaderListed (reader.pre_read_counted me v r)
-  pre_read_counted_listed v h r new =
-      listed_if (rows_whole (live_entries r.told) (reader.acked_by r.acks)) _ _ (send_read_listed v h r new (reader.greatest_mark r.acks))
-      (listed_answered ReaderIn _ _ (with_wanted r new v.reads h))
+    match_ack_listed : BatchWanted q v.running → (from : RoleId) (u : Asking) (w : Round) (es : List Entry) (o : Option Batch) → BatchWanted q o
+        → ReaderListed (reader.match_ack_row c me d v from u w es o)
+    match_ack_listed batch from u w es None h = listed_answered ReaderIn _ _ (waiting, batch)
+    match_ack_listed batch from u w es (Some b) h =
+        let one : Batch = record b { told = b.told ++ record { matchmaker = from.index; watermark = w; entries = es } ∷ [] } in
+        listed_if (not (reader.is_of_batch me b u && not (reader.is_matched c b))) _ _ (listed_answered ReaderIn _ _ (waiting, batch))
+        (listed_if (is_counted from.index b.told) _ _ (listed_answered ReaderIn _ _ (waiting, batch))
+        (listed_if (reader.is_matched c one) _ _ (matched_listed one h (live_entries one.told)) (listed_answered ReaderIn _ _ (waiting, h))))
 
-  pre_read_listed : (v : ReaderVolatile) → AreWanted v.reads → (from : RoleId) (w : Round) (n : ℕ) (o : Option Reading)
-      → ((r : Reading) → o ≡ Some r → q.wanted r.token r.key) → ReaderListed (reader.pre_read_ack_row c me v from w n o)
-  pre_read_listed v h from w n None there = listed_answered ReaderIn _ _ h
-  pre_read_listed v h from w n (Some r) there =
-      listed_if (not (reader.is_matched c r && is_member_of (live_entries r.told) from.index)) _ _ (listed_answered ReaderIn _ _ h)
-      (listed_if (not (same_round w (greatest_watermark r.told))) _ _ (listed_answered ReaderIn _ _ h)
-      (listed_if (reader.has_acked from.index r.acks) _ _ (listed_answered ReaderIn _ _ h)
-      (pre_read_counted_listed v h (record r { acks = r.acks ++ record { acceptor = from.index; mark = n } ∷ [] }) (there r refl))))
+    pre_read_listed : BatchWanted q v.running → (from : RoleId) (u : Asking) (w : Round) (n : ℕ) (o : Option Batch) → BatchWanted q o
+        → ReaderListed (reader.pre_read_ack_row c me d v from u w n o)
+    pre_read_listed batch from u w n None h = listed_answered ReaderIn _ _ (waiting, batch)
+    pre_read_listed batch from u w n (Some b) h =
+        let one : Batch = record b { acks = b.acks ++ record { acceptor = from.index; mark = n } ∷ [] } in
+        listed_if (not (reader.is_of_batch me b u && reader.is_matched c b && is_member_of (live_entries b.told) from.index)) _ _ (listed_answered ReaderIn _ _ (waiting, batch))
+        (listed_if (not (same_round w (greatest_watermark b.told))) _ _ (listed_answered ReaderIn _ _ (waiting, batch))
+        (listed_if (reader.has_acked from.index b.acks) _ _ (listed_answered ReaderIn _ _ (waiting, batch))
+        (listed_if (rows_whole (live_entries one.told) (reader.acked_by one.acks)) _ _ (finish_listed one h (reader.greatest_mark one.acks)) (listed_answered ReaderIn _ _ (waiting, h)))))
 
-  reader_takes_listed : (v : ReaderVolatile) → AreWanted v.reads → (from to : RoleId) (m : Msg) → ListSays q history from to m → ReaderListed (reader.reader_takes c me v from m)
-  reader_takes_listed v h from to (msg.ReadReq seq r key) says =
-      read_req_listed v h (reader.reading (token from.index seq) r key) says (reader.reading_of (token from.index seq) v.reads)
-  reader_takes_listed v h from to (msg.MatchReadAck t w es) says = match_ack_listed v h from w es (reader.reading_of t v.reads) (λ r e. reading_wanted t v.reads h r e)
-  reader_takes_listed v h from to (msg.PreReadAck t w n) says = pre_read_listed v h from w n (reader.reading_of t v.reads) (λ r e. reading_wanted t v.reads h r e)
-  reader_takes_listed v h from to other says = listed_answered ReaderIn _ _ h
+    takes_listed : BatchWanted q v.running → (from to : RoleId) (m : Msg) → ListSays q history from to m → ReaderListed (reader.reader_takes c me d v from m)
+    takes_listed batch from to (msg.ReadReq seq r key) says = request_listed batch (reader.asked_for (token from.index seq) r key) says
+    takes_listed batch from to (msg.MatchReadAck u w es) says = match_ack_listed batch from u w es v.running batch
+    takes_listed batch from to (msg.PreReadAck u w n) says = pre_read_listed batch from u w n v.running batch
+    takes_listed batch from to other says = listed_answered ReaderIn _ _ (waiting, batch)
 
-  pub reader_listed : (v : ReaderVolatile) → InList q (ReaderIn v) → (i : Input) → Heard q history i → IsListed q history me ReaderIn (reader.reader_row c me tt v i)
-  reader_listed v h (Take l) says = listed_if (same_role l.to me && names c l) _ _ (reader_takes_listed v h l.from l.to l.msg says) (listed_answered ReaderIn _ _ h)
-  reader_listed v h Tick says = listed_answered ReaderIn _ _ h
-  reader_listed v h (Order order) says = listed_answered ReaderIn _ _ h
+    tick_listed : BatchWanted q v.running → (o : Option Batch) → ReaderListed (reader.reader_tick c me v o)
+    tick_listed batch None = listed_answered ReaderIn _ _ (waiting, batch)
+    tick_listed batch (Some b) =
+        listed_replied ReaderIn _ _ _ (waiting, batch)
+        (either_way (Sends q history) (reader.is_matched c b) (reader.ask_acceptors c me b) (reader.ask_matchmakers c me b.turn)
+        (each_send q history (reader.pre_read_to me b) (members_of c (live_entries b.told)) (λ a m. tt)) (asks_listed history b.turn))
+
+  pub reader_listed : (d : ReaderDurable) (v : ReaderVolatile) → InList q (ReaderIn v) → (i : Input) → Heard q history i → IsListed q history me ReaderIn (reader.reader_row c me d v i)
+  reader_listed d v h (Take l) says = listed_if (same_role l.to me && names c l) _ _ (takes_listed d v h.0 h.1 l.from l.to l.msg says) (listed_answered ReaderIn _ _ h)
+  reader_listed d v h Tick says = tick_listed d v h.0 h.1 v.running
+  reader_listed d v h (Order order) says = listed_answered ReaderIn _ _ h
 
 -- what a replica with these values answers to a read
 told_now : (q : Requests) (history : List KeptRecord) (p : ℕ) (log : List Value) → log_in history p ≡ log → (n : ℕ) (m : Machine) → n ≡ length log → m ≡ machine_of log

@@ -19,7 +19,7 @@ use Rattle.cx_model.specs.Leader.{leader_rules}
 use Rattle.cx_model.specs.Matchmaker.{matchmaker_rules}
 use Rattle.cx_model.specs.Member.{Member}
 use Rattle.cx_model.specs.Promises.{WasRead, WasSession}
-use Rattle.cx_model.specs.Reader.{token}
+use Rattle.cx_model.specs.Reader.{reader_rules, token}
 use Rattle.cx_model.specs.Request.{request, token_of}
 use Rattle.cx_model.specs.World.{World, change, step, run_from, run}
 use Rattle.cx_inv_run.specs.Laws.{Laws, heard_of, AllAllowed}
@@ -64,7 +64,7 @@ fresh_in q c kind.Acceptor = tt
 fresh_in q c kind.Matchmaker = tt
 fresh_in q c kind.Replica = λ r m. absurd m
 fresh_in q c kind.Unbatcher = tt
-fresh_in q c kind.Reader = λ r m. absurd m
+fresh_in q c kind.Reader = (λ r m. absurd m, tt)
 
 -- one role's new state, and nothing else
 new_state : (q : Requests) (history : List KeptRecord) (sent : List Letter) (states : RoleId → State) → ListFacts q history sent states
@@ -121,7 +121,7 @@ list_laws q c = record {
       (unbatcher_listed q c history (role kind.Unbatcher u) i (heard q history sent facts.says (role kind.Unbatcher u) i given));
   reader = λ history sent states r v i known facts e given.
       listed_lands q history sent states facts (role kind.Reader r) ReaderIn _
-      (reader_listed q c history (role kind.Reader r) v (running_in q history sent states facts (role kind.Reader r) (ReaderIn v) e) i (heard q history sent facts.says (role kind.Reader r) i given));
+      (reader_listed q c history (role kind.Reader r) (durable_of reader_rules (role kind.Reader r) history) v (running_in q history sent states facts (role kind.Reader r) (ReaderIn v) e) i (heard q history sent facts.says (role kind.Reader r) i given));
 }
 
 -- the events of a run only grow

@@ -23,7 +23,7 @@ use Rattle.cx_model.specs.declared.states.Promised.{Promised}
 use Rattle.cx_model.specs.CommandList.{IsRight}
 use Rattle.cx_model.specs.Member.{Member}
 use Rattle.cx_model.specs.Outcome.{Outcome}
-use Rattle.cx_model.specs.Reader.{Reading, token}
+use Rattle.cx_model.specs.Reader.{Asked, Batch, token}
 use Rattle.cx_inv_run.specs.States.{State, Down, Plain, BatcherIn, LeaderIn, ProxyIn, ReplicaIn, ReaderIn, with_record, log_in}
 
 -- What may be said of the commands that were asked for, of the keys of the reads that were, and of those of sessions.
@@ -73,6 +73,14 @@ abbrev pub ListKeeps : Requests → Written → Type 0
 ListKeeps q (written.Record (kept.Vote i s cw v)) = AreAsked q (commands_of v)
 ListKeeps q other = Unit {0}
 
+-- the keys of these reads, and of a batch's, were asked for
+abbrev pub AreWanted : Requests → List Asked → Type 0
+AreWanted q rs = (r : Asked) → Member r rs → q.wanted r.read r.key
+
+abbrev pub BatchWanted : Requests → Option Batch → Type 0
+BatchWanted q None = Unit {0}
+BatchWanted q (Some b) = AreWanted q b.reads
+
 abbrev pub InList : Requests → State → Type 0
 InList q Down = Unit {0}
 InList q Plain = Unit {0}
@@ -81,7 +89,7 @@ InList q (LeaderIn v) =
     ((p : Promised) → Member p v.promises → AreVotesAsked q p.votes) × ((p : Placed) → Member p v.proposed → AreAsked q (commands_of p.value))
 InList q (ProxyIn v) = (p : Pending) → Member p v.pending → AreAsked q (commands_of p.value)
 InList q (ReplicaIn v) = (r : Deferred) → Member r v.deferred → Wants q r.token r.key
-InList q (ReaderIn v) = (r : Reading) → Member r v.reads → q.wanted r.token r.key
+InList q (ReaderIn v) = AreWanted q v.waiting × BatchWanted q v.running
 
 -- all of a moment
 pub record ListFacts (q : Requests) (history : List KeptRecord) (sent : List Letter) (states : RoleId → State) : Type 0 where

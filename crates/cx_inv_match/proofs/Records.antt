@@ -488,6 +488,25 @@ module _ (c : Cluster) (history : List KeptRecord) (sent : List Letter) (states 
       (old_voted c history sent states facts me (kept.Log new) grows_log no)
       each_value
 
+-- a reader's turn: it names nothing that a fact names
+
+module _ (c : Cluster) (history : List KeptRecord) (sent : List Letter) (states : RoleId → State) (facts : Facts c history sent states)
+    (me : RoleId) (n : ℕ) where
+  pub grows_turn : Grows history sent (entry_by me (kept.Turn n) ∷ history) sent
+  grows_turn = grows_else history sent me (kept.Turn n) no no (λ m k j h l x y. old_matches me (kept.Turn n) history no m j h y)
+
+  pub keep_turn : Facts c (entry_by me (kept.Turn n) ∷ history) sent (set_state me Down states)
+  keep_turn = kept_facts c history sent states facts me (kept.Turn n) grows_turn
+      (old_owner c history sent states facts me (kept.Turn n) grows_turn no)
+      (old_one_grid c history sent states facts me (kept.Turn n) grows_turn no)
+      (old_last c history sent states facts me (kept.Turn n) grows_turn no refl)
+      (old_asked c history sent states facts me (kept.Turn n) grows_turn no)
+      (old_garbaged c history sent states facts me (kept.Turn n) grows_turn no)
+      (old_logs c history sent states facts me (kept.Turn n) grows_turn no no refl)
+      (old_acceptors c history sent states facts me (kept.Turn n) grows_turn no no no refl)
+      (old_voted c history sent states facts me (kept.Turn n) grows_turn no)
+      (old_logged c history sent states facts me (kept.Turn n) grows_turn refl)
+
 -- a round
 
 module _ (c : Cluster) (history : List KeptRecord) (sent : List Letter) (states : RoleId → State) (facts : Facts c history sent states)

@@ -30,7 +30,7 @@ use Rattle.cx_model.specs.Leader.{LeaderVolatile, leader_rules, round_of, is_idl
 use Rattle.cx_model.specs.Matchmaker.{MatchmakerDurable, matchmaker_rules, entry}
 use Rattle.cx_model.specs.Member.{Member}
 use Rattle.cx_model.specs.Promises.{HasKept, IsConfig}
-use Rattle.cx_model.specs.Reader.{ReaderVolatile, Reading, is_matched}
+use Rattle.cx_model.specs.Reader.{Batch, ReaderVolatile, is_matched}
 use Rattle.cx_inv_run.specs.States.{State, Down, Plain, BatcherIn, LeaderIn, ProxyIn, ReplicaIn, ReaderIn, durable_of, log_in}
 use Rattle.cx_inv_match.specs.Words.{HasMatch, HasGarbage, HasMark, HasPromise, HasLow, IsChosenIn, IsChosen, IsMatched, IsSafe, IsCollected, IsAnswer, IsPromise}
 
@@ -117,9 +117,9 @@ pub record IsPending (history : List KeptRecord) (sent : List Letter) (p : Pendi
   pub done : p.done ≡ true → IsChosenIn history p.round p.slot p.value
   pub window : p.cw ≤ p.slot
 
--- before enough matchmakers answered, no acceptor's answer is counted for a read
+-- before enough matchmakers answered, no acceptor's answer is counted for a batch
 abbrev pub AreAsking : Cluster → ReaderVolatile → Type 0
-AreAsking c v = (r : Reading) → Member r v.reads → is_matched c r ≡ false → (a : Acked) → Member a r.acks → ⊥
+AreAsking c v = (b : Batch) → v.running ≡ Some b → is_matched c b ≡ false → (a : Acked) → Member a b.acks → ⊥
 
 -- What is known of a running role: what it counted, holds pending or knows came to it in datagrams, and what else its rows rest on.
 abbrev pub InState : Cluster → List KeptRecord → List Letter → RoleId → State → Type 0

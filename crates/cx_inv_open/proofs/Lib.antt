@@ -6,6 +6,7 @@ pub mod Matchmakers
 pub mod Places
 pub mod Plans
 pub mod Proxies
+pub mod Readers
 pub mod Refused
 pub mod Replicas
 pub mod Steps

@@ -106,10 +106,6 @@ unbatcher_step : {A : Type 0} (c : Cluster) (me : RoleId) (w : Written) (ks : Li
 unbatcher_step c me (written.Record r) ks h = absurd h
 unbatcher_step c me (written.Snap first) ks h = absurd h
 
-reader_step : {A : Type 0} (c : Cluster) (me : RoleId) (w : Written) (ks : List KeptRecord) → FitsAs c me w ks kind.Reader → A
-reader_step c me (written.Record r) ks h = absurd h
-reader_step c me (written.Snap first) ks h = absurd h
-
 leader_step : (c : Cluster) (me : RoleId) (w : Written) (ks : List KeptRecord) → FitsAs c me w ks kind.Leader → StepFits leader_rules c me ks w
 leader_step c me (written.Record r) ks h = h
 leader_step c me (written.Snap first) ks h = absurd h
@@ -121,6 +117,10 @@ acceptor_step c me (written.Snap first) ks h = absurd h
 matchmaker_step : (c : Cluster) (me : RoleId) (w : Written) (ks : List KeptRecord) → FitsAs c me w ks kind.Matchmaker → StepFits matchmaker_rules c me ks w
 matchmaker_step c me (written.Record r) ks h = h
 matchmaker_step c me (written.Snap first) ks h = absurd h
+
+reader_step : (c : Cluster) (me : RoleId) (w : Written) (ks : List KeptRecord) → FitsAs c me w ks kind.Reader → StepFits reader_rules c me ks w
+reader_step c me (written.Record r) ks h = h
+reader_step c me (written.Snap first) ks h = absurd h
 
 -- the floors that a replica was told
 
@@ -159,4 +159,4 @@ none_refused c kept h me told =
     go kind.Matchmaker is = accepted_as matchmaker_rules c me refl kind.Matchmaker is (matchmaker_step c me) (reverse kept) h
     go kind.Replica is = replica_accepted c me is (reverse kept) (told is) h
     go kind.Unbatcher is = accepted_as unbatcher_rules c me refl kind.Unbatcher is (λ w ks x. unbatcher_step c me w ks x) (reverse kept) h
-    go kind.Reader is = accepted_as reader_rules c me refl kind.Reader is (λ w ks x. reader_step c me w ks x) (reverse kept) h
+    go kind.Reader is = accepted_as reader_rules c me refl kind.Reader is (reader_step c me) (reverse kept) h

@@ -12,9 +12,9 @@ use Rattle.cx_model.specs.Promises.{OfEveryRun}
 use Rattle.cx_model.specs.Request.{request}
 use Rattle.cx_model.specs.World.{run}
 use Rattle.cx_inv_run.specs.Laws.{Laws}
-use Rattle.cx_inv_run.specs.States.{State, Down, BatcherIn, LeaderIn, ReaderIn, plain, fresh_state, Property, HoldsIn}
-use Rattle.cx_inv_run.proofs.Senders.{batcher_kinds, unbatcher_kinds, reader_kinds}
-use Rattle.cx_inv_run.proofs.Sends.{batcher_keeps, unbatcher_keeps, reader_keeps}
+use Rattle.cx_inv_run.specs.States.{State, Down, BatcherIn, LeaderIn, plain, fresh_state, Property, HoldsIn}
+use Rattle.cx_inv_run.proofs.Senders.{batcher_kinds, unbatcher_kinds}
+use Rattle.cx_inv_run.proofs.Sends.{batcher_keeps, unbatcher_keeps}
 use Rattle.cx_inv_run.specs.Ties.{Ties}
 use Rattle.cx_inv_run.proofs.Steps.{always}
 use Rattle.cx_inv_run.proofs.TieLaws.{ties_hold}
@@ -30,6 +30,7 @@ use Rattle.cx_inv_open.proofs.Leaders.{leader_lands}
 use Rattle.cx_inv_open.proofs.Matchmakers.{matchmaker_lands}
 use Rattle.cx_inv_open.proofs.Places.{leader_place}
 use Rattle.cx_inv_open.proofs.Proxies.{proxy_lands}
+use Rattle.cx_inv_open.proofs.Readers.{reader_lands}
 use Rattle.cx_inv_open.proofs.Refused.{none_refused}
 use Rattle.cx_inv_open.proofs.Replicas.{replica_lands, snapped}
 use Rattle.cx_inv_open.proofs.Told.{run_told}
@@ -79,10 +80,7 @@ fitting_laws c = record {
       let me = role kind.Unbatcher u in
       let kinds = unbatcher_kinds c me refl i in
       lands c kept sent states h me plain _ (none_new c kept me (λ r k. unbatcher_keeps r k) _ kinds.keeps) tt (calm_in me _ tt kinds);
-  reader = λ kept sent states r v i known h is given.
-      let me = role kind.Reader r in
-      let kinds = reader_kinds c me refl v i in
-      lands c kept sent states h me ReaderIn _ (none_new c kept me (λ r k. reader_keeps r k) _ kinds.keeps) tt (calm_in me _ tt kinds);
+  reader = λ kept sent states r v i known h is given. reader_lands c kept sent states h r v i;
 }
 
 pub fitting : (c : Cluster) (es : List Event) → HoldsIn (Fitting c) (run c es)

@@ -1,72 +1,59 @@
 -- In every run that goes on from one in which a read was not asked for, the facts on the read hold.
-use Rattle.std.proofs.Common.{◌≡◌, ℕ, false, ◌⊎◌, List, [], ◌∷◌, ◌++◌, reverse, inl, inr, sym, subst, ◌∙◌, refl}
+use Rattle.std.proofs.Common.{◌≡◌, ℕ, false, ◌⊎◌, List, [], ◌∷◌, ◌++◌, reverse, Option, None, Some, inl, inr, sym, subst, ◌∙◌, refl}
 use Rattle.std.proofs.lemmas.Bool.{true≢false}
 use Rattle.cx_base.specs.declared.cluster.Cluster.{Cluster}
-use Rattle.cx_base.specs.declared.command.Command.{Command}
 use Rattle.cx_base.specs.declared.event.Event.{Event}
-use Rattle.cx_base.specs.declared.event.Event.TheVariants as event
 use Rattle.cx_base.specs.declared.role.Kind.{Kind}
 use Rattle.cx_base.specs.declared.role.Kind.TheVariants as kind
 use Rattle.cx_base.specs.declared.role.RoleId.{RoleId}
 use Rattle.cx_base.specs.declared.round.Round.{Round}
 use Rattle.cx_base.specs.Role.{role}
+use Rattle.cx_field.specs.declared.parts.Asking.{Asking}
 use Rattle.cx_field.specs.declared.parts.Token.{Token}
-use Rattle.cx_msg.specs.Letter.{Letter, letter}
+use Rattle.cx_msg.specs.Letter.{Letter}
 use Rattle.cx_msg.specs.declared.input.KeptRecord.{KeptRecord}
 use Rattle.cx_msg.specs.declared.message.Msg.{Msg}
 use Rattle.cx_msg.specs.declared.message.Msg.TheVariants as msg
 use Rattle.cx_model.specs.History.{was_asked}
 use Rattle.cx_model.specs.Leader.{leader_rules}
+use Rattle.cx_model.specs.Reader.{Batch}
 use Rattle.cx_model.specs.Replica.{replica_rules}
 use Rattle.cx_model.specs.Request.{request}
 use Rattle.cx_model.specs.World.{World, change, step, run, run_from}
 use Rattle.cx_inv_run.specs.Laws.{Laws, AllAllowed, HoldsAlong}
-use Rattle.cx_inv_run.specs.States.{State, Down, BatcherIn, LeaderIn, ProxyIn, ReplicaIn, plain, fresh_state, states_of, snap_by, durable_of, HoldsIn}
+use Rattle.cx_inv_run.specs.States.{State, Down, BatcherIn, LeaderIn, ProxyIn, ReplicaIn, ReaderIn, plain, fresh_state, states_of, snap_by, durable_of, HoldsIn}
 use Rattle.cx_inv_run.proofs.Histories.{set_running}
 use Rattle.cx_inv_run.proofs.KindLaws.{kinds_hold}
-use Rattle.cx_inv_run.proofs.Members.{Member-first, Member-one, Member-reverse, Member-turned}
+use Rattle.cx_inv_run.proofs.Members.{Member-first, Member-reverse, Member-turned}
 use Rattle.cx_inv_run.proofs.Senders.{batcher_kinds, leader_kinds, proxy_kinds, replica_kinds, unbatcher_kinds}
 use Rattle.cx_inv_run.proofs.Sends.{batcher_sends, leader_sends, proxy_sends, replica_sends, unbatcher_sends, sends_only}
 use Rattle.cx_inv_run.proofs.Steps.{run_keeps, run_from_keeps, run_append, run_cluster, along, all_allowed}
-use Rattle.cx_inv_match.specs.Facts.{Facts}
+use Rattle.cx_inv_match.specs.Facts.{InState, Facts}
 use Rattle.cx_inv_vote.proofs.Steps.{facts_hold}
-use Rattle.cx_inv_read.specs.Reads.{Has, HasSent, ReadSays, InReader, Reads, IsElse, Unread}
+use Rattle.cx_inv_read.specs.Reads.{Has, HasSent, ReadSays, TurnSays, HasBatch, InReader, Reads, IsElse, Unread}
 use Rattle.cx_inv_read.proofs.Keep.{Since, lands, no_acks, sent_more, still_evidence, still_says}
-use Rattle.cx_inv_read.proofs.Requests.{WentOut, all_went_out, allowed_more, read_token, was_asked_by}
+use Rattle.cx_inv_read.proofs.Requests.{WentOut, all_went_out, allowed_more, read_token, requested, was_asked_by}
 use Rattle.cx_inv_read.proofs.Rows.{Each}
 use Rattle.cx_inv_read.proofs.Says.{Known}
 use Rattle.cx_inv_read.proofs.Readers.{reader_lands}
 use Rattle.cx_inv_read.proofs.Roles.{acceptor_lands, matchmaker_lands}
+use Rattle.cx_inv_read.proofs.Turns.{turns_hold}
 use Rattle.cx_inv_read.proofs.Unread.{IsOther, unread_laws}
 
 -- what is known from the asking on
 abbrev KnownSince : Cluster → List KeptRecord → List Letter → List KeptRecord → List Letter → (RoleId → State) → Type 0
 KnownSince c asked sent0 history sent states = Known c history sent states × Has history asked × HasSent sent sent0
 
-fresh_reader : (c : Cluster) (k : Kind) → InReader c (fresh_state c k)
-fresh_reader c kind.Client = tt
-fresh_reader c kind.Batcher = tt
-fresh_reader c kind.Leader = tt
-fresh_reader c kind.Proxy = tt
-fresh_reader c kind.Acceptor = tt
-fresh_reader c kind.Matchmaker = tt
-fresh_reader c kind.Replica = tt
-fresh_reader c kind.Unbatcher = tt
-fresh_reader c kind.Reader = λ r m. absurd m
-
--- a request hands in a command, asks for a read, or asks a replica in a session
-pub requested : (P : Letter → Type 0) → ((from to : RoleId) (command : Command) → P (letter from to (msg.Submit command)))
-    → ((from to : RoleId) (seq replica : ℕ) (key : List ℕ) → P (letter from to (msg.ReadReq seq replica key)))
-    → ((from to : RoleId) (seq n : ℕ) (key : List ℕ) → P (letter from to (msg.SessRead seq n key))) → (n : ℕ) (e : Event) → Each P (request n e)
-requested P submit read session n (event.Write command batcher) = Member-one P _ (submit _ _ command)
-requested P submit read session n (event.Read client seq floor reader replica key) = Member-one P _ (read _ _ seq replica key)
-requested P submit read session n (event.Session client seq floor replica key) = Member-one P _ (session _ _ seq n key)
-requested P submit read session n (event.Deliver k cut) = λ d m. absurd m
-requested P submit read session n (event.Tick r) = λ d m. absurd m
-requested P submit read session n (event.Order l order cut) = λ d m. absurd m
-requested P submit read session n (event.Snap p cut) = λ d m. absurd m
-requested P submit read session n (event.Crash r) = λ d m. absurd m
-requested P submit read session n (event.Restart r) = λ d m. absurd m
+fresh_reader : (c : Cluster) (asked : List KeptRecord) (t : Token) (a : RoleId) (k : Kind) → InReader c asked t a (fresh_state c k)
+fresh_reader c asked t a kind.Client = tt
+fresh_reader c asked t a kind.Batcher = tt
+fresh_reader c asked t a kind.Leader = tt
+fresh_reader c asked t a kind.Proxy = tt
+fresh_reader c asked t a kind.Acceptor = tt
+fresh_reader c asked t a kind.Matchmaker = tt
+fresh_reader c asked t a kind.Replica = tt
+fresh_reader c asked t a kind.Unbatcher = tt
+fresh_reader c asked t a kind.Reader = tt
 
 -- the same facts, with more changes of stores
 more_changes : (c : Cluster) (asked : List KeptRecord) (sent0 : List Letter) (t : Token) (history longer : List KeptRecord) → Has longer history
@@ -75,13 +62,13 @@ more_changes c asked sent0 t history longer more sent states has reads = record 
   has = has;
   has_sent = reads.has_sent;
   says = λ d m. still_says history longer more asked t d.from d.to d.msg (reads.says d m);
-  evidence = λ w. still_evidence history longer more c asked sent0 t sent w (reads.evidence w);
+  evidence = λ u new w. still_evidence history longer more c asked sent0 u sent w (reads.evidence u new w);
   readers = reads.readers;
 }
 
 -- the same facts, with other states of readers
 with_states : (c : Cluster) (asked : List KeptRecord) (sent0 : List Letter) (t : Token) (history : List KeptRecord) (sent : List Letter) (states others : RoleId → State)
-    → Reads c asked sent0 t history sent states → ((a : RoleId) → InReader c (others a)) → Reads c asked sent0 t history sent others
+    → Reads c asked sent0 t history sent states → ((a : RoleId) → InReader c asked t a (others a)) → Reads c asked sent0 t history sent others
 with_states c asked sent0 t history sent states others h readers = record { has = h.has; has_sent = h.has_sent; says = h.says; evidence = h.evidence; readers = readers }
 
 module _ (c : Cluster) (asked : List KeptRecord) (sent0 : List Letter) (states0 : RoleId → State) (facts0 : Facts c asked sent0 states0) (t : Token) where
@@ -90,32 +77,32 @@ module _ (c : Cluster) (asked : List KeptRecord) (sent0 : List Letter) (states0 
   asks history sent states n e known reads =
       sent_more c asked sent0 t history sent states known.1 reads (request n e)
       (requested (λ d. ReadSays asked t history d.from d.to d.msg) (λ from to command. tt) (λ from to seq replica key. tt) (λ from to seq k key. tt) n e)
-      (λ w a k x. absurd (requested (λ d. (u : Token) (i : Round) (k : ℕ) → d.msg ≡ msg.PreReadAck u i k → ⊥)
-      (λ from to command u i k q. cc) (λ from to seq replica key u i k q. cc) (λ from to seq m key u i k q. cc) n e _ x.1 t w k refl))
+      (λ u new w a k x. absurd (requested (λ d. (u : Asking) (i : Round) (k : ℕ) → d.msg ≡ msg.PreReadAck u i k → ⊥)
+      (λ from to command u i k q. cc) (λ from to seq replica key u i k q. cc) (λ from to seq m key u i k q. cc) n e _ x.1 u w k refl))
 
   start : (states : RoleId → State) → ((a : RoleId) → (states a ≡ Down) ⊎ (states a ≡ fresh_state c a.kind)) → Since c asked sent0 t [] [] states
   start states is has has_sent = record {
     has = has;
     has_sent = has_sent;
     says = λ d m. absurd m;
-    evidence = λ w. inr (inl (λ a n x. x.1));
+    evidence = λ u new w. inr (inl (λ a n x. x.1));
     readers = λ a. elim (is a) [
-      | inl e ↦ subst (λ s. InReader c s) (sym e) tt
-      | inr e ↦ subst (λ s. InReader c s) (sym e) (fresh_reader c a.kind)
+      | inl e ↦ subst (λ s. InReader c asked t a s) (sym e) tt
+      | inr e ↦ subst (λ s. InReader c asked t a s) (sym e) (fresh_reader c asked t a a.kind)
     ];
   }
 
   pub reads_laws : Laws c (λ n e. Unit {0}) (KnownSince c asked sent0) (Since c asked sent0 t)
   reads_laws = record {
     same = λ history sent states others e h has has_sent.
-        let reads = h has has_sent in with_states c asked sent0 t history sent states others reads (λ a. subst (λ s. InReader c s) (e a) (reads.readers a));
+        let reads = h has has_sent in with_states c asked sent0 t history sent states others reads (λ a. subst (λ s. InReader c asked t a s) (e a) (reads.readers a));
     start = start;
     stop = λ history sent states me h has has_sent.
         let reads = h has has_sent in
-        with_states c asked sent0 t history sent states _ reads (set_running (λ a s. InReader c s) me Down states tt (λ a e. reads.readers a));
+        with_states c asked sent0 t history sent states _ reads (set_running (λ a s. InReader c asked t a s) me Down states tt (λ a e. reads.readers a));
     wake = λ history sent states me h down has has_sent.
         let reads = h has has_sent in
-        with_states c asked sent0 t history sent states _ reads (set_running (λ a s. InReader c s) me (fresh_state c me.kind) states (fresh_reader c me.kind) (λ a e. reads.readers a));
+        with_states c asked sent0 t history sent states _ reads (set_running (λ a s. InReader c asked t a s) me (fresh_state c me.kind) states (fresh_reader c asked t me me.kind) (λ a e. reads.readers a));
     ask = λ history sent states n e allowed known h has has_sent. asks history sent states n e known.0 (h known.1 known.2);
     batcher = λ history sent states b v i known h up given.
         let kinds = batcher_kinds c (role kind.Batcher b) refl v i in
@@ -194,17 +181,32 @@ reads_always c es t =
 pub unread_where : (c : Cluster) (es : List Event) (t : Token) → AllAllowed (λ n. IsOther t) (run c []) es → HoldsIn (Unread t) (run c es)
 unread_where c es t others = run_keeps c (λ n. IsOther t) (Known c) (Unread t) (unread_laws t c) es (along c (Known c) (known_holds c) [] es) others
 
-pub unread_holds : (c : Cluster) (es : List Event) (t : Token) → was_asked t (run c es).events ≡ false → HoldsIn (Unread t) (run c es)
+unread_holds : (c : Cluster) (es : List Event) (t : Token) → was_asked t (run c es).events ≡ false → HoldsIn (Unread t) (run c es)
 unread_holds c es t h =
     unread_where c es t (allowed_more (λ n. WentOut (run c es)) (λ n. IsOther t)
     (λ n e m r. true≢false (sym (was_asked_by t (run c es) e m (read_token t e r)) ∙ h)) (run c []) es (all_went_out (run c []) es))
 
-else_says : (asked history : List KeptRecord) (t : Token) (from to : RoleId) (m : Msg) → IsElse t from to m → ReadSays asked t history from to m
-else_says asked history t from to (msg.MatchReadAck u w es) h = λ e. absurd (h e)
-else_says asked history t from to (msg.PreRead u w) h = λ e. absurd (h e)
-else_says asked history t from to (msg.PreReadAck u w n) h = λ e. absurd (h e)
-else_says asked history t from to (msg.Read u n key) h = λ e. absurd (h e)
-else_says asked history t from to other h = tt
+-- what is said before the read was asked for: nothing is known of a turn that is new
+else_says : (asked : List KeptRecord) (t : Token) (from to : RoleId) (m : Msg) → IsElse t from to m → TurnSays asked m → ReadSays asked t asked from to m
+else_says asked t from to (msg.MatchReadAck u w es) h turn = λ new. absurd (new turn)
+else_says asked t from to (msg.PreRead u w) h turn = λ new. absurd (new turn)
+else_says asked t from to (msg.PreReadAck u w n) h turn = λ new. absurd (new turn)
+else_says asked t from to (msg.Read u n key) h turn = λ e. absurd (h e)
+else_says asked t from to other h turn = tt
+
+-- a read that was not asked for is in no batch
+not_under : (c : Cluster) (history : List KeptRecord) (t : Token) (sent : List Letter) → Each (λ d. IsElse t d.from d.to d.msg) sent → (me : RoleId) (s : State)
+    → InReader c [] t me s → InState c history sent me s → InReader c history t me s
+not_under c history t sent unread me (ReaderIn v) old told = go v.running refl old
+  where
+    go : (o : Option Batch) → v.running ≡ o → HasBatch c [] t me o → HasBatch c history t me o
+    go None e b = tt
+    go (Some b) e h = record {
+      once = h.once;
+      known = h.known;
+      under = λ r m p. absurd (unread _ ((told.0.batch b e).requests r m) p);
+    }
+not_under c history t sent unread me other old told = tt
 
 -- of a read, from a run on in which it was not asked for
 pub reads_since : (c : Cluster) (es more : List Event) (t : Token) → was_asked t (run c es).events ≡ false
@@ -213,12 +215,13 @@ reads_since c es more t h =
     let w = run c es in
     let asked = reverse w.kept in
     let unread = unread_holds c es t h in
+    let turns = turns_hold c es in
     let now : HoldsIn (Since c asked w.sent t) w = λ has has_sent. record {
       has = has;
       has_sent = has_sent;
-      says = λ d m. else_says asked asked t d.from d.to d.msg (unread d m);
-      evidence = λ i. inr (inl (λ a n x. unread _ x.1 refl));
-      readers = (reads_always c es t).readers;
+      says = λ d m. else_says asked t d.from d.to d.msg (unread d m) (turns.says d m);
+      evidence = λ u new i. inr (inl (λ a n x. new (turns.says _ x.1)));
+      readers = λ a. not_under c asked t w.sent unread a (states_of w.roles a) ((reads_always c es t).readers a) ((facts_hold c es).running a);
     } in
     let later = run_from_keeps c (λ n e. Unit {0}) (KnownSince c asked w.sent) (Since c asked w.sent t) (reads_laws c asked w.sent (states_of w.roles) (facts_hold c es) t) w (run_cluster c es)
     now more (known_since c asked w.sent w more (along c (Known c) (known_holds c) es more) (λ k m. m) (λ d m. m)) (all_allowed w more)

@@ -7,6 +7,7 @@ use Rattle.cx_base.specs.declared.role.Kind.TheVariants as kind
 use Rattle.cx_base.specs.declared.role.RoleId.{RoleId}
 use Rattle.cx_base.specs.declared.round.Round.{Round}
 use Rattle.cx_base.specs.Round.{same_round}
+use Rattle.cx_field.specs.declared.parts.Asking.{Asking}
 use Rattle.cx_field.specs.declared.parts.Entry.{Entry}
 use Rattle.cx_field.specs.declared.parts.Token.{Token}
 use Rattle.cx_msg.specs.Letter.{Letter, letter}
@@ -16,7 +17,7 @@ use Rattle.cx_msg.specs.declared.message.Msg.TheVariants as msg
 use Rattle.cx_model.specs.Lists.{number_itself}
 use Rattle.cx_model.specs.Member.{Member}
 use Rattle.cx_model.specs.Outcome.{Outcome}
-use Rattle.cx_model.specs.Request.{same_read}
+use Rattle.cx_model.specs.Reader.{same_asking}
 use Rattle.cx_inv_run.specs.Kinds.{OfKind}
 use Rattle.cx_inv_run.specs.Laws.{Lands}
 use Rattle.cx_inv_run.specs.States.{State, Down, entry_by, with_record}
@@ -24,8 +25,9 @@ use Rattle.cx_inv_run.proofs.Members.{Member-cases, Member-first, Member-both, M
 use Rattle.cx_inv_run.proofs.Histories.{kept_longer, set_running}
 use Rattle.cx_inv_run.proofs.Rounds.{same_round-true, same_round-itself}
 use Rattle.cx_inv_match.specs.Facts.{Facts}
-use Rattle.cx_inv_read.specs.Reads.{Has, HasSent, Covers, IsRaised, IsReadAnswer, ReadSays, IsAcked, HasEvidence, InReader, Reads}
-use Rattle.cx_inv_read.proofs.Rows.{Each, same_read-true}
+use Rattle.cx_inv_vote.proofs.Readers.{same_asking-true}
+use Rattle.cx_inv_read.specs.Reads.{Has, HasSent, Covers, IsRaised, IsReadAnswer, IsNew, ReadSays, IsAcked, HasEvidence, InReader, Reads}
+use Rattle.cx_inv_read.proofs.Rows.{Each}
 
 -- from the asking on
 abbrev pub Since : Cluster → List KeptRecord → List Letter → Token → List KeptRecord → List Letter → (RoleId → State) → Type 0
@@ -56,11 +58,11 @@ module _ (history longer : List KeptRecord) (more : Has longer history) where
   still_says asked t from to (msg.Read u n key) h = h
   still_says asked t from to other h = tt
 
-  pub still_evidence : (c : Cluster) (asked : List KeptRecord) (sent0 : List Letter) (t : Token) (sent : List Letter) (w : Round) → HasEvidence c asked sent0 t history sent w
-      → HasEvidence c asked sent0 t longer sent w
-  still_evidence c asked sent0 t sent w (inl e) = inl e
-  still_evidence c asked sent0 t sent w (inr (inl x)) = inr (inl x)
-  still_evidence c asked sent0 t sent w (inr (inr k)) = inr (inr (record {
+  pub still_evidence : (c : Cluster) (asked : List KeptRecord) (sent0 : List Letter) (u : Asking) (sent : List Letter) (w : Round) → HasEvidence c asked sent0 u history sent w
+      → HasEvidence c asked sent0 u longer sent w
+  still_evidence c asked sent0 u sent w (inl e) = inl e
+  still_evidence c asked sent0 u sent w (inr (inl x)) = inr (inl x)
+  still_evidence c asked sent0 u sent w (inr (inr k)) = inr (inr (record {
     past = k.past;
     told = k.told;
     within = λ r m. more r (k.within r m);
@@ -70,34 +72,34 @@ module _ (history longer : List KeptRecord) (more : Has longer history) where
     covers = k.covers;
   }))
 
--- whether a message is an acceptor's answer to the read, with this watermark
-abbrev is_ack : Token → Round → Msg → Bool
-is_ack t w (msg.PreReadAck u i n) = same_read u t && same_round i w
-is_ack t w other = false
+-- whether a message is an acceptor's answer to this turn, with this watermark
+abbrev is_ack : Asking → Round → Msg → Bool
+is_ack u w (msg.PreReadAck x i n) = same_asking x u && same_round i w
+is_ack u w other = false
 
-ack_is : (t : Token) (w : Round) (m : Msg) → is_ack t w m ≡ true → (n : ℕ) × (m ≡ msg.PreReadAck t w n)
-ack_is t w (msg.PreReadAck u i n) h =
-    let p = and_parts (same_read u t) (same_round i w) h in
-    (n, ap (λ x. msg.PreReadAck x i n) (same_read-true u t p.0) ∙ ap (λ x. msg.PreReadAck t x n) (same_round-true i w p.1))
-ack_is t w other h = cc
+ack_is : (u : Asking) (w : Round) (m : Msg) → is_ack u w m ≡ true → (n : ℕ) × (m ≡ msg.PreReadAck u w n)
+ack_is u w (msg.PreReadAck x i n) h =
+    let p = and_parts (same_asking x u) (same_round i w) h in
+    (n, ap (λ y. msg.PreReadAck y i n) (same_asking-true x u p.0) ∙ ap (λ y. msg.PreReadAck u y n) (same_round-true i w p.1))
+ack_is u w other h = cc
 
-is_ack-itself : (t : Token) (w : Round) (n : ℕ) → is_ack t w (msg.PreReadAck t w n) ≡ true
-is_ack-itself t w n = and_from _ _ (and_from _ _ (number_itself t.client) (number_itself t.seq)) (same_round-itself w)
+is_ack-itself : (u : Asking) (w : Round) (n : ℕ) → is_ack u w (msg.PreReadAck u w n) ≡ true
+is_ack-itself u w n = and_from _ _ (and_from _ _ (number_itself u.reader) (number_itself u.turn)) (same_round-itself w)
 
-acked_cases : (sent ds : List Letter) (t : Token) (w : Round) (a : RoleId) (n : ℕ) → IsAcked (sent ++ ds) t w a n → IsAcked sent t w a n ⊎ IsAcked ds t w a n
-acked_cases sent ds t w a n h = elim (Member-cases _ sent ds h.1) [ inl m ↦ inl (h.0, m) | inr m ↦ inr (h.0, m) ]
+acked_cases : (sent ds : List Letter) (u : Asking) (w : Round) (a : RoleId) (n : ℕ) → IsAcked (sent ++ ds) u w a n → IsAcked sent u w a n ⊎ IsAcked ds u w a n
+acked_cases sent ds u w a n h = elim (Member-cases _ sent ds h.1) [ inl m ↦ inl (h.0, m) | inr m ↦ inr (h.0, m) ]
 
 module _ (c : Cluster) (asked : List KeptRecord) (sent0 : List Letter) (t : Token) (history : List KeptRecord) (sent : List Letter) (states : RoleId → State)
     (facts : Facts c history sent states) (reads : Reads c asked sent0 t history sent states) where
-  -- answers of acceptors by what they kept till now, with a watermark that was raised
+  -- answers of acceptors under new turns, by what they kept till now, with a watermark that was raised
   abbrev pub AcksAreSo : List Letter → Type 0
-  AcksAreSo ds = (w : Round) (a : RoleId) (n : ℕ) → IsAcked ds t w a n → Covers history a n × IsRaised history w
+  AcksAreSo ds = (u : Asking) → IsNew asked u → (w : Round) (a : RoleId) (n : ℕ) → IsAcked ds u w a n → Covers history a n × IsRaised history w
 
   -- no answer with this watermark, or all cover this history
-  new_evidence : (w : Round) → IsRaised history w → ((a : RoleId) (n : ℕ) → IsAcked sent t w a n → ⊥) → (ds : List Letter) → AcksAreSo ds
-      → HasEvidence c asked sent0 t history (sent ++ ds) w
-  new_evidence w (inl e) none ds acks = inl e
-  new_evidence w (inr x) none ds acks =
+  new_evidence : (u : Asking) → IsNew asked u → (w : Round) → IsRaised history w → ((a : RoleId) (n : ℕ) → IsAcked sent u w a n → ⊥) → (ds : List Letter) → AcksAreSo ds
+      → HasEvidence c asked sent0 u history (sent ++ ds) w
+  new_evidence u new w (inl e) none ds acks = inl e
+  new_evidence u new w (inr x) none ds acks =
       inr (inr (record {
         past = history;
         told = sent;
@@ -105,12 +107,13 @@ module _ (c : Cluster) (asked : List KeptRecord) (sent0 : List Letter) (t : Toke
         longer = reads.has;
         wider = reads.has_sent;
         collected = (facts.garbaged x.0 w x.1 x.2).1;
-        covers = λ a n y. elim (acked_cases sent ds t w a n y) [ inl z ↦ absurd (none a n z) | inr z ↦ (acks w a n z).0 ];
+        covers = λ a n y. elim (acked_cases sent ds u w a n y) [ inl z ↦ absurd (none a n z) | inr z ↦ (acks u new w a n z).0 ];
       }))
 
-  more_evidence : (ds : List Letter) → AcksAreSo ds → (w : Round) → HasEvidence c asked sent0 t history sent w → HasEvidence c asked sent0 t history (sent ++ ds) w
-  more_evidence ds acks w (inl e) = inl e
-  more_evidence ds acks w (inr (inr k)) =
+  more_evidence : (ds : List Letter) → AcksAreSo ds → (u : Asking) → IsNew asked u → (w : Round) → HasEvidence c asked sent0 u history sent w
+      → HasEvidence c asked sent0 u history (sent ++ ds) w
+  more_evidence ds acks u new w (inl e) = inl e
+  more_evidence ds acks u new w (inr (inr k)) =
       inr (inr (record {
         past = k.past;
         told = k.told;
@@ -118,18 +121,18 @@ module _ (c : Cluster) (asked : List KeptRecord) (sent0 : List Letter) (t : Toke
         longer = k.longer;
         wider = k.wider;
         collected = k.collected;
-        covers = λ a n y. elim (acked_cases sent ds t w a n y) [ inl z ↦ k.covers a n z | inr z ↦ covers_older k.past history k.within a n (acks w a n z).0 ];
+        covers = λ a n y. elim (acked_cases sent ds u w a n y) [ inl z ↦ k.covers a n z | inr z ↦ covers_older k.past history k.within a n (acks u new w a n z).0 ];
       }))
-  more_evidence ds acks w (inr (inl none)) = elim (cases_Bool (list_any (λ (d : Letter). is_ack t w d.msg) ds)) [
+  more_evidence ds acks u new w (inr (inl none)) = elim (cases_Bool (list_any (λ (d : Letter). is_ack u w d.msg) ds)) [
     | inl h ↦ (
-        let r = any-Member (λ (d : Letter). is_ack t w d.msg) ds h in
-        let q = ack_is t w r.0.msg r.2 in
-        let m : Member (letter r.0.from r.0.to (msg.PreReadAck t w q.0)) ds = subst (λ x. Member (letter r.0.from r.0.to x) ds) q.1 r.1 in
-        new_evidence w (acks w r.0.from q.0 (r.0.to, m)).1 none ds acks
+        let r = any-Member (λ (d : Letter). is_ack u w d.msg) ds h in
+        let q = ack_is u w r.0.msg r.2 in
+        let m : Member (letter r.0.from r.0.to (msg.PreReadAck u w q.0)) ds = subst (λ x. Member (letter r.0.from r.0.to x) ds) q.1 r.1 in
+        new_evidence u new w (acks u new w r.0.from q.0 (r.0.to, m)).1 none ds acks
         )
-    | inr f ↦ inr (inl (λ a n y. elim (acked_cases sent ds t w a n y) [
+    | inr f ↦ inr (inl (λ a n y. elim (acked_cases sent ds u w a n y) [
       | inl z ↦ none a n z
-      | inr z ↦ true≢false (sym (Member-any (λ (d : Letter). is_ack t w d.msg) (letter a z.0 (msg.PreReadAck t w n)) ds z.1 (is_ack-itself t w n)) ∙ f)
+      | inr z ↦ true≢false (sym (Member-any (λ (d : Letter). is_ack u w d.msg) (letter a z.0 (msg.PreReadAck u w n)) ds z.1 (is_ack-itself u w n)) ∙ f)
     ]))
   ]
 
@@ -139,13 +142,13 @@ module _ (c : Cluster) (asked : List KeptRecord) (sent0 : List Letter) (t : Toke
     has = reads.has;
     has_sent = λ d m. Member-first d sent ds (reads.has_sent d m);
     says = Member-both (λ (d : Letter). ReadSays asked t history d.from d.to d.msg) sent ds reads.says says;
-    evidence = λ w. more_evidence ds acks w (reads.evidence w);
+    evidence = λ u new w. more_evidence ds acks u new w (reads.evidence u new w);
     readers = reads.readers;
   }
 
   -- a row lands whose datagrams say what is so
   pub lands : {V : Type 0} (me : RoleId) (make : V → State) (o : Outcome V)
-      → Each (λ d. ReadSays asked t history d.from d.to d.msg) o.sends → AcksAreSo o.sends → InReader c (make o.volatile)
+      → Each (λ d. ReadSays asked t history d.from d.to d.msg) o.sends → AcksAreSo o.sends → InReader c asked t me (make o.volatile)
       → Lands (Since c asked sent0 t) history sent states me make o
   lands me make o says acks state = record {
     whole = λ has has_sent. record {
@@ -154,20 +157,20 @@ module _ (c : Cluster) (asked : List KeptRecord) (sent0 : List Letter) (t : Toke
       says = Member-both (λ (d : Letter). ReadSays asked t (with_record me o.kept history) d.from d.to d.msg) sent o.sends
           (λ d m. still_says history (with_record me o.kept history) (kept_longer me o.kept history) asked t d.from d.to d.msg (reads.says d m))
           (λ d m. still_says history (with_record me o.kept history) (kept_longer me o.kept history) asked t d.from d.to d.msg (says d m));
-      evidence = λ w.
-          still_evidence history (with_record me o.kept history) (kept_longer me o.kept history) c asked sent0 t (sent ++ o.sends) w
-          (more_evidence o.sends acks w (reads.evidence w));
-      readers = set_running (λ a s. InReader c s) me (make o.volatile) states state (λ a e. reads.readers a);
+      evidence = λ u new w.
+          still_evidence history (with_record me o.kept history) (kept_longer me o.kept history) c asked sent0 u (sent ++ o.sends) w
+          (more_evidence o.sends acks u new w (reads.evidence u new w));
+      readers = set_running (λ a s. InReader c asked t a s) me (make o.volatile) states state (λ a e. reads.readers a);
     };
     cut = λ r e has has_sent. record {
       has = has;
       has_sent = has_sent;
       says = λ d m. still_says history (entry_by me r ∷ history) (λ k x. inr x) asked t d.from d.to d.msg (reads.says d m);
-      evidence = λ w. still_evidence history (entry_by me r ∷ history) (λ k x. inr x) c asked sent0 t sent w (reads.evidence w);
-      readers = set_running (λ a s. InReader c s) me Down states tt (λ a e. reads.readers a);
+      evidence = λ u new w. still_evidence history (entry_by me r ∷ history) (λ k x. inr x) c asked sent0 u sent w (reads.evidence u new w);
+      readers = set_running (λ a s. InReader c asked t a s) me Down states tt (λ a e. reads.readers a);
     };
   }
 
   -- only acceptors send such answers
   pub no_acks : {V : Type 0} (me : RoleId) (o : Outcome V) → (me.kind ≡ kind.Acceptor → ⊥) → OfKind me o → AcksAreSo o.sends
-  no_acks me o other kinds w a n x = absurd (other (kinds.sends _ x.1).1)
+  no_acks me o other kinds u new w a n x = absurd (other (kinds.sends _ x.1).1)

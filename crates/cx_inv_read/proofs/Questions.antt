@@ -21,6 +21,7 @@ use Rattle.cx_model.specs.Matchmaker.{matchmaker_rules}
 use Rattle.cx_model.specs.Member.{Member}
 use Rattle.cx_model.specs.Names.{names}
 use Rattle.cx_model.specs.Outcome.{Outcome, either_way}
+use Rattle.cx_model.specs.Reader.{reader_rules}
 use Rattle.cx_model.specs.Replica.{Machine, ReplicaDurable, ReplicaVolatile, held, replica_rules, read_answer_to, replica_row}
 use Rattle.cx_model.specs.Request.{request}
 use Rattle.cx_model.specs.World.{run}
@@ -32,7 +33,8 @@ use Rattle.cx_inv_run.proofs.Senders.{batcher_kinds, leader_kinds, proxy_kinds, 
 use Rattle.cx_inv_run.proofs.Steps.{always}
 use Rattle.cx_inv_match.specs.Facts.{InState}
 use Rattle.cx_inv_read.specs.Reads.{AnswerSays, AreAnswers}
-use Rattle.cx_inv_read.proofs.Fresh.{known_holds, requested}
+use Rattle.cx_inv_read.proofs.Fresh.{known_holds}
+use Rattle.cx_inv_read.proofs.Requests.{requested}
 use Rattle.cx_inv_read.proofs.Rows.{IsPlain, IsQuestion, Each, replica_tells, replica_ticks}
 use Rattle.cx_inv_read.proofs.Says.{Known}
 
@@ -135,7 +137,7 @@ answer_laws c = record {
   unbatcher = λ history sent states u i known h up given.
       other_lands history sent states h (role kind.Unbatcher u) _ _ (λ e. cc) (unbatcher_kinds c (role kind.Unbatcher u) refl i);
   reader = λ history sent states r v i known h up given.
-      other_lands history sent states h (role kind.Reader r) _ _ (λ e. cc) (reader_kinds c (role kind.Reader r) refl v i);
+      other_lands history sent states h (role kind.Reader r) _ _ (λ e. cc) (reader_kinds c (role kind.Reader r) refl (durable_of reader_rules (role kind.Reader r) history) v i);
 }
 
 pub answers_hold : (c : Cluster) (es : List Event) → HoldsIn AreAnswers (run c es)

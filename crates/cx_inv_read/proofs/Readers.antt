@@ -1,14 +1,17 @@
--- Each row of a reader keeps the facts on a read: when it asks a replica, the number is above all that was chosen when the read was asked for.
-use Rattle.std.proofs.Common.{◌≡◌, ℕ, ◌+◌, ◌*◌, ◌<◌, true, false, ◌&&◌, List, [], ◌∷◌, ◌++◌, length, Some, inl, inr, sym, subst, ◌∙◌, refl, arith}
-use Rattle.std.specs.Prelude.{nat_lt}
-use Rattle.std.proofs.lemmas.Bool.{true≢false, and_parts, ltb-true, leb-true}
+-- Each row of a reader keeps the facts on a read: what it asks under a new turn is so, and when it asks a replica for the read, the number is above
+-- all that was chosen when the read was asked for.
+use Rattle.std.proofs.Common.{◌≡◌, ℕ, ◌+◌, ◌*◌, ◌<◌, Bool, true, false, not, ◌&&◌, map, List, [], ◌∷◌, ◌++◌, length, Option, None, Some, inl, inr, sym, subst, ◌∙◌, refl, arith}
+use Rattle.std.specs.Prelude.{◌==◌, nat_lt, nat_le}
+use Rattle.std.proofs.lemmas.Bool.{true≢false, and_parts, not-false, ltb-true, leb-true}
 use Rattle.cx_base.specs.declared.cluster.Cluster.{Cluster}
 use Rattle.cx_base.specs.declared.role.Kind.{Kind}
 use Rattle.cx_base.specs.declared.role.Kind.TheVariants as kind
 use Rattle.cx_base.specs.declared.role.RoleId.{RoleId}
 use Rattle.cx_base.specs.declared.round.Round.{Round}
+use Rattle.cx_base.specs.declared.why.Why.{Why}
 use Rattle.cx_base.specs.Role.{role, same_role}
 use Rattle.cx_base.specs.Round.{no_round, same_round}
+use Rattle.cx_field.specs.declared.parts.Asking.{Asking}
 use Rattle.cx_field.specs.declared.parts.Entry.{Entry}
 use Rattle.cx_field.specs.declared.parts.Token.{Token}
 use Rattle.cx_msg.specs.Letter.{Letter, letter}
@@ -20,26 +23,28 @@ use Rattle.cx_msg.specs.declared.message.Msg.TheVariants as msg
 use Rattle.cx_model.specs.declared.states.Acked.{Acked}
 use Rattle.cx_model.specs.declared.states.MatchAnswer.{MatchAnswer}
 use Rattle.cx_model.specs.Facts.{ReaderWasTold}
-use Rattle.cx_model.specs.Matched.{enough, is_counted, greatest_watermark, live_entries, rows_whole}
+use Rattle.cx_model.specs.Matched.{enough, matchmakers, is_counted, is_member_of, greatest_watermark, live_entries, members_of, rows_whole}
 use Rattle.cx_model.specs.Matchmaker.{entry}
 use Rattle.cx_model.specs.Member.{Member}
 use Rattle.cx_base.specs.Cluster.{count_of}
 use Rattle.cx_model.specs.Names.{names, names_role, names_body}
-use Rattle.cx_model.specs.Outcome.{Outcome, by_test}
-use Rattle.cx_model.specs.Reader.{Reading, ReaderVolatile, reading, token, reading_of, is_matched, acked_by, greatest_mark, match_ack_row, pre_read_ack_row, reader_takes, reader_row}
+use Rattle.cx_model.specs.Outcome.{Outcome, answered, either_way, by_test}
+use Rattle.cx_model.specs.Reader.{Asked, Batch, ReaderDurable, ReaderVolatile, acked_by, ask_acceptors, ask_matchmakers, ask_replicas, asked_for, begin, begin_if, finish, greatest_mark, has_acked, is_among, is_first, is_matched, is_of_batch, last_turn, match_ack_counted, match_ack_row, match_read_to, matched, pre_read_ack_row, pre_read_counted, pre_read_to, read_to, reader_row, reader_rules, reader_takes, reader_tick, request_over, request_row, token, asking_of}
 use Rattle.cx_inv_run.specs.Laws.{Lands}
-use Rattle.cx_inv_run.specs.States.{State, ReaderIn, Given}
-use Rattle.cx_inv_run.proofs.Members.{Member-cases, Member-second, Member-one}
+use Rattle.cx_inv_run.specs.States.{State, ReaderIn, Given, durable_of}
+use Rattle.cx_inv_run.proofs.Members.{Member-both, Member-cases, Member-second, Member-one}
 use Rattle.cx_inv_run.proofs.Rounds.{itself-not_before, same_round-true}
 use Rattle.cx_inv_run.proofs.Senders.{reader_kinds}
 use Rattle.cx_inv_run.proofs.Sends.{named}
-use Rattle.cx_inv_match.specs.Facts.{AreOnce, told_by, InState, Facts}
+use Rattle.cx_inv_match.specs.Facts.{AreAsking, AreOnce, told_by, InState, Facts}
+use Rattle.cx_inv_vote.proofs.Readers.{same_asking-true}
 use Rattle.cx_inv_vote.proofs.Searches.{told_by-counted, told_more, once_more, live_has, top_told}
-use Rattle.cx_inv_read.specs.Reads.{IsAbove, IsRaised, IsReadAnswer, ReadSays, IsAcked, IsReading, InReader, Reads}
+use Rattle.cx_inv_read.specs.Reads.{IsAbove, IsRaised, IsReadAnswer, IsNew, ReadSays, IsAcked, IsBatch, HasBatch, InReader, Reads}
 use Rattle.cx_inv_read.proofs.Above.{AreAcks, mark_above, read_above}
 use Rattle.cx_inv_read.proofs.Keep.{Since, lands, no_acks}
-use Rattle.cx_inv_read.proofs.Rows.{Each, reading_there, ReaderTells, request_tells, match_tells, ack_tells}
+use Rattle.cx_inv_read.proofs.Rows.{Each, each_mapped}
 use Rattle.cx_inv_read.proofs.Says.{Known}
+use Rattle.cx_inv_read.proofs.Turns.{next_is_new}
 
 -- the sender of a datagram that is taken is one of the cluster's
 from_within : (c : Cluster) (d : Letter) (k : Kind) → names c d ≡ true → d.from.kind ≡ k → d.from.index < count_of c k
@@ -47,6 +52,10 @@ from_within c d k h e =
     let a = and_parts (names_role c d.from && names_role c d.to) (names_body c d.msg) h in
     let b = and_parts (names_role c d.from) (names_role c d.to) a.0 in
     ltb-true d.from.index (count_of c k) (subst (λ x. nat_lt d.from.index (count_of c x) ≡ true) e b.0)
+
+not-true : (b : Bool) → not b ≡ true → b ≡ false
+not-true true e = cc
+not-true false e = refl
 
 module _ (c : Cluster) (asked : List KeptRecord) (sent0 : List Letter) (states0 : RoleId → State) (facts0 : Facts c asked sent0 states0) (t : Token)
     (history : List KeptRecord) (sent : List Letter) (states : RoleId → State) (known : Known c history sent states) (reads : Reads c asked sent0 t history sent states) where
@@ -56,10 +65,7 @@ module _ (c : Cluster) (asked : List KeptRecord) (sent0 : List Letter) (states0 
   abbrev Says : Letter → Type 0
   Says d = ReadSays asked t history d.from d.to d.msg
 
-  nothing : Each Says []
-  nothing d m = absurd m
-
-  -- a reader's answers
+  -- ---- what the answers of a new turn come to
 
   abbrev Answers : List MatchAnswer → Type 0
   Answers told = (a : MatchAnswer) → Member a told → IsReadAnswer asked history (role kind.Matchmaker a.matchmaker) a.watermark a.entries
@@ -90,109 +96,175 @@ module _ (c : Cluster) (asked : List KeptRecord) (sent0 : List Letter) (states0 
       (record { covered = λ a m. absurd m; collected = inl (top_none told answers e) }) (subst (λ l. rows_whole l (acked_by []) ≡ true) (sym e) refl) 0 (λ a m. absurd m)
 
   -- acceptors that answered
-  row_acks : (w : Round) (acks : List Acked) (one : Acked) → Member one acks → ((a : Acked) → Member a acks → IsAcked sent t w (role kind.Acceptor a.acceptor) a.mark)
-      → AreAcks c asked sent0 history w acks
-  row_acks w acks one m h = record {
-    covered = λ a k. let x = h a k in (reads.says _ x.1 refl).0;
-    collected = elim (reads.evidence w) [
+  row_acks : (u : Asking) → IsNew asked u → (w : Round) (acks : List Acked) (one : Acked) → Member one acks
+      → ((a : Acked) → Member a acks → IsAcked sent u w (role kind.Acceptor a.acceptor) a.mark) → AreAcks c asked sent0 history w acks
+  row_acks u new w acks one m h = record {
+    covered = λ a k. let x = h a k in (reads.says _ x.1 new).0;
+    collected = elim (reads.evidence u new w) [
       | inl e ↦ inl e
       | inr (inl none) ↦ absurd (none (role kind.Acceptor one.acceptor) one.mark (h one m))
       | inr (inr k) ↦ inr (k.past, k.told, k.within, k.longer, k.wider, k.collected, λ a n. k.covers (role kind.Acceptor a.acceptor) a.mark (h a n))
     ];
   }
 
-  -- a reader
+  -- ---- a reader
 
-  module _ (me : RoleId) (v : ReaderVolatile) (all : (r : Reading) → Member r v.reads → IsReading c r) (was_told : ReaderWasTold sent me v) where
-    abbrev Good : Outcome ReaderVolatile → Type 0
-    Good o = ReaderTells Says (λ r. IsReading c r) c me v all o
+  module _ (me : RoleId) (d : ReaderDurable) (v : ReaderVolatile) (batch : HasBatch c asked t me v.running) (was_told : ReaderWasTold sent me v) (asking : AreAsking c v)
+      (next : IsNew asked (asking_of me (d.turn + 1))) where
+    pub record Good (o : Outcome ReaderVolatile) : Type 0 where
+      pub says : Each Says o.sends
+      pub runs : HasBatch c asked t me o.volatile.running
 
-    matched_enough : (r : Reading) → is_matched c r ≡ true → c.f < length r.told
-    matched_enough r h = let l = leb-true (enough c) (length r.told) h in omega arith
+    same : (w : Why) → Good (answered w v)
+    same w = record { says = λ l m. absurd m; runs = batch }
 
-    match_good : (from to : RoleId) (u : Token) (w : Round) (es : List Entry) → Member (letter from to (msg.MatchReadAck u w es)) sent → from.index < 2 * c.f + 1
-        → Good (match_ack_row c me v from w es (reading_of u v.reads))
-    match_good from to u w es is_sent within =
-        match_tells Says (λ r. IsReading c r) c me v all from w es (reading_of u v.reads) one
+    waits : (w : Why) (rs : List Asked) → Good (answered w (record v { waiting = rs }))
+    waits w rs = record { says = λ l m. absurd m; runs = batch }
+
+    asks_first : (turn : ℕ) → Each Says (ask_matchmakers c me turn)
+    asks_first turn = each_mapped Says (match_read_to me (asking_of me turn)) (matchmakers c) (λ m k. tt)
+
+    -- a batch begins: its turn is a new one, whatever reads it has
+    begins : (w : Why) (first : List Letter) (rs : List Asked) → Each Says first → Good (begin c me d w first rs)
+    begins w first rs says = record {
+      says = Member-both Says first (ask_matchmakers c me (d.turn + 1)) says (asks_first (d.turn + 1));
+      runs = record { once = tt; known = λ m k. absurd k; under = λ r m e. next };
+    }
+
+    begins_if : (w : Why) (rs : List Asked) → Good (begin_if c me d v w rs)
+    begins_if w rs = either_way Good (d.turn == last_turn) _ _ (same _) (begins w [] rs (λ l m. absurd m))
+
+    request_good : (one : Asked) → Good (request_row c me d v one)
+    request_good one = either_way Good (is_among one.read v.waiting) _ _ (waits _ _) (over v.running)
       where
-        one : (r : Reading) → reading_of u v.reads ≡ Some r → is_counted from.index r.told ≡ false
-            → (let next : Reading = record r { told = r.told ++ record { matchmaker = from.index; watermark = w; entries = es } ∷ [] } in
-            IsReading c next × (is_matched c next ≡ true
-            → (live_entries next.told ≡ [] → next.token ≡ t → IsAbove asked 0) × ((a : ℕ) → next.token ≡ t → IsRaised history (greatest_watermark next.told))))
-        one r e f =
-            let there = reading_there u v.reads r e in
-            let new : MatchAnswer = record { matchmaker = from.index; watermark = w; entries = es } in
-            let old = all r there.0 in
-            let once = once_more r.told new (λ m. true≢false (sym (told_by-counted from.index r.told m) ∙ f)) old.once in
-            let bound : (m : ℕ) → Member m (told_by (r.told ++ new ∷ [])) → m < 2 * c.f + 1 = λ m k. elim (told_more r.told new m k) [
-              | inl x ↦ old.known m x
-              | inr x ↦ subst (λ n. n < 2 * c.f + 1) (sym x) within
-            ] in
-            let is_matchmaker : from ≡ role kind.Matchmaker from.index = named kind.Matchmaker from (known.0.senders _ is_sent) in
-            let answers : r.token ≡ t → Answers (r.told ++ new ∷ []) = λ p a m. elim (Member-cases a r.told (new ∷ []) m) [
-              | inl k ↦ reads.says _ (was_told.answers r a there.0 k) p
-              | inr k ↦ Member-one (λ (x : MatchAnswer). IsReadAnswer asked history (role kind.Matchmaker x.matchmaker) x.watermark x.entries) new
-                  (subst (λ b. IsReadAnswer asked history b w es) is_matchmaker (reads.says _ is_sent (there.1 ∙ p))) a k
-            ] in (
-              record { once = once; known = bound },
-              λ h. (
-                λ none p. above_nothing (r.told ++ new ∷ []) once bound (matched_enough (record r { told = r.told ++ new ∷ [] }) h) (answers p) none,
-                λ a p. top_raised (r.told ++ new ∷ []) (answers p),
-              ),
-            )
+        over : (o : Option Batch) → Good (request_over c me d v one o)
+        over None = either_way Good (nat_le 64 (length v.waiting)) _ _ (same _) (begins_if _ _)
+        over (Some b) =
+            either_way Good (is_first one.read b.reads) _ _ (begins_if _ _)
+            (either_way Good (is_among one.read b.reads) _ _ (same _)
+            (either_way Good (nat_le 64 (length v.waiting + length b.reads)) _ _ (same _) (waits _ _)))
 
-    ack_good : (from to : RoleId) (u : Token) (w : Round) (n : ℕ) → Member (letter from to (msg.PreReadAck u w n)) sent
-        → Good (pre_read_ack_row c me v from w n (reading_of u v.reads))
-    ack_good from to u w n is_sent =
-        ack_tells Says (λ r. IsReading c r) c me v all from w n (reading_of u v.reads) one
-      where
-        one : (r : Reading) → reading_of u v.reads ≡ Some r → is_matched c r ≡ true → same_round w (greatest_watermark r.told) ≡ true
-            → (let next : Reading = record r { acks = r.acks ++ record { acceptor = from.index; mark = n } ∷ [] } in
-            IsReading c next × (rows_whole (live_entries next.told) (acked_by next.acks) ≡ true → next.token ≡ t → IsAbove asked (greatest_mark next.acks)))
-        one r e matched same =
-            let there = reading_there u v.reads r e in
-            let new : Acked = record { acceptor = from.index; mark = n } in
-            let acks : List Acked = r.acks ++ new ∷ [] in
-            let old = all r there.0 in
-            let is_acceptor : from ≡ role kind.Acceptor from.index = named kind.Acceptor from (known.0.senders _ is_sent) in
-            let asked_with : w ≡ greatest_watermark r.told = same_round-true w (greatest_watermark r.told) same in
-            let acked : r.token ≡ t → (a : Acked) → Member a acks → IsAcked sent t (greatest_watermark r.told) (role kind.Acceptor a.acceptor) a.mark = λ p a m.
-            elim (Member-cases a r.acks (new ∷ []) m) [
-              | inl k ↦ (me, subst (λ x. Member (letter (role kind.Acceptor a.acceptor) me (msg.PreReadAck x (greatest_watermark r.told) a.mark)) sent) p (was_told.acks r a there.0 k))
-              | inr k ↦ Member-one (λ (x : Acked). IsAcked sent t (greatest_watermark r.told) (role kind.Acceptor x.acceptor) x.mark) new (
-                to,
-                subst (λ b. Member (letter b to (msg.PreReadAck t (greatest_watermark r.told) n)) sent) is_acceptor
-                    (subst (λ x. Member (letter from to (msg.PreReadAck t x n)) sent) asked_with
-                    (subst (λ x. Member (letter from to (msg.PreReadAck x w n)) sent) (there.1 ∙ p) is_sent)),
-              ) a k
-            ] in
-            let there_new : Member new acks = Member-second new r.acks (new ∷ []) (inl refl) in (
-              record { once = old.once; known = old.known },
-              λ whole p.
-                  read_above c asked sent0 states0 facts0 history sent states facts reads.has r.told old.once old.known (matched_enough r matched)
-                  (λ a m. reads.says _ (was_told.answers r a there.0 m) p) acks
-                  (row_acks (greatest_watermark r.told) acks new there_new (acked p)) whole (greatest_mark acks) (mark_above acks),
-            )
+    -- a batch has ended: the replicas are asked with a number that is above, for the read if it is in the batch
+    finishes : (b : Batch) (n : ℕ) → ((r : Asked) → Member r b.reads → r.read ≡ t → IsAbove asked n) → Good (finish c me d v b n)
+    finishes b n above =
+        let says : Each Says (ask_replicas me b n) = each_mapped Says (read_to me n) b.reads (λ r m e. above r m e) in
+        either_way Good (nat_lt 0 (length v.waiting) && not (d.turn == last_turn)) _ _ (begins _ (ask_replicas me b n) v.waiting says)
+        (record { says = says; runs = tt })
 
-    takes_good : (from to : RoleId) (m : Msg) → Member (letter from to m) sent → (from.kind ≡ kind.Matchmaker → from.index < 2 * c.f + 1) → Good (reader_takes c me v from m)
-    takes_good from to (msg.ReadReq seq replica key) is_sent within =
-        request_tells Says (λ r. IsReading c r) c me v all (reading (token from.index seq) replica key) (record { once = tt; known = λ m k. absurd k }) (λ m. tt)
-    takes_good from to (msg.MatchReadAck u w es) is_sent within = match_good from to u w es is_sent (within (known.0.senders _ is_sent))
-    takes_good from to (msg.PreReadAck u w n) is_sent within = ack_good from to u w n is_sent
-    takes_good from to other is_sent within = record { sends = nothing; reads = all }
+    matched_enough : (b : Batch) → is_matched c b ≡ true → c.f < length b.told
+    matched_enough b h = let l = leb-true (enough c) (length b.told) h in omega arith
 
-    reader_good : (i : Input) → Given sent me i → Good (reader_row c me tt v i)
+    -- a batch whose answers came under its turn
+    module _ (b : Batch) (is : IsBatch c asked t me b)
+        (came : (a : MatchAnswer) → Member a b.told → Member (letter (role kind.Matchmaker a.matchmaker) me (msg.MatchReadAck (asking_of me b.turn) a.watermark a.entries)) sent) where
+      batch_answers : IsNew asked (asking_of me b.turn) → Answers b.told
+      batch_answers new a m = reads.says _ (came a m) new
+
+      asks_second : (xs : List ℕ) → Each Says (map (pre_read_to me b) xs)
+      asks_second xs = each_mapped Says (pre_read_to me b) xs (λ a m new. top_raised b.told (batch_answers new))
+
+      matched_good : is_matched c b ≡ true → (es : List Entry) → live_entries b.told ≡ es → Good (matched c me d v b es)
+      matched_good h [] e =
+          finishes b 0 (λ r m p. above_nothing b.told is.once is.known (matched_enough b h) (batch_answers (is.under r m p)) e)
+      matched_good h (x ∷ es) e = record { says = asks_second (members_of c (x ∷ es)); runs = is }
+
+      match_counted : Good (match_ack_counted c me d v b)
+      match_counted =
+          by_test Good (is_matched c b) _ _ (λ h. matched_good h (live_entries b.told) refl) (λ f. record { says = λ l m. absurd m; runs = is })
+
+      ack_counted : is_matched c b ≡ true → (one : Acked) → Member one b.acks
+          → ((a : Acked) → Member a b.acks → IsAcked sent (asking_of me b.turn) (greatest_watermark b.told) (role kind.Acceptor a.acceptor) a.mark)
+          → Good (pre_read_counted c me d v b)
+      ack_counted h one there acked =
+          by_test Good (rows_whole (live_entries b.told) (acked_by b.acks)) _ _
+          (λ whole. finishes b (greatest_mark b.acks) (λ r m p.
+          let new = is.under r m p in
+          read_above c asked sent0 states0 facts0 history sent states facts reads.has b.told is.once is.known (matched_enough b h) (batch_answers new) b.acks
+          (row_acks (asking_of me b.turn) new (greatest_watermark b.told) b.acks one there acked) whole (greatest_mark b.acks) (mark_above b.acks)))
+          (λ f. record { says = λ l m. absurd m; runs = is })
+
+    match_good : (from to : RoleId) (u : Asking) (w : Round) (es : List Entry) → to ≡ me → Member (letter from to (msg.MatchReadAck u w es)) sent → from.index < 2 * c.f + 1
+        → (o : Option Batch) → v.running ≡ o → HasBatch c asked t me o → Good (match_ack_row c me d v from u w es o)
+    match_good from to u w es mine is_sent within None e is = same _
+    match_good from to u w es mine is_sent within (Some b) e is =
+        by_test Good (not (is_of_batch me b u && not (is_matched c b))) _ _ (λ f. same _)
+        (λ f. by_test Good (is_counted from.index b.told) _ _ (λ g. same _)
+        (λ g. (
+        let new : MatchAnswer = record { matchmaker = from.index; watermark = w; entries = es } in
+        let ours : u ≡ asking_of me b.turn = same_asking-true u (asking_of me b.turn) (and_parts (is_of_batch me b u) (not (is_matched c b)) (not-false (is_of_batch me b u && not (is_matched c b)) f)).0 in
+        let is_matchmaker : from ≡ role kind.Matchmaker from.index = named kind.Matchmaker from (known.0.senders _ is_sent) in
+        match_counted (record b { told = b.told ++ new ∷ [] }) (record {
+          once = once_more b.told new (λ m. true≢false (sym (told_by-counted from.index b.told m) ∙ g)) is.once;
+          known = λ m k. elim (told_more b.told new m k) [ inl x ↦ is.known m x | inr x ↦ subst (λ n. n < 2 * c.f + 1) (sym x) within ];
+          under = is.under;
+        }) (λ a m. elim (Member-cases a b.told (new ∷ []) m) [
+          | inl k ↦ (was_told.batch b e).answers a k
+          | inr k ↦ Member-one (λ (x : MatchAnswer). Member (letter (role kind.Matchmaker x.matchmaker) me (msg.MatchReadAck (asking_of me b.turn) x.watermark x.entries)) sent) new
+              (subst (λ x. Member (letter (role kind.Matchmaker from.index) me (msg.MatchReadAck x w es)) sent) ours
+              (subst (λ x. Member (letter (role kind.Matchmaker from.index) x (msg.MatchReadAck u w es)) sent) mine
+              (subst (λ x. Member (letter x to (msg.MatchReadAck u w es)) sent) is_matchmaker is_sent))) a k
+        ])
+        )))
+
+    ack_good : (from to : RoleId) (u : Asking) (w : Round) (n : ℕ) → to ≡ me → Member (letter from to (msg.PreReadAck u w n)) sent
+        → (o : Option Batch) → v.running ≡ o → HasBatch c asked t me o → Good (pre_read_ack_row c me d v from u w n o)
+    ack_good from to u w n mine is_sent None e is = same _
+    ack_good from to u w n mine is_sent (Some b) e is =
+        by_test Good (not (is_of_batch me b u && is_matched c b && is_member_of (live_entries b.told) from.index)) _ _ (λ f. same _)
+        (λ f. by_test Good (not (same_round w (greatest_watermark b.told))) _ _ (λ g. same _)
+        (λ g. either_way Good (has_acked from.index b.acks) _ _ (same _)
+        (
+        let new : Acked = record { acceptor = from.index; mark = n } in
+        let tests = and_parts (is_of_batch me b u && is_matched c b) (is_member_of (live_entries b.told) from.index) (not-false (is_of_batch me b u && is_matched c b && is_member_of (live_entries b.told) from.index) f) in
+        let both = and_parts (is_of_batch me b u) (is_matched c b) tests.0 in
+        let ours : u ≡ asking_of me b.turn = same_asking-true u (asking_of me b.turn) both.0 in
+        let asked_with : w ≡ greatest_watermark b.told = same_round-true w (greatest_watermark b.told) (not-false (same_round w (greatest_watermark b.told)) g) in
+        let is_acceptor : from ≡ role kind.Acceptor from.index = named kind.Acceptor from (known.0.senders _ is_sent) in
+        ack_counted (record b { acks = b.acks ++ new ∷ [] }) (record { once = is.once; known = is.known; under = is.under }) (λ a m. (was_told.batch b e).answers a m)
+        both.1 new (Member-second new b.acks (new ∷ []) (inl refl))
+        (λ a m. elim (Member-cases a b.acks (new ∷ []) m) [
+          | inl k ↦ (me, (was_told.batch b e).acks a k)
+          | inr k ↦ Member-one (λ (x : Acked). IsAcked sent (asking_of me b.turn) (greatest_watermark b.told) (role kind.Acceptor x.acceptor) x.mark) new (
+            to,
+            subst (λ x. Member (letter (role kind.Acceptor from.index) to (msg.PreReadAck x (greatest_watermark b.told) n)) sent) ours
+                (subst (λ x. Member (letter (role kind.Acceptor from.index) to (msg.PreReadAck u x n)) sent) asked_with
+                (subst (λ x. Member (letter x to (msg.PreReadAck u w n)) sent) is_acceptor is_sent)),
+          ) a k
+        ])
+        )))
+
+    -- what the running batch asks again
+    asks_again : (b : Batch) → v.running ≡ Some b → HasBatch c asked t me (Some b) → Each Says (ask_acceptors c me b)
+    asks_again b e is = asks_second b is (λ a m. (was_told.batch b e).answers a m) (members_of c (live_entries b.told))
+
+    ticks_good : (o : Option Batch) → v.running ≡ o → HasBatch c asked t me o → Good (reader_tick c me v o)
+    ticks_good None e is = same _
+    ticks_good (Some b) e is = record {
+      says = either_way (Each Says) (is_matched c b) (ask_acceptors c me b) (ask_matchmakers c me b.turn) (asks_again b e is) (asks_first b.turn);
+      runs = batch;
+    }
+
+    takes_good : (from to : RoleId) (m : Msg) → to ≡ me → Member (letter from to m) sent → (from.kind ≡ kind.Matchmaker → from.index < 2 * c.f + 1) → Good (reader_takes c me d v from m)
+    takes_good from to (msg.ReadReq seq replica key) mine is_sent within = request_good (asked_for (token from.index seq) replica key)
+    takes_good from to (msg.MatchReadAck u w es) mine is_sent within = match_good from to u w es mine is_sent (within (known.0.senders _ is_sent)) v.running refl batch
+    takes_good from to (msg.PreReadAck u w n) mine is_sent within = ack_good from to u w n mine is_sent v.running refl batch
+    takes_good from to other mine is_sent within = same _
+
+    -- whatever a reader is given
+    reader_good : (i : Input) → Given sent me i → Good (reader_row c me d v i)
     reader_good (input.Take l) given =
         by_test Good (same_role l.to me && names c l) _ _
-        (λ h. takes_good l.from l.to l.msg given.1 (λ e. from_within c l kind.Matchmaker (and_parts (same_role l.to me) (names c l) h).1 e))
-        (λ f. record { sends = nothing; reads = all })
-    reader_good input.Tick given = record { sends = nothing; reads = all }
-    reader_good (input.Order order) given = record { sends = nothing; reads = all }
+        (λ h. takes_good l.from l.to l.msg given.0 given.1 (λ e. from_within c l kind.Matchmaker (and_parts (same_role l.to me) (names c l) h).1 e))
+        (λ f. same _)
+    reader_good input.Tick given = ticks_good v.running refl batch
+    reader_good (input.Order order) given = same _
 
   pub reader_lands : (r : ℕ) (v : ReaderVolatile) (i : Input) → states (role kind.Reader r) ≡ ReaderIn v → Given sent (role kind.Reader r) i
-      → Lands (Since c asked sent0 t) history sent states (role kind.Reader r) ReaderIn (reader_row c (role kind.Reader r) tt v i)
+      → Lands (Since c asked sent0 t) history sent states (role kind.Reader r) ReaderIn (reader_row c (role kind.Reader r) (durable_of reader_rules (role kind.Reader r) history) v i)
   reader_lands r v i up given =
       let me : RoleId = role kind.Reader r in
-      let good = reader_good me v (subst (λ s. InReader c s) up (reads.readers me)) (subst (λ s. InState c history sent me s) up (facts.running me)).0 i given in
-      lands c asked sent0 t history sent states facts reads me ReaderIn _ good.sends
-      (no_acks c asked sent0 t history sent states facts reads me _ (λ e. cc) (reader_kinds c me refl v i)) good.reads
+      let d : ReaderDurable = durable_of reader_rules me history in
+      let state = subst (λ s. InState c history sent me s) up (facts.running me) in
+      let good = reader_good me d v (subst (λ s. InReader c asked t me s) up (reads.readers me)) state.0 state.1 (next_is_new r history asked known.0.keepers reads.has) i given in
+      lands c asked sent0 t history sent states facts reads me ReaderIn _ good.says
+      (no_acks c asked sent0 t history sent states facts reads me _ (λ e. cc) (reader_kinds c me refl d v i)) good.runs

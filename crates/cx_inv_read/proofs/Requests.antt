@@ -1,24 +1,30 @@
--- The requests of a run: each that goes out stays among its events, and by one number no client asks both for a read and in a session.
+-- The requests of a run: each that goes out stays among its events, by one number no client asks both for a read and in a session, and three kinds
+-- of datagrams are sent.
 use Rattle.std.proofs.Common.{◌≡◌, ◌⊎◌, ℕ, Bool, true, false, not, ◌&&◌, ◌||◌, List, [], ◌∷◌, Some, inl, inr, ap, sym, subst, ◌∙◌, refl}
 use Rattle.std.specs.List.{list_any}
 use Rattle.std.proofs.lemmas.Bool.{true≢false, and_from}
 use Rattle.cx_base.specs.declared.cluster.Cluster.{Cluster}
+use Rattle.cx_base.specs.declared.command.Command.{Command}
 use Rattle.cx_base.specs.declared.event.Event.{Event}
 use Rattle.cx_base.specs.declared.event.Event.TheVariants as event
 use Rattle.cx_base.specs.declared.event.Happened.{Happened}
+use Rattle.cx_base.specs.declared.role.RoleId.{RoleId}
 use Rattle.cx_base.specs.declared.why.Why.{Why}
 use Rattle.cx_base.specs.declared.why.Why.TheVariants as why
 use Rattle.cx_field.specs.declared.parts.Token.{Token}
+use Rattle.cx_msg.specs.Letter.{Letter, letter}
+use Rattle.cx_msg.specs.declared.message.Msg.TheVariants as msg
 use Rattle.cx_model.specs.History.{was_asked}
 use Rattle.cx_model.specs.Lists.{number_itself}
 use Rattle.cx_model.specs.Member.{Member}
 use Rattle.cx_model.specs.Outcome.{by_test}
 use Rattle.cx_model.specs.Promises.{WasRead, WasSession}
 use Rattle.cx_model.specs.Reader.{token}
-use Rattle.cx_model.specs.Request.{token_of, same_request, same_token, is_past, floor_in, was_sent, is_stale}
+use Rattle.cx_model.specs.Request.{token_of, same_request, same_token, is_past, floor_in, was_sent, is_stale, request}
 use Rattle.cx_model.specs.World.{World, Change, ask, change, step, run_from, run}
 use Rattle.cx_inv_run.specs.Laws.{AllAllowed}
-use Rattle.cx_inv_run.proofs.Members.{Member-cases, Member-first, Member-second, Member-any}
+use Rattle.cx_inv_run.proofs.Members.{Member-cases, Member-first, Member-second, Member-one, Member-any}
+use Rattle.cx_inv_read.proofs.Rows.{Each}
 
 abbrev happened : Event → Why → Happened
 happened e y = record { event = e; why = y }
@@ -142,3 +148,17 @@ pub read_or_session : (c : Cluster) (es : List Event) (t : Token) (key other : L
     → WasRead (run c es).events t.client t.seq key → WasSession (run c es).events t.client t.seq other → ⊥
 read_or_session c es t key other m n =
     apart_from (run c []) (λ client seq f r p g q k o x y. absurd x) es t.client t.seq m.0 m.1 m.2 n.0 n.1 key other m.3 n.2
+
+-- a request hands in a command, asks for a read, or asks a replica in a session
+pub requested : (P : Letter → Type 0) → ((from to : RoleId) (command : Command) → P (letter from to (msg.Submit command)))
+    → ((from to : RoleId) (seq replica : ℕ) (key : List ℕ) → P (letter from to (msg.ReadReq seq replica key)))
+    → ((from to : RoleId) (seq n : ℕ) (key : List ℕ) → P (letter from to (msg.SessRead seq n key))) → (n : ℕ) (e : Event) → Each P (request n e)
+requested P submit read session n (event.Write command batcher) = Member-one P _ (submit _ _ command)
+requested P submit read session n (event.Read client seq floor reader replica key) = Member-one P _ (read _ _ seq replica key)
+requested P submit read session n (event.Session client seq floor replica key) = Member-one P _ (session _ _ seq n key)
+requested P submit read session n (event.Deliver k cut) = λ d m. absurd m
+requested P submit read session n (event.Tick r) = λ d m. absurd m
+requested P submit read session n (event.Order l order cut) = λ d m. absurd m
+requested P submit read session n (event.Snap p cut) = λ d m. absurd m
+requested P submit read session n (event.Crash r) = λ d m. absurd m
+requested P submit read session n (event.Restart r) = λ d m. absurd m

@@ -1,10 +1,11 @@
 -- Each row of an acceptor and of a matchmaker keeps the facts on a read.
-use Rattle.std.proofs.Common.{◌≡◌, ℕ, ◌&&◌, max, List, [], inl, inr, sym, subst, ◌∙◌, refl, arith}
+use Rattle.std.proofs.Common.{◌≡◌, ℕ, ◌&&◌, max, List, [], inl, inr, sym, subst, refl, arith}
 use Rattle.cx_base.specs.declared.cluster.Cluster.{Cluster}
 use Rattle.cx_base.specs.declared.role.Kind.TheVariants as kind
 use Rattle.cx_base.specs.declared.role.RoleId.{RoleId}
 use Rattle.cx_base.specs.declared.round.Round.{Round}
 use Rattle.cx_base.specs.Role.{role, same_role}
+use Rattle.cx_field.specs.declared.parts.Asking.{Asking}
 use Rattle.cx_field.specs.declared.parts.Token.{Token}
 use Rattle.cx_msg.specs.Letter.{Letter, letter}
 use Rattle.cx_msg.specs.declared.input.Input.{Input}
@@ -21,7 +22,7 @@ use Rattle.cx_inv_run.specs.Laws.{Lands}
 use Rattle.cx_inv_run.specs.States.{State, plain, Given, durable_of}
 use Rattle.cx_inv_run.proofs.Senders.{matchmaker_kinds}
 use Rattle.cx_inv_match.specs.Facts.{Facts}
-use Rattle.cx_inv_read.specs.Reads.{Covers, IsRaised, IsReadAnswer, ReadSays, Reads}
+use Rattle.cx_inv_read.specs.Reads.{Covers, IsNew, IsRaised, IsReadAnswer, ReadSays, Reads}
 use Rattle.cx_inv_read.proofs.Keep.{Since, covers_older, lands, no_acks}
 use Rattle.cx_inv_read.proofs.Rows.{IsPlain, Each, acceptor_tells, matchmaker_tells}
 use Rattle.cx_inv_read.proofs.Says.{Known}
@@ -52,7 +53,7 @@ module _ (c : Cluster) (asked : List KeptRecord) (sent0 : List Letter) (states0 
   -- an acceptor
 
   abbrev IsAckSo : Letter → Type 0
-  IsAckSo d = (u : Token) (w : Round) (n : ℕ) → d.msg ≡ msg.PreReadAck u w n → u ≡ t → Covers history d.from n × IsRaised history w
+  IsAckSo d = (u : Asking) (w : Round) (n : ℕ) → d.msg ≡ msg.PreReadAck u w n → IsNew asked u → Covers history d.from n × IsRaised history w
 
   covers_all : (me : RoleId) → Covers history me (max (durable_of acceptor_rules me history).cw (durable_of acceptor_rules me history).top)
   covers_all me = record {
@@ -75,14 +76,14 @@ module _ (c : Cluster) (asked : List KeptRecord) (sent0 : List Letter) (states0 
       (acceptor_tells IsAckSo me (λ to m h u w n e p. absurd (subst IsPlain e h)) (durable_of acceptor_rules me history) l.from l.msg (ack l given.1))
       (λ d m. absurd m)
     where
-      ack : (l : Letter) → Member l sent → (u : Token) (w : Round) → l.msg ≡ msg.PreRead u w
+      ack : (l : Letter) → Member l sent → (u : Asking) (w : Round) → l.msg ≡ msg.PreRead u w
           → IsAckSo (letter me l.from (msg.PreReadAck u w (max (durable_of acceptor_rules me history).cw (durable_of acceptor_rules me history).top)))
       ack l m u w e x y n q p =
           let a : x ≡ u = cc in
           let b : y ≡ w = cc in
           let k : n ≡ max (durable_of acceptor_rules me history).cw (durable_of acceptor_rules me history).top = cc in (
             subst (λ z. Covers history me z) (sym k) (covers_all me),
-            subst (λ z. IsRaised history z) (sym b) (subst (λ m. ReadSays asked t history l.from l.to m) e (reads.says l m) (sym a ∙ p)),
+            subst (λ z. IsRaised history z) (sym b) (subst (λ m. ReadSays asked t history l.from l.to m) e (reads.says l m) (subst (IsNew asked) a p)),
           )
   acceptor_acks me input.Tick given = λ d m. absurd m
   acceptor_acks me (input.Order order) given = λ d m. absurd m
@@ -91,7 +92,7 @@ module _ (c : Cluster) (asked : List KeptRecord) (sent0 : List Letter) (states0 
       → Lands (Since c asked sent0 t) history sent states (role kind.Acceptor a) plain (acceptor_row c (role kind.Acceptor a) (durable_of acceptor_rules (role kind.Acceptor a) history) tt i)
   acceptor_lands a i given =
       lands c asked sent0 t history sent states facts reads (role kind.Acceptor a) plain _ (acceptor_says (role kind.Acceptor a) i given)
-      (λ w b n x. acceptor_acks (role kind.Acceptor a) i given _ x.1 t w n refl refl) tt
+      (λ u new w b n x. acceptor_acks (role kind.Acceptor a) i given _ x.1 u w n refl new) tt
 
   -- a matchmaker
 

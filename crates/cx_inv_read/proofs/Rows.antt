@@ -1,30 +1,35 @@
 -- What the rows of the roles that take part in reads send: what is true of their other datagrams, and of each step of a read, is true of all.
-use Rattle.std.proofs.Common.{◌≡◌, ℕ, ◌+◌, ◌-◌, ◌≤◌, true, false, not, ◌&&◌, max, map, filter, ◌⊎◌, List, [], ◌∷◌, ◌++◌, length, Option, None, Some, inl, inr, ap, sym, subst, ◌∙◌, refl}
+use Rattle.std.proofs.Common.{◌≡◌, ℕ, ◌+◌, ◌-◌, ◌≤◌, not, ◌&&◌, max, map, filter, ◌⊎◌, List, [], ◌∷◌, ◌++◌, length, Option, None, Some, inl, inr, sym, subst, refl}
 use Rattle.std.specs.Prelude.{◌==◌, ◌%◌, nat_lt, nat_le, slice_get}
 use Rattle.std.specs.List.{list_any}
-use Rattle.std.proofs.lemmas.Bool.{and_parts, not-false, leb-true}
-use Rattle.std.proofs.lemmas.Option.{same_Some}
+use Rattle.std.proofs.lemmas.Bool.{leb-true}
 use Rattle.cx_base.specs.declared.cluster.Cluster.{Cluster}
 use Rattle.cx_base.specs.declared.command.Answered.{Answered}
 use Rattle.cx_base.specs.declared.command.Value.{Value}
 use Rattle.cx_base.specs.declared.role.RoleId.{RoleId}
 use Rattle.cx_base.specs.declared.round.Round.{Round}
+use Rattle.cx_base.specs.declared.role.Kind.TheVariants as kind
+use Rattle.cx_base.specs.declared.why.Why.{Why}
+use Rattle.cx_base.specs.declared.why.Why.TheVariants.{Sent}
 use Rattle.cx_base.specs.Lists.{below}
+use Rattle.cx_base.specs.Role.{role, same_role}
+use Rattle.cx_model.specs.Names.{names}
+use Rattle.cx_msg.specs.declared.input.Input.{Input}
+use Rattle.cx_msg.specs.declared.input.Input.TheVariants as input
 use Rattle.cx_base.specs.Log.{ready_values}
 use Rattle.cx_base.specs.Round.{is_before, same_round}
+use Rattle.cx_field.specs.declared.parts.Asking.{Asking}
 use Rattle.cx_field.specs.declared.parts.Entry.{Entry}
-use Rattle.cx_field.specs.declared.parts.Token.{Token}
 use Rattle.cx_msg.specs.Letter.{Letter, letter}
 use Rattle.cx_msg.specs.declared.message.Msg.{Msg}
 use Rattle.cx_msg.specs.declared.message.Msg.TheVariants as msg
 use Rattle.cx_model.specs.declared.states.Deferred.{Deferred}
 use Rattle.cx_model.specs.Acceptor.{AcceptorDurable, is_of, vote_at, acceptor_takes}
-use Rattle.cx_model.specs.Lists.{same_number}
 use Rattle.cx_model.specs.Matched.{matchmakers, is_counted, greatest_watermark, live_entries, is_member_of, members_of, rows_whole}
 use Rattle.cx_model.specs.Matchmaker.{MatchmakerDurable, has_round, matchmaker_takes}
 use Rattle.cx_model.specs.Member.{Member}
 use Rattle.cx_model.specs.Outcome.{Outcome, either_way, by_test}
-use Rattle.cx_model.specs.Reader.{ReaderVolatile, Reading, token, reading_of, with_reading, without_reading, is_matched, acked_by, has_acked, greatest_mark, match_read_to, pre_read_to, read_to, ask_matchmakers, read_req_over, read_req_row, send_read, read_matched, match_ack_row, pre_read_ack_row}
+use Rattle.cx_model.specs.Reader.{Asked, Batch, ReaderDurable, ReaderVolatile, acked_by, ask_acceptors, ask_matchmakers, ask_replicas, asked_for, begin, begin_if, finish, greatest_mark, has_acked, is_among, is_first, is_matched, is_of_batch, last_turn, match_ack_row, match_read_to, matched, pre_read_ack_row, pre_read_to, read_to, reader_row, reader_takes, reader_tick, request_over, request_row, token, asking_of}
 use Rattle.cx_model.specs.Replica.{ReplicaDurable, ReplicaVolatile, Machine, held, execute_value, machine_from, results_at, results_from, read_answer_to, read_answers, fetched_by, fetch_found, read_row, replica_takes, held_to, fetch_to, replica_tick}
 use Rattle.cx_model.specs.Request.{same_read}
 use Rattle.cx_inv_run.proofs.Members.{Member-both, Member-one, Member-map, Member-filter}
@@ -48,7 +53,7 @@ Each P ds = (d : Letter) → Member d ds → P d
 none : (P : Letter → Type 0) → Each P []
 none P d m = absurd m
 
-each_mapped : {X : Type 0} (P : Letter → Type 0) (make : X → Letter) (xs : List X) → ((x : X) → Member x xs → P (make x)) → Each P (map make xs)
+pub each_mapped : {X : Type 0} (P : Letter → Type 0) (make : X → Letter) (xs : List X) → ((x : X) → Member x xs → P (make x)) → Each P (map make xs)
 each_mapped P make xs h d m = let r = Member-map make d xs m in subst P (sym r.2) (h r.0 r.1)
 
 -- an acceptor
@@ -60,7 +65,7 @@ module _ (P : Letter → Type 0) (me : RoleId) (plain : (to : RoleId) (m : Msg) 
   acceptor_one : (to : RoleId) (m : Msg) → IsPlain m → Each P (letter me to m ∷ [])
   acceptor_one to m h = Member-one P (letter me to m) (plain to m h)
 
-  pub acceptor_tells : (m : Msg) → ((t : Token) (w : Round) → m ≡ msg.PreRead t w → P (letter me from (msg.PreReadAck t w (max d.cw d.top)))) → AcceptorTells (acceptor_takes me d from m)
+  pub acceptor_tells : (m : Msg) → ((u : Asking) (w : Round) → m ≡ msg.PreRead u w → P (letter me from (msg.PreReadAck u w (max d.cw d.top)))) → AcceptorTells (acceptor_takes me d from m)
   acceptor_tells (msg.Phase1A i) ack =
       either_way AcceptorTells (is_before i d.promise) _ _ (acceptor_one _ _ tt)
       (either_way AcceptorTells (same_round i d.promise) _ _ (acceptor_one _ _ tt) (acceptor_one _ _ tt))
@@ -71,7 +76,7 @@ module _ (P : Letter → Type 0) (me : RoleId) (plain : (to : RoleId) (m : Msg) 
   acceptor_tells (msg.Inform i cw) ack =
       either_way AcceptorTells (is_before i d.promise) _ _ (acceptor_one _ _ tt)
       (either_way AcceptorTells (same_round i d.promise && nat_le cw d.cw) _ _ (acceptor_one _ _ tt) (acceptor_one _ _ tt))
-  acceptor_tells (msg.PreRead t w) ack = Member-one P _ (ack t w refl)
+  acceptor_tells (msg.PreRead u w) ack = Member-one P _ (ack u w refl)
   acceptor_tells other ack = none P
 
 -- a matchmaker
@@ -83,14 +88,14 @@ module _ (P : Letter → Type 0) (me : RoleId) (plain : (to : RoleId) (m : Msg) 
   matchmaker_one : (to : RoleId) (m : Msg) → IsPlain m → Each P (letter me to m ∷ [])
   matchmaker_one to m h = Member-one P (letter me to m) (plain to m h)
 
-  pub matchmaker_tells : (m : Msg) → ((t : Token) → m ≡ msg.MatchRead t → P (letter me from (msg.MatchReadAck t d.watermark d.entries))) → MatchmakerTells (matchmaker_takes me d from m)
+  pub matchmaker_tells : (m : Msg) → ((u : Asking) → m ≡ msg.MatchRead u → P (letter me from (msg.MatchReadAck u d.watermark d.entries))) → MatchmakerTells (matchmaker_takes me d from m)
   matchmaker_tells (msg.MatchA i g) ack =
       either_way MatchmakerTells (is_before i d.watermark) _ _ (matchmaker_one _ _ tt)
       (either_way MatchmakerTells (list_any (λ (e : Entry). is_before i e.round) d.entries) _ _ (matchmaker_one _ _ tt)
       (either_way MatchmakerTells (has_round i d.entries) _ _ (matchmaker_one _ _ tt)
       (either_way MatchmakerTells (nat_le 16 (length d.entries)) _ _ (matchmaker_one _ _ tt) (matchmaker_one _ _ tt))))
   matchmaker_tells (msg.GarbageA i g) ack = either_way MatchmakerTells (is_before d.watermark i) _ _ (matchmaker_one _ _ tt) (matchmaker_one _ _ tt)
-  matchmaker_tells (msg.MatchRead t) ack = Member-one P _ (ack t refl)
+  matchmaker_tells (msg.MatchRead u) ack = Member-one P _ (ack u refl)
   matchmaker_tells other ack = none P
 
 -- a replica
@@ -162,87 +167,73 @@ module _ (P : Letter → Type 0) (c : Cluster) (me : RoleId) (plain : (to : Role
 
 -- a reader
 
-pub same_read-true : (t u : Token) → same_read t u ≡ true → t ≡ u
-same_read-true t u h =
-    let p = and_parts (t.client == u.client) (t.seq == u.seq) h in
-    let q = same_number t.client u.client p.0 in
-    let r = same_number t.seq u.seq p.1 in
-    λ i. record { client = q i; seq = r i }
+-- What is true of what a reader asks under its next turn and under its batch's, and of the reads of its batch, is true of all that it sends.
+module _ (P : Letter → Type 0) (c : Cluster) (me : RoleId) (d : ReaderDurable) (v : ReaderVolatile)
+    (next : (m : ℕ) → P (match_read_to me (asking_of me (d.turn + 1)) m))
+    (first : (b : Batch) → v.running ≡ Some b → (m : ℕ) → P (match_read_to me (asking_of me b.turn) m))
+    (second : (b : Batch) → v.running ≡ Some b → (w : Round) (a : ℕ) → P (letter me (role kind.Acceptor a) (msg.PreRead (asking_of me b.turn) w)))
+    (last : (b : Batch) → v.running ≡ Some b → (r : Asked) → Member r b.reads → (n : ℕ) → P (read_to me n r)) where
+  abbrev ReaderTells : Outcome ReaderVolatile → Type 0
+  ReaderTells o = Each P o.sends
 
-pub reading_there : (t : Token) (rs : List Reading) (r : Reading) → reading_of t rs ≡ Some r → Member r rs × (t ≡ r.token)
-reading_there t [] r e = cc
-reading_there t (x ∷ rs) r e =
-    by_test (λ (o : Option Reading). o ≡ Some r → Member r (x ∷ rs) × (t ≡ r.token)) (same_read t x.token) (Some x) (reading_of t rs)
-    (λ q p. let y : x ≡ r = same_Some x r p in (inl (sym y), same_read-true t x.token q ∙ ap (λ (z : Reading). z.token) y))
-    (λ q p. let y = reading_there t rs r p in (inr y.0, y.1)) e
+  begun : (w : Why) (ds : List Letter) (rs : List Asked) → Each P ds → ReaderTells (begin c me d w ds rs)
+  begun w ds rs told = Member-both P ds (ask_matchmakers c me (d.turn + 1)) told (each_mapped P (match_read_to me (asking_of me (d.turn + 1))) (matchmakers c) (λ m k. next m))
 
-with_reading-cases : (one : Reading) (rs : List Reading) (x : Reading) → Member x (with_reading one rs) → (x ≡ one) ⊎ Member x rs
-with_reading-cases one [] x m = elim m [ inl e ↦ inl e | inr k ↦ absurd k ]
-with_reading-cases one (r ∷ rs) x m =
-    either_way (λ (l : List Reading). Member x l → (x ≡ one) ⊎ Member x (r ∷ rs)) (same_read one.token r.token) (one ∷ rs) (r ∷ with_reading one rs)
-    (λ k. elim k [ inl e ↦ inl e | inr q ↦ inr (inr q) ])
-    (λ k. elim k [ inl e ↦ inr (inl e) | inr q ↦ elim (with_reading-cases one rs x q) [ inl e ↦ inl e | inr y ↦ inr (inr y) ] ]) m
+  begun_if : (w : Why) (rs : List Asked) → ReaderTells (begin_if c me d v w rs)
+  begun_if w rs = either_way ReaderTells (d.turn == last_turn) _ _ (none P) (begun w [] rs (none P))
 
--- P of each datagram, and Q of each read in progress
-module _ (P : Letter → Type 0) (Q : Reading → Type 0) (c : Cluster) (me : RoleId) (v : ReaderVolatile) (all : (r : Reading) → Member r v.reads → Q r) where
-  pub record ReaderTells (o : Outcome ReaderVolatile) : Type 0 where
-    pub sends : Each P o.sends
-    pub reads : (r : Reading) → Member r o.volatile.reads → Q r
-
-  with_all : (one : Reading) → Q one → (r : Reading) → Member r (with_reading one v.reads) → Q r
-  with_all one new r m = elim (with_reading-cases one v.reads r m) [ inl e ↦ subst Q (sym e) new | inr k ↦ all r k ]
-
-  without_all : (t : Token) (r : Reading) → Member r (without_reading t v.reads) → Q r
-  without_all t r m = all r (Member-filter (λ (x : Reading). not (same_read t x.token)) r v.reads m).0
-
-  pub request_tells : (one : Reading) → Q one → ((m : ℕ) → P (match_read_to me one.token m)) → ReaderTells (read_req_row c me v one)
-  request_tells one new asks = go (reading_of one.token v.reads)
+  requested : (one : Asked) → ReaderTells (request_row c me d v one)
+  requested one = either_way ReaderTells (is_among one.read v.waiting) _ _ (none P) (over v.running)
     where
-      begun : Each P (ask_matchmakers c me one.token)
-      begun = each_mapped P (match_read_to me one.token) (matchmakers c) (λ m k. asks m)
+      over : (o : Option Batch) → ReaderTells (request_over c me d v one o)
+      over None = either_way ReaderTells (nat_le 64 (length v.waiting)) _ _ (none P) (begun_if _ _)
+      over (Some b) =
+          either_way ReaderTells (is_first one.read b.reads) _ _ (begun_if _ _)
+          (either_way ReaderTells (is_among one.read b.reads) _ _ (none P) (either_way ReaderTells (nat_le 64 (length v.waiting + length b.reads)) _ _ (none P) (none P)))
 
-      go : (o : Option Reading) → ReaderTells (read_req_over c me v one o)
-      go None =
-          either_way ReaderTells (nat_le 64 (length v.reads)) _ _ (record { sends = none P; reads = all }) (record { sends = begun; reads = with_all one new })
-      go (Some old) = record { sends = begun; reads = with_all one new }
+  module _ (b : Batch) (is : v.running ≡ Some b) where
+    finished : (next : Batch) → next.reads ≡ b.reads → (n : ℕ) → ReaderTells (finish c me d v next n)
+    finished next same n =
+        let told : Each P (ask_replicas me next n) = each_mapped P (read_to me n) next.reads (λ r m. last b is r (subst (λ l. Member r l) same m) n) in
+        either_way ReaderTells (nat_lt 0 (length v.waiting) && not (d.turn == last_turn)) _ _ (begun Sent (ask_replicas me next n) v.waiting told) told
 
-  sent_read : (r : Reading) (n : ℕ) → P (read_to me r n) → ReaderTells (send_read me v r n)
-  sent_read r n h = record { sends = Member-one P (read_to me r n) h; reads = without_all r.token }
+    matched_on : (next : Batch) → next.reads ≡ b.reads → next.turn ≡ b.turn → (es : List Entry) → ReaderTells (matched c me d v next es)
+    matched_on next same turn [] = finished next same 0
+    matched_on next same turn (e ∷ es) =
+        each_mapped P (pre_read_to me next) (members_of c (e ∷ es))
+        (λ a m. subst (λ n. P (letter me (role kind.Acceptor a) (msg.PreRead (asking_of me n) (greatest_watermark next.told)))) (sym turn) (second b is (greatest_watermark next.told) a))
 
-  matched_tells : (r : Reading) → Q r → (es : List Entry) → (es ≡ [] → P (read_to me r 0)) → ((a : ℕ) → P (pre_read_to me r a)) → ReaderTells (read_matched c me v r es)
-  matched_tells r new [] last asks = sent_read r 0 (last refl)
-  matched_tells r new (e ∷ es) last asks =
-      record { sends = each_mapped P (pre_read_to me r) (members_of c (e ∷ es)) (λ a m. asks a); reads = with_all r new }
+  told : (from : RoleId) (u : Asking) (w : Round) (es : List Entry) (o : Option Batch) → v.running ≡ o → ReaderTells (match_ack_row c me d v from u w es o)
+  told from u w es None is = none P
+  told from u w es (Some b) is =
+      let one : Batch = record b { told = b.told ++ record { matchmaker = from.index; watermark = w; entries = es } ∷ [] } in
+      either_way ReaderTells (not (is_of_batch me b u && not (is_matched c b))) _ _ (none P)
+      (either_way ReaderTells (is_counted from.index b.told) _ _ (none P)
+      (either_way ReaderTells (is_matched c one) _ _ (matched_on b is one refl refl (live_entries one.told)) (none P)))
 
-  -- a matchmaker's answer is counted, and the read goes on
-  pub match_tells : (from : RoleId) (w : Round) (es : List Entry) (o : Option Reading)
-      → ((r : Reading) → o ≡ Some r → is_counted from.index r.told ≡ false
-      → (let one : Reading = record r { told = r.told ++ record { matchmaker = from.index; watermark = w; entries = es } ∷ [] } in
-      Q one × (is_matched c one ≡ true → (live_entries one.told ≡ [] → P (read_to me one 0)) × ((a : ℕ) → P (pre_read_to me one a)))))
-      → ReaderTells (match_ack_row c me v from w es o)
-  match_tells from w es None h = record { sends = none P; reads = all }
-  match_tells from w es (Some r) h =
-      let one : Reading = record r { told = r.told ++ record { matchmaker = from.index; watermark = w; entries = es } ∷ [] } in
-      either_way ReaderTells (is_matched c r) _ _ (record { sends = none P; reads = all })
-      (by_test ReaderTells (is_counted from.index r.told) _ _ (λ t. record { sends = none P; reads = all })
-      (λ f. let q = h r refl f in
-      by_test ReaderTells (is_matched c one) _ _
-      (λ t. let go = q.1 t in matched_tells one q.0 (live_entries one.told) go.0 go.1)
-      (λ g. record { sends = none P; reads = with_all one q.0 })))
+  acked : (from : RoleId) (u : Asking) (w : Round) (n : ℕ) (o : Option Batch) → v.running ≡ o → ReaderTells (pre_read_ack_row c me d v from u w n o)
+  acked from u w n None is = none P
+  acked from u w n (Some b) is =
+      let one : Batch = record b { acks = b.acks ++ record { acceptor = from.index; mark = n } ∷ [] } in
+      either_way ReaderTells (not (is_of_batch me b u && is_matched c b && is_member_of (live_entries b.told) from.index)) _ _ (none P)
+      (either_way ReaderTells (not (same_round w (greatest_watermark b.told))) _ _ (none P)
+      (either_way ReaderTells (has_acked from.index b.acks) _ _ (none P)
+      (either_way ReaderTells (rows_whole (live_entries one.told) (acked_by one.acks)) _ _ (finished b is one refl (greatest_mark one.acks)) (none P))))
 
-  -- an acceptor's answer is counted, and the read goes on
-  pub ack_tells : (from : RoleId) (w : Round) (n : ℕ) (o : Option Reading)
-      → ((r : Reading) → o ≡ Some r → is_matched c r ≡ true → same_round w (greatest_watermark r.told) ≡ true
-      → (let one : Reading = record r { acks = r.acks ++ record { acceptor = from.index; mark = n } ∷ [] } in
-      Q one × (rows_whole (live_entries one.told) (acked_by one.acks) ≡ true → P (read_to me one (greatest_mark one.acks)))))
-      → ReaderTells (pre_read_ack_row c me v from w n o)
-  ack_tells from w n None h = record { sends = none P; reads = all }
-  ack_tells from w n (Some r) h =
-      let one : Reading = record r { acks = r.acks ++ record { acceptor = from.index; mark = n } ∷ [] } in
-      by_test ReaderTells (not (is_matched c r && is_member_of (live_entries r.told) from.index)) _ _ (λ t. record { sends = none P; reads = all })
-      (λ f. by_test ReaderTells (not (same_round w (greatest_watermark r.told))) _ _ (λ t. record { sends = none P; reads = all })
-      (λ g. either_way ReaderTells (has_acked from.index r.acks) _ _ (record { sends = none P; reads = all })
-      (let matched = (and_parts (is_matched c r) (is_member_of (live_entries r.told) from.index) (not-false (is_matched c r && is_member_of (live_entries r.told) from.index) f)).0 in
-      let q = h r refl matched (not-false (same_round w (greatest_watermark r.told)) g) in
-      by_test ReaderTells (rows_whole (live_entries one.told) (acked_by one.acks)) _ _
-      (λ t. sent_read one (greatest_mark one.acks) (q.1 t)) (λ t. record { sends = none P; reads = with_all one q.0 }))))
+  took : (from : RoleId) (m : Msg) → ReaderTells (reader_takes c me d v from m)
+  took from (msg.ReadReq seq replica key) = requested (asked_for (token from.index seq) replica key)
+  took from (msg.MatchReadAck u w es) = told from u w es v.running refl
+  took from (msg.PreReadAck u w n) = acked from u w n v.running refl
+  took from other = none P
+
+  ticked : (o : Option Batch) → v.running ≡ o → ReaderTells (reader_tick c me v o)
+  ticked None is = none P
+  ticked (Some b) is =
+      either_way (Each P) (is_matched c b) (ask_acceptors c me b) (ask_matchmakers c me b.turn)
+      (each_mapped P (pre_read_to me b) (members_of c (live_entries b.told)) (λ a m. second b is (greatest_watermark b.told) a))
+      (each_mapped P (match_read_to me (asking_of me b.turn)) (matchmakers c) (λ m k. first b is m))
+
+  pub reader_tells : (i : Input) → Each P (reader_row c me d v i).sends
+  reader_tells (input.Take l) = either_way ReaderTells (same_role l.to me && names c l) _ _ (took l.from l.msg) (none P)
+  reader_tells input.Tick = ticked v.running refl
+  reader_tells (input.Order order) = none P

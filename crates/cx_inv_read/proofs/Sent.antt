@@ -8,7 +8,7 @@ use Rattle.cx_base.specs.declared.role.Kind.TheVariants as kind
 use Rattle.cx_base.specs.declared.role.RoleId.{RoleId}
 use Rattle.cx_base.specs.declared.round.Round.{Round}
 use Rattle.cx_base.specs.Role.{role, same_role}
-use Rattle.cx_field.specs.declared.parts.Token.{Token}
+use Rattle.cx_field.specs.declared.parts.Asking.{Asking}
 use Rattle.cx_msg.specs.Letter.{Letter, letter}
 use Rattle.cx_msg.specs.declared.input.Input.{Input}
 use Rattle.cx_msg.specs.declared.input.Input.TheVariants as input
@@ -21,6 +21,7 @@ use Rattle.cx_model.specs.Matchmaker.{matchmaker_rules}
 use Rattle.cx_model.specs.Member.{Member}
 use Rattle.cx_model.specs.Names.{names}
 use Rattle.cx_model.specs.Outcome.{Outcome, either_way}
+use Rattle.cx_model.specs.Reader.{reader_rules}
 use Rattle.cx_model.specs.Replica.{replica_rules}
 use Rattle.cx_model.specs.Request.{request}
 use Rattle.cx_model.specs.World.{change, step, run}
@@ -31,7 +32,8 @@ use Rattle.cx_inv_run.proofs.Members.{Member-second}
 use Rattle.cx_inv_run.proofs.Senders.{batcher_kinds, leader_kinds, proxy_kinds, matchmaker_kinds, replica_kinds, unbatcher_kinds, reader_kinds}
 use Rattle.cx_inv_run.proofs.Steps.{step_keeps, run_cluster}
 use Rattle.cx_inv_match.specs.Facts.{Facts}
-use Rattle.cx_inv_read.proofs.Fresh.{known_holds, requested}
+use Rattle.cx_inv_read.proofs.Fresh.{known_holds}
+use Rattle.cx_inv_read.proofs.Requests.{requested}
 use Rattle.cx_inv_read.proofs.Rows.{IsPlain, Each, acceptor_tells}
 use Rattle.cx_inv_read.proofs.Says.{Known}
 
@@ -40,7 +42,7 @@ abbrev pub MayAck : List KeptRecord → RoleId → ℕ → Type 0
 MayAck history a n = ((durable_of acceptor_rules a history).cw ≤ n) × ((j : Round) (s : ℕ) (v : Value) → HasVoted history a j s v → s < n)
 
 abbrev AckIsSo : List KeptRecord → Letter → Type 0
-AckIsSo history d = (t : Token) (w : Round) (n : ℕ) → d.msg ≡ msg.PreReadAck t w n → MayAck history d.from n
+AckIsSo history d = (u : Asking) (w : Round) (n : ℕ) → d.msg ≡ msg.PreReadAck u w n → MayAck history d.from n
 
 -- nothing is after all of a list
 behind_all : {X : Type 0} (xs ys : List X) → xs ≡ xs ++ ys → (y : X) → Member y ys → ⊥
@@ -112,16 +114,16 @@ module _ (c : Cluster) (before : List KeptRecord) (earlier : List Letter) where
     unbatcher = λ history sent states u i known h up given.
         lands history sent states known.1 (role kind.Unbatcher u) _ _ (others (role kind.Unbatcher u) _ (λ e. cc) (unbatcher_kinds c (role kind.Unbatcher u) refl i));
     reader = λ history sent states r v i known h up given.
-        lands history sent states known.1 (role kind.Reader r) _ _ (others (role kind.Reader r) _ (λ e. cc) (reader_kinds c (role kind.Reader r) refl v i));
+        lands history sent states known.1 (role kind.Reader r) _ _ (others (role kind.Reader r) _ (λ e. cc) (reader_kinds c (role kind.Reader r) refl (durable_of reader_rules (role kind.Reader r) history) v i));
   }
 
 -- the answers that an event of a run sends
-pub ack_sent : (c : Cluster) (es : List Event) (e : Event) (from to : RoleId) (t : Token) (w : Round) (n : ℕ)
-    → Member (letter from to (msg.PreReadAck t w n)) (change (run c es) e).sends → MayAck (reverse (run c es).kept) from n
+pub ack_sent : (c : Cluster) (es : List Event) (e : Event) (from to : RoleId) (u : Asking) (w : Round) (n : ℕ)
+    → Member (letter from to (msg.PreReadAck u w n)) (change (run c es) e).sends → MayAck (reverse (run c es).kept) from n
 unfolding step
-ack_sent c es e from to t w n m =
+ack_sent c es e from to u w n m =
     let world = run c es in
     let new : HoldsIn (New c (reverse world.kept) world.sent) (step world e) =
     step_keeps c (λ n x. Unit {0}) (Now c (reverse world.kept) world.sent) (New c (reverse world.kept) world.sent) (new_laws c (reverse world.kept) world.sent) world (run_cluster c es)
     (refl, refl, known_holds c es) (λ ds q d k. absurd (behind_all world.sent ds q d k)) e (λ s. tt) in
-    new (change world e).sends refl _ m t w n refl
+    new (change world e).sends refl _ m u w n refl

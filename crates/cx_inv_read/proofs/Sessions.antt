@@ -16,6 +16,7 @@ use Rattle.cx_model.specs.Acceptor.{acceptor_rules}
 use Rattle.cx_model.specs.Leader.{leader_rules}
 use Rattle.cx_model.specs.Matchmaker.{matchmaker_rules}
 use Rattle.cx_model.specs.Outcome.{Outcome}
+use Rattle.cx_model.specs.Reader.{reader_rules}
 use Rattle.cx_model.specs.Replica.{replica_rules}
 use Rattle.cx_model.specs.Request.{request}
 use Rattle.cx_model.specs.World.{run}
@@ -85,7 +86,7 @@ module _ (t : Token) (Marks : ℕ → Type 0) where
     unbatcher = λ history sent states u i known h up given.
         lands history sent states h (role kind.Unbatcher u) _ _ (λ e. cc) (unbatcher_kinds c (role kind.Unbatcher u) refl i);
     reader = λ history sent states r v i known h up given.
-        lands history sent states h (role kind.Reader r) _ _ (λ e. cc) (reader_kinds c (role kind.Reader r) refl v i);
+        lands history sent states h (role kind.Reader r) _ _ (λ e. cc) (reader_kinds c (role kind.Reader r) refl (durable_of reader_rules (role kind.Reader r) history) v i);
   }
 
   pub sessions_hold : (c : Cluster) (es : List Event) → AllAllowed IsMarked (run c []) es → HoldsIn (Sessions t Marks) (run c es)

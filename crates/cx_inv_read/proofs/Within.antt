@@ -33,7 +33,7 @@ use Rattle.cx_model.specs.Matchmaker.{matchmaker_rules}
 use Rattle.cx_model.specs.Member.{Member}
 use Rattle.cx_model.specs.Names.{names}
 use Rattle.cx_model.specs.Outcome.{Outcome, either_way}
-use Rattle.cx_model.specs.Reader.{token}
+use Rattle.cx_model.specs.Reader.{reader_rules, token}
 use Rattle.cx_model.specs.Replica.{IsTied, ReplicaDurable, ReplicaVolatile, Machine, Executed, held, new_machine, acting, execute_noted, execute, execute_all, execute_value, machine_from, machine_of, results_at, results_from, read_answer_to, read_answers, apply, fetched_by, fetch_found, read_row, held_to, fetch_to, replica_rules, replica_takes, replica_tick, replica_row}
 use Rattle.cx_model.specs.Request.{same_read, request}
 use Rattle.cx_model.specs.Unbatcher.{answer_to, unbatcher_takes, unbatcher_row}
@@ -49,7 +49,7 @@ use Rattle.cx_inv_run.proofs.Steps.{along, run_keeps, all_allowed}
 use Rattle.cx_inv_run.proofs.TieLaws.{ties_hold}
 use Rattle.cx_inv_run.proofs.Tying.{held_is}
 use Rattle.cx_inv_read.specs.Reads.{IsWithin, TellsWithin, Within}
-use Rattle.cx_inv_read.proofs.Fresh.{requested}
+use Rattle.cx_inv_read.proofs.Requests.{requested}
 use Rattle.cx_inv_read.proofs.Rows.{Each}
 use Rattle.cx_inv_read.proofs.Says.{told_lands}
 
@@ -280,7 +280,7 @@ within_laws c = record {
       lands history sent states h (role kind.Unbatcher u) _ _ (unbatcher_good c history (role kind.Unbatcher u) sent h i given);
   reader = λ history sent states r v i known h up given.
       lands history sent states h (role kind.Reader r) _ _
-      (sends_only _ (role kind.Reader r) _ (reader_kinds c (role kind.Reader r) refl v i) (λ to. reader_sends (TellsWithin _) (λ t. tt) (λ t w. tt) (λ t n key. tt)));
+      (sends_only _ (role kind.Reader r) _ (reader_kinds c (role kind.Reader r) refl (durable_of reader_rules (role kind.Reader r) history) v i) (λ to. reader_sends (TellsWithin _) (λ t. tt) (λ t w. tt) (λ t n key. tt)));
 }
 
 pub within_holds : (c : Cluster) (es : List Event) → HoldsIn Within (run c es)

@@ -1,6 +1,7 @@
--- What the datagrams of a read say: of the history as it was when the read was first asked for, and of a read that was not asked for; what those
--- of a session say; on which question to a replica an answer stands, and how many values some replica kept.
-use Rattle.std.specs.Prelude.{◌≡◌, ◌⊎◌, ℕ, ◌+◌, ◌*◌, ◌<◌, ◌≤◌, false, List, length}
+-- What the datagrams of a turn and of a read say: of the history as it was at a moment before the read was first asked for, and of a read that
+-- was not asked for; that turns were kept; what the datagrams of a session say; on which question to a replica an answer stands, and how many
+-- values some replica kept.
+use Rattle.std.specs.Prelude.{◌≡◌, ◌⊎◌, ℕ, ◌+◌, ◌*◌, ◌<◌, ◌≤◌, false, List, length, Option, None, Some}
 use Rattle.cx_base.specs.declared.cluster.Cluster.{Cluster}
 use Rattle.cx_base.specs.declared.command.Answered.{Answered}
 use Rattle.cx_base.specs.declared.command.Value.{Value}
@@ -10,6 +11,7 @@ use Rattle.cx_base.specs.declared.round.Round.{Round}
 use Rattle.cx_base.specs.Grid.{Shape}
 use Rattle.cx_base.specs.Role.{role}
 use Rattle.cx_base.specs.Round.{is_before, no_round}
+use Rattle.cx_field.specs.declared.parts.Asking.{Asking}
 use Rattle.cx_field.specs.declared.parts.Entry.{Entry}
 use Rattle.cx_field.specs.declared.parts.Token.{Token}
 use Rattle.cx_msg.specs.Letter.{Letter, letter}
@@ -20,8 +22,8 @@ use Rattle.cx_model.specs.declared.states.Deferred.{Deferred}
 use Rattle.cx_model.specs.Facts.{HasVoted, IsReadOf}
 use Rattle.cx_model.specs.Matchmaker.{entry}
 use Rattle.cx_model.specs.Member.{Member}
-use Rattle.cx_model.specs.Promises.{IsConfig}
-use Rattle.cx_model.specs.Reader.{Reading, token}
+use Rattle.cx_model.specs.Promises.{HasTurn, IsConfig}
+use Rattle.cx_model.specs.Reader.{Asked, Batch, asking_of, token}
 use Rattle.cx_inv_run.specs.States.{State, ReaderIn, log_in}
 use Rattle.cx_inv_match.specs.Facts.{AreOnce, told_by}
 use Rattle.cx_inv_match.specs.Words.{HasMatch, HasGarbage, HasMark, IsChosenIn, IsCollected}
@@ -47,66 +49,88 @@ IsAbove history n = (j : Round) (s : ℕ) (v : Value) → IsChosenIn history j s
 abbrev pub IsRaised : List KeptRecord → Round → Type 0
 IsRaised history w = (w ≡ no_round) ⊎ ((m : RoleId) × (g : Shape) × HasGarbage history m w g)
 
--- a matchmaker's answer has each round that was recorded there when the read was asked for, unless its watermark is above it
+-- a matchmaker's answer has each round that was recorded there at the earlier moment, unless its watermark is above it
 pub record IsReadAnswer (asked history : List KeptRecord) (m : RoleId) (water : Round) (entries : List Entry) : Type 0 where
   pub all : (j : Round) (g : Shape) → is_before j water ≡ false → HasMatch asked m j g → Member (entry j g) entries
   pub only : (e : Entry) → Member e entries → IsConfig history e.round e.grid
   pub raised : IsRaised history water
   pub has_watermark : (water ≡ no_round) ⊎ ((g : Shape) × Member (entry water g) entries)
 
--- What a datagram of the read says, up to the question to a replica. A kind that isn't named says nothing here: of what a replica answers, and of
--- a session, see below.
+-- this turn wasn't kept by the earlier moment
+abbrev pub IsNew : List KeptRecord → Asking → Type 0
+IsNew asked u = HasTurn asked u → ⊥
+
+-- What a datagram says where its turn is new, or where it is of the read, up to the question to a replica. A kind that isn't named says nothing
+-- here: of what a replica answers, and of a session, see below.
 abbrev pub ReadSays : List KeptRecord → Token → List KeptRecord → RoleId → RoleId → Msg → Type 0
-ReadSays asked t history from to (msg.MatchReadAck u w entries) = u ≡ t → IsReadAnswer asked history from w entries
-ReadSays asked t history from to (msg.PreRead u w) = u ≡ t → IsRaised history w
-ReadSays asked t history from to (msg.PreReadAck u w n) = u ≡ t → Covers asked from n × IsRaised history w
+ReadSays asked t history from to (msg.MatchReadAck u w entries) = IsNew asked u → IsReadAnswer asked history from w entries
+ReadSays asked t history from to (msg.PreRead u w) = IsNew asked u → IsRaised history w
+ReadSays asked t history from to (msg.PreReadAck u w n) = IsNew asked u → Covers asked from n × IsRaised history w
 ReadSays asked t history from to (msg.Read u n key) = u ≡ t → IsAbove asked n
 ReadSays asked t history from to other = Unit {0}
 
--- an acceptor answered the read, asked with this watermark, by this number
-abbrev pub IsAcked : List Letter → Token → Round → RoleId → ℕ → Type 0
-IsAcked sent t w a n = (to : RoleId) × Member (letter a to (msg.PreReadAck t w n)) sent
+-- an acceptor answered a turn, asked with this watermark, by this number
+abbrev pub IsAcked : List Letter → Asking → Round → RoleId → ℕ → Type 0
+IsAcked sent u w a n = (to : RoleId) × Member (letter a to (msg.PreReadAck u w n)) sent
 
--- All numbers by which acceptors answered with this watermark cover the records of one moment, not before that of the asking, at which the rounds
--- below the watermark could be forgotten.
-pub record IsSeen (c : Cluster) (asked : List KeptRecord) (sent0 : List Letter) (t : Token) (history : List KeptRecord) (sent : List Letter) (w : Round) : Type 0 where
+-- All numbers by which acceptors answered a turn with this watermark cover the records of one moment, not before the earlier one, at which the
+-- rounds below the watermark could be forgotten.
+pub record IsSeen (c : Cluster) (asked : List KeptRecord) (sent0 : List Letter) (u : Asking) (history : List KeptRecord) (sent : List Letter) (w : Round) : Type 0 where
   pub past : List KeptRecord
   pub told : List Letter
   pub within : Has history past
   pub longer : Has past asked
   pub wider : HasSent told sent0
   pub collected : IsCollected c past told w
-  pub covers : (a : RoleId) (n : ℕ) → IsAcked sent t w a n → Covers past a n
+  pub covers : (a : RoleId) (n : ℕ) → IsAcked sent u w a n → Covers past a n
 
 -- there is no watermark, or no acceptor answered with it, or that is so
-abbrev pub HasEvidence : Cluster → List KeptRecord → List Letter → Token → List KeptRecord → List Letter → Round → Type 0
-HasEvidence c asked sent0 t history sent w =
-    (w ≡ no_round) ⊎ (((a : RoleId) (n : ℕ) → IsAcked sent t w a n → ⊥) ⊎ IsSeen c asked sent0 t history sent w)
+abbrev pub HasEvidence : Cluster → List KeptRecord → List Letter → Asking → List KeptRecord → List Letter → Round → Type 0
+HasEvidence c asked sent0 u history sent w =
+    (w ≡ no_round) ⊎ (((a : RoleId) (n : ℕ) → IsAcked sent u w a n → ⊥) ⊎ IsSeen c asked sent0 u history sent w)
 
--- no matchmaker was counted twice for a read, and each is one of the cluster's
-pub record IsReading (c : Cluster) (r : Reading) : Type 0 where
-  pub once : AreOnce (told_by r.told)
-  pub known : (m : ℕ) → Member m (told_by r.told) → m < 2 * c.f + 1
+-- No matchmaker was counted twice for a batch, and each is one of the cluster's; and where the read is one of the batch, the batch's turn is a new one.
+pub record IsBatch (c : Cluster) (asked : List KeptRecord) (t : Token) (me : RoleId) (b : Batch) : Type 0 where
+  pub once : AreOnce (told_by b.told)
+  pub known : (m : ℕ) → Member m (told_by b.told) → m < 2 * c.f + 1
+  pub under : (r : Asked) → Member r b.reads → r.read ≡ t → IsNew asked (asking_of me b.turn)
 
-abbrev pub InReader : Cluster → State → Type 0
-InReader c (ReaderIn v) = (r : Reading) → Member r v.reads → IsReading c r
-InReader c other = Unit {0}
+abbrev pub HasBatch : Cluster → List KeptRecord → Token → RoleId → Option Batch → Type 0
+HasBatch c asked t me None = Unit {0}
+HasBatch c asked t me (Some b) = IsBatch c asked t me b
 
--- the facts on a read, once it was asked for in a world with these records and datagrams
+abbrev pub InReader : Cluster → List KeptRecord → Token → RoleId → State → Type 0
+InReader c asked t me (ReaderIn v) = HasBatch c asked t me v.running
+InReader c asked t me other = Unit {0}
+
+-- the facts on new turns and on a read, from a moment on that had these records and datagrams
 pub record Reads (c : Cluster) (asked : List KeptRecord) (sent0 : List Letter) (t : Token) (history : List KeptRecord) (sent : List Letter) (states : RoleId → State) : Type 0 where
   pub has : Has history asked
   pub has_sent : HasSent sent sent0
   pub says : (d : Letter) → Member d sent → ReadSays asked t history d.from d.to d.msg
-  pub evidence : (w : Round) → HasEvidence c asked sent0 t history sent w
-  pub readers : (me : RoleId) → InReader c (states me)
+  pub evidence : (u : Asking) → IsNew asked u → (w : Round) → HasEvidence c asked sent0 u history sent w
+  pub readers : (me : RoleId) → InReader c asked t me (states me)
+
+-- what a datagram of a turn says: the turn was kept
+abbrev pub TurnSays : List KeptRecord → Msg → Type 0
+TurnSays history (msg.MatchRead u) = HasTurn history u
+TurnSays history (msg.MatchReadAck u w entries) = HasTurn history u
+TurnSays history (msg.PreRead u w) = HasTurn history u
+TurnSays history (msg.PreReadAck u w n) = HasTurn history u
+TurnSays history other = Unit {0}
+
+abbrev pub BatchIsKept : List KeptRecord → RoleId → State → Type 0
+BatchIsKept history me (ReaderIn v) = (b : Batch) → v.running ≡ Some b → HasTurn history (asking_of me b.turn)
+BatchIsKept history me other = Unit {0}
+
+-- whatever is asked under a turn is asked behind its record
+pub record TurnsKept (history : List KeptRecord) (sent : List Letter) (states : RoleId → State) : Type 0 where
+  pub says : (d : Letter) → Member d sent → TurnSays history d.msg
+  pub running : (me : RoleId) → BatchIsKept history me (states me)
 
 -- a datagram that is of no read with this token, up to the question to a replica
 abbrev pub IsElse : Token → RoleId → RoleId → Msg → Type 0
 IsElse t from to (msg.ReadReq seq replica key) = token from.index seq ≡ t → ⊥
-IsElse t from to (msg.MatchRead u) = u ≡ t → ⊥
-IsElse t from to (msg.MatchReadAck u w entries) = u ≡ t → ⊥
-IsElse t from to (msg.PreRead u w) = u ≡ t → ⊥
-IsElse t from to (msg.PreReadAck u w n) = u ≡ t → ⊥
 IsElse t from to (msg.Read u n key) = u ≡ t → ⊥
 IsElse t from to other = Unit {0}
 

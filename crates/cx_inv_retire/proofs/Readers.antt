@@ -1,7 +1,8 @@
--- The rows of a reader: a read that is fresh asks only in grids of rounds that weren't retired before.
+-- The rows of a reader: a turn that is fresh asks only in grids of rounds that weren't retired before.
 use Rattle.std.proofs.Common.{◌≡◌, ℕ, ◌+◌, ◌*◌, ◌<◌, true, not, ◌&&◌, map, List, [], ◌∷◌, ◌++◌, length, Option, Some, None, sym, subst, refl, arith}
-use Rattle.std.specs.Prelude.{nat_lt, nat_le}
-use Rattle.std.proofs.lemmas.Bool.{and_parts, ltb-true, leb-true}
+use Rattle.std.specs.Prelude.{◌==◌, nat_lt, nat_le}
+use Rattle.std.proofs.lemmas.Bool.{and_parts, not-false, ltb-true, leb-true}
+use Rattle.std.proofs.lemmas.Option.{none-some, same_Some}
 use Rattle.cx_base.specs.declared.cluster.Cluster.{Cluster}
 use Rattle.cx_base.specs.declared.role.Kind.TheVariants as kind
 use Rattle.cx_base.specs.declared.role.RoleId.{RoleId}
@@ -10,12 +11,14 @@ use Rattle.cx_base.specs.declared.why.Why.{Why}
 use Rattle.cx_base.specs.declared.why.Why.TheVariants as why
 use Rattle.cx_base.specs.Role.{role, same_role}
 use Rattle.cx_base.specs.Round.{same_round}
+use Rattle.cx_field.specs.declared.parts.Asking.{Asking}
 use Rattle.cx_field.specs.declared.parts.Entry.{Entry}
 use Rattle.cx_field.specs.declared.parts.Token.{Token}
 use Rattle.cx_msg.specs.Letter.{Letter, letter}
 use Rattle.cx_msg.specs.declared.input.Input.{Input}
 use Rattle.cx_msg.specs.declared.input.Input.TheVariants as input
 use Rattle.cx_msg.specs.declared.input.KeptRecord.{KeptRecord}
+use Rattle.cx_msg.specs.declared.kept.Record.TheVariants as kept
 use Rattle.cx_msg.specs.declared.message.Msg.{Msg}
 use Rattle.cx_msg.specs.declared.message.Msg.TheVariants as msg
 use Rattle.cx_model.specs.declared.states.MatchAnswer.{MatchAnswer}
@@ -24,19 +27,19 @@ use Rattle.cx_model.specs.Member.{Member}
 use Rattle.cx_base.specs.Cluster.{count_of}
 use Rattle.cx_model.specs.Names.{names, names_role, names_body}
 use Rattle.cx_model.specs.Outcome.{Outcome, answered, replied, either_way, by_test}
-use Rattle.cx_model.specs.Reader.{Reading, ReaderVolatile, reading, reading_of, is_matched, acked_by, has_acked, greatest_mark, token, match_read_to, pre_read_to, ask_matchmakers, read_req_over, send_read, read_matched, match_ack_counted, match_ack_row, pre_read_ack_row, reader_takes, reader_row}
+use Rattle.cx_model.specs.Reader.{Asked, Batch, ReaderDurable, ReaderVolatile, acked_by, ask_acceptors, ask_matchmakers, ask_replicas, asked_for, begin, begin_if, finish, greatest_mark, has_acked, is_among, is_first, is_matched, is_of_batch, last_turn, match_ack_counted, match_ack_row, match_read_to, matched, pre_read_ack_row, pre_read_to, read_to, reader_row, reader_rules, reader_takes, reader_tick, request_over, request_row, token, asking_of}
 use Rattle.cx_inv_run.specs.Laws.{Lands}
-use Rattle.cx_inv_run.specs.States.{State, ReaderIn, Given}
+use Rattle.cx_inv_run.specs.States.{State, ReaderIn, Given, durable_of, entry_by}
 use Rattle.cx_inv_run.proofs.Members.{Member-both, Member-one}
 use Rattle.cx_inv_match.specs.Facts.{told_by, InState}
-use Rattle.cx_inv_vote.proofs.Readers.{reading_found}
+use Rattle.cx_inv_vote.proofs.Readers.{same_asking-true}
 use Rattle.cx_inv_vote.proofs.Rows.{is_role}
-use Rattle.cx_inv_read.specs.Reads.{InReader}
+use Rattle.cx_inv_read.specs.Reads.{HasBatch, InReader}
 use Rattle.cx_inv_retire.specs.Retire.{AreMatchmakers, RetireSays, RetireFacts, Known}
-use Rattle.cx_inv_retire.proofs.Keep.{IsRetiring, lands, silent, sending, sending_one}
+use Rattle.cx_inv_retire.proofs.Keep.{IsRetiring, lands, silent, sending}
 use Rattle.cx_inv_retire.proofs.Live.{each, each_member, one_more_told, live_from_retired}
 
-module _ (c : Cluster) (past : List KeptRecord) (fresh : Token → Type 0) (history : List KeptRecord) (sent : List Letter) (states : RoleId → State)
+module _ (c : Cluster) (past : List KeptRecord) (fresh : Asking → Type 0) (history : List KeptRecord) (sent : List Letter) (states : RoleId → State)
     (known : Known c past history sent states) (h : RetireFacts c past fresh history sent states) (index : ℕ) where
   abbrev me : RoleId
   me = role kind.Reader index
@@ -44,103 +47,143 @@ module _ (c : Cluster) (past : List KeptRecord) (fresh : Token → Type 0) (hist
   abbrev Good : Outcome ReaderVolatile → Type 0
   Good o = IsRetiring c past fresh history me ReaderIn o
 
-  -- each answer that was counted for the read is a datagram
-  abbrev WereSent : Reading → Type 0
-  WereSent r = (a : MatchAnswer) → Member a r.told → Member (letter (role kind.Matchmaker a.matchmaker) me (msg.MatchReadAck r.token a.watermark a.entries)) sent
+  -- each answer that was counted for the batch is a datagram
+  abbrev WereSent : Batch → Type 0
+  WereSent b = (a : MatchAnswer) → Member a b.told → Member (letter (role kind.Matchmaker a.matchmaker) me (msg.MatchReadAck (asking_of me b.turn) a.watermark a.entries)) sent
 
-  -- so is known of each read in progress
+  abbrev IsKnown : Batch → Type 0
+  IsKnown b = AreMatchmakers c (told_by b.told) × WereSent b
+
+  -- so is known of the running batch
   abbrev AreKnown : ReaderVolatile → Type 0
-  AreKnown v = (r : Reading) → Member r v.reads → AreMatchmakers c (told_by r.told) × WereSent r
+  AreKnown v = (b : Batch) → v.running ≡ Some b → IsKnown b
 
-  abbrev Says : Letter → Type 0
-  Says d = RetireSays c past fresh history d.from d.to d.msg
+  -- what a datagram says by whatever history
+  abbrev Says : List KeptRecord → Letter → Type 0
+  Says longer d = RetireSays c past fresh longer d.from d.to d.msg
 
   quiet : (w : Why) (v : ReaderVolatile) → Good (answered w v)
   quiet w v = silent c past fresh history me ReaderIn w v tt
 
-  -- a request
+  asks_matchmakers : (longer : List KeptRecord) (turn : ℕ) (x : Letter) → Member x (ask_matchmakers c me turn) → Says longer x
+  asks_matchmakers longer turn = each (Says longer) (match_read_to me (asking_of me turn)) (matchmakers c) (λ m. tt)
 
-  asks_matchmakers : (w : Why) (v : ReaderVolatile) (t : Token) → Good (replied w v (ask_matchmakers c me t))
-  asks_matchmakers w v t = sending c past fresh history me ReaderIn w v (ask_matchmakers c me t) tt (each Says (match_read_to me t) (matchmakers c) (λ m. tt))
+  asks_replicas : (longer : List KeptRecord) (b : Batch) (n : ℕ) (x : Letter) → Member x (ask_replicas me b n) → Says longer x
+  asks_replicas longer b n = each (Says longer) (read_to me n) b.reads (λ r. tt)
 
-  request_good : (v : ReaderVolatile) (one : Reading) (o : Option Reading) → Good (read_req_over c me v one o)
-  request_good v one None = either_way Good (nat_le 64 (length v.reads)) _ _ (quiet why.Full v) (asks_matchmakers why.Started _ one.token)
-  request_good v one (Some earlier) = asks_matchmakers why.Again _ one.token
+  module _ (d : ReaderDurable) (v : ReaderVolatile) where
+    -- a batch begins
 
-  -- a matchmaker's answer
+    begins : (w : Why) (first : List Letter) (rs : List Asked) → ((longer : List KeptRecord) (x : Letter) → Member x first → Says longer x) → Good (begin c me d w first rs)
+    begins w first rs says =
+        let longer : List KeptRecord = entry_by me (kept.Turn (d.turn + 1)) ∷ history in
+        record { says = Member-both (Says longer) first (ask_matchmakers c me (d.turn + 1)) (says longer) (asks_matchmakers longer (d.turn + 1)); counted = tt }
 
-  read_good : (v : ReaderVolatile) (r : Reading) (n : ℕ) → Good (send_read me v r n)
-  read_good v r n = sending_one c past fresh history me ReaderIn why.Sent _ (role kind.Replica r.replica) (msg.Read r.token n r.key) tt tt
+    begins_if : (w : Why) (rs : List Asked) → Good (begin_if c me d v w rs)
+    begins_if w rs = either_way Good (d.turn == last_turn) _ _ (quiet _ v) (begins w [] rs (λ longer x m. absurd m))
 
-  matched_good : (v : ReaderVolatile) (r : Reading) (es : List Entry) → live_entries r.told ≡ es → AreMatchmakers c (told_by r.told) → c.f < length r.told → WereSent r
-      → Good (read_matched c me v r es)
-  matched_good v r [] e counted most were = read_good v r 0
-  matched_good v r (x ∷ es) e counted most were =
-      sending c past fresh history me ReaderIn why.Asking _ (map (pre_read_to me r) (members_of c (x ∷ es))) tt
-      (each_member Says (pre_read_to me r) c (x ∷ es)
-      (λ a t n. live_from_retired c past history r.told counted most (λ b m. (h.says _ (were b m)).0) (λ b m. (h.says _ (were b m)).1 n) a
-      (subst (λ l. is_member_of l a ≡ true) (sym e) t)))
+    request_good : (one : Asked) → Good (request_row c me d v one)
+    request_good one = either_way Good (is_among one.read v.waiting) _ _ (quiet _ _) (over v.running)
+      where
+        over : (o : Option Batch) → Good (request_over c me d v one o)
+        over None = either_way Good (nat_le 64 (length v.waiting)) _ _ (quiet _ v) (begins_if _ _)
+        over (Some b) =
+            either_way Good (is_first one.read b.reads) _ _ (begins_if _ _)
+            (either_way Good (is_among one.read b.reads) _ _ (quiet _ v)
+            (either_way Good (nat_le 64 (length v.waiting + length b.reads)) _ _ (quiet _ v) (quiet _ _)))
 
-  answered_good : (v : ReaderVolatile) (r : Reading) → AreMatchmakers c (told_by r.told) → WereSent r → Good (match_ack_counted c me v r)
-  answered_good v r counted were =
-      by_test Good (is_matched c r) _ _
-      (λ t. matched_good v r (live_entries r.told) refl counted (let l = leb-true (enough c) (length r.told) t in omega arith) were)
-      (λ f. quiet why.Counted _)
+    finish_good : (b : Batch) (n : ℕ) → Good (finish c me d v b n)
+    finish_good b n =
+        either_way Good (nat_lt 0 (length v.waiting) && not (d.turn == last_turn)) _ _
+        (begins _ (ask_replicas me b n) v.waiting (λ longer. asks_replicas longer b n))
+        (sending c past fresh history me ReaderIn _ _ (ask_replicas me b n) tt (asks_replicas history b n))
 
-  match_ack_good : (v : ReaderVolatile) → AreKnown v → (from : RoleId) (t : Token) (w : Round) (es : List Entry) (o : Option Reading) → reading_of t v.reads ≡ o
-      → Member (letter from me (msg.MatchReadAck t w es)) sent → from.index < 2 * c.f + 1 → Good (match_ack_row c me v from w es o)
-  match_ack_good v are from t w es None found x low = quiet why.Unasked v
-  match_ack_good v are from t w es (Some r) found x low =
-      let p = reading_found t v.reads r found in
-      let answer : MatchAnswer = record { matchmaker = from.index; watermark = w; entries = es } in
-      let told : Member (letter (role kind.Matchmaker from.index) me (msg.MatchReadAck r.token w es)) sent =
-      subst (λ y. Member (letter y me (msg.MatchReadAck r.token w es)) sent) (is_role from kind.Matchmaker (known.kinds.senders _ x))
-      (subst (λ y. Member (letter from me (msg.MatchReadAck y w es)) sent) p.1 x) in
-      by_test Good (is_matched c r) _ _
-      (λ y. quiet why.Unasked v)
-      (λ n. by_test Good (is_counted from.index r.told) _ _
-      (λ y. quiet why.Same v)
-      (λ f. answered_good v (record r { told = r.told ++ answer ∷ [] }) (one_more_told c r.told answer f low (are r p.0).0)
-      (Member-both (λ (a : MatchAnswer). Member (letter (role kind.Matchmaker a.matchmaker) me (msg.MatchReadAck r.token a.watermark a.entries)) sent) r.told (answer ∷ []) (are r p.0).1
-      (Member-one (λ (a : MatchAnswer). Member (letter (role kind.Matchmaker a.matchmaker) me (msg.MatchReadAck r.token a.watermark a.entries)) sent) answer told))))
+    -- a matchmaker's answer
 
-  -- an acceptor's answer
+    asks_acceptors : (b : Batch) (es : List Entry) → live_entries b.told ≡ es → IsKnown b → c.f < length b.told
+        → (x : Letter) → Member x (map (pre_read_to me b) (members_of c es)) → Says history x
+    asks_acceptors b es e is most =
+        each_member (Says history) (pre_read_to me b) c es
+        (λ a t n. live_from_retired c past history b.told is.0 most (λ x m. (h.says _ (is.1 x m)).0) (λ x m. (h.says _ (is.1 x m)).1 n) a
+        (subst (λ l. is_member_of l a ≡ true) (sym e) t))
 
-  pre_read_ack_good : (v : ReaderVolatile) (from : RoleId) (w : Round) (n : ℕ) (o : Option Reading) → Good (pre_read_ack_row c me v from w n o)
-  pre_read_ack_good v from w n None = quiet why.Unasked v
-  pre_read_ack_good v from w n (Some r) =
-      either_way Good (not (is_matched c r && is_member_of (live_entries r.told) from.index)) _ _
-      (quiet why.Unasked v)
-      (either_way Good (not (same_round w (greatest_watermark r.told))) _ _
-      (quiet why.Old v)
-      (either_way Good (has_acked from.index r.acks) _ _
-      (quiet why.Same v)
-      (let one : Reading = record r { acks = r.acks ++ record { acceptor = from.index; mark = n } ∷ [] } in
-      either_way Good (rows_whole (live_entries one.told) (acked_by one.acks)) _ _ (read_good v one (greatest_mark one.acks)) (quiet why.Counted _))))
+    matched_good : (b : Batch) (es : List Entry) → live_entries b.told ≡ es → IsKnown b → c.f < length b.told → Good (matched c me d v b es)
+    matched_good b [] e is most = finish_good b 0
+    matched_good b (x ∷ es) e is most = sending c past fresh history me ReaderIn why.Asking _ _ tt (asks_acceptors b (x ∷ es) e is most)
 
-  takes_good : (v : ReaderVolatile) → AreKnown v → (from : RoleId) (m : Msg) → Member (letter from me m) sent → names_role c from ≡ true → Good (reader_takes c me v from m)
-  takes_good v are from (msg.ReadReq seq replica key) x named =
-      let one : Reading = reading (token from.index seq) replica key in request_good v one (reading_of one.token v.reads)
-  takes_good v are from (msg.MatchReadAck t w es) x named =
-      let k : from.kind ≡ kind.Matchmaker = known.kinds.senders _ x in
-      match_ack_good v are from t w es (reading_of t v.reads) refl x
-      (ltb-true from.index (2 * c.f + 1) (subst (λ j. nat_lt from.index (count_of c j) ≡ true) k named))
-  takes_good v are from (msg.PreReadAck t w n) x named = pre_read_ack_good v from w n (reading_of t v.reads)
-  takes_good v are from other x named = quiet why.Stranger v
+    enough_told : (b : Batch) → is_matched c b ≡ true → c.f < length b.told
+    enough_told b t = let l = leb-true (enough c) (length b.told) t in omega arith
 
-  row_good : (v : ReaderVolatile) → AreKnown v → (i : Input) → Given sent me i → Good (reader_row c me tt v i)
-  row_good v are (input.Take d) given =
-      by_test Good (same_role d.to me && names c d) _ _
-      (λ t. let p = and_parts (names_role c d.from && names_role c d.to) (names_body c d.msg) (and_parts (same_role d.to me) (names c d) t).1 in
-      takes_good v are d.from d.msg (subst (λ a. Member (letter d.from a d.msg) sent) given.0 given.1) (and_parts (names_role c d.from) (names_role c d.to) p.0).0)
-      (λ f. quiet why.Stranger v)
-  row_good v are input.Tick given = quiet why.Idle v
-  row_good v are (input.Order order) given = quiet why.Stranger v
+    answered_good : (b : Batch) → IsKnown b → Good (match_ack_counted c me d v b)
+    answered_good b is =
+        by_test Good (is_matched c b) _ _ (λ t. matched_good b (live_entries b.told) refl is (enough_told b t)) (λ f. quiet why.Counted _)
+
+    match_ack_good : AreKnown v → (from : RoleId) (u : Asking) (w : Round) (es : List Entry) (o : Option Batch) → v.running ≡ o
+        → Member (letter from me (msg.MatchReadAck u w es)) sent → from.index < 2 * c.f + 1 → Good (match_ack_row c me d v from u w es o)
+    match_ack_good are from u w es None e x low = quiet why.Unasked v
+    match_ack_good are from u w es (Some b) e x low =
+        by_test Good (not (is_of_batch me b u && not (is_matched c b))) _ _ (λ f. quiet why.Unasked v)
+        (λ f. by_test Good (is_counted from.index b.told) _ _ (λ y. quiet why.Same v)
+        (λ g. (
+        let answer : MatchAnswer = record { matchmaker = from.index; watermark = w; entries = es } in
+        let ours : u ≡ asking_of me b.turn = same_asking-true u (asking_of me b.turn) (and_parts (is_of_batch me b u) (not (is_matched c b)) (not-false (is_of_batch me b u && not (is_matched c b)) f)).0 in
+        let told : Member (letter (role kind.Matchmaker from.index) me (msg.MatchReadAck (asking_of me b.turn) w es)) sent =
+        subst (λ y. Member (letter y me (msg.MatchReadAck (asking_of me b.turn) w es)) sent) (is_role from kind.Matchmaker (known.kinds.senders _ x))
+        (subst (λ y. Member (letter from me (msg.MatchReadAck y w es)) sent) ours x) in
+        answered_good (record b { told = b.told ++ answer ∷ [] }) (
+          one_more_told c b.told answer g low (are b e).0,
+          Member-both (λ (a : MatchAnswer). Member (letter (role kind.Matchmaker a.matchmaker) me (msg.MatchReadAck (asking_of me b.turn) a.watermark a.entries)) sent) b.told (answer ∷ []) (are b e).1
+              (Member-one (λ (a : MatchAnswer). Member (letter (role kind.Matchmaker a.matchmaker) me (msg.MatchReadAck (asking_of me b.turn) a.watermark a.entries)) sent) answer told),
+        )
+        )))
+
+    -- an acceptor's answer
+
+    pre_read_ack_good : (from : RoleId) (u : Asking) (w : Round) (n : ℕ) (o : Option Batch) → Good (pre_read_ack_row c me d v from u w n o)
+    pre_read_ack_good from u w n None = quiet why.Unasked v
+    pre_read_ack_good from u w n (Some b) =
+        either_way Good (not (is_of_batch me b u && is_matched c b && is_member_of (live_entries b.told) from.index)) _ _ (quiet why.Unasked v)
+        (either_way Good (not (same_round w (greatest_watermark b.told))) _ _ (quiet why.Old v)
+        (either_way Good (has_acked from.index b.acks) _ _ (quiet why.Same v)
+        (let one : Batch = record b { acks = b.acks ++ record { acceptor = from.index; mark = n } ∷ [] } in
+        either_way Good (rows_whole (live_entries one.told) (acked_by one.acks)) _ _ (finish_good one (greatest_mark one.acks)) (quiet why.Counted _))))
+
+    takes_good : AreKnown v → (from : RoleId) (m : Msg) → Member (letter from me m) sent → names_role c from ≡ true → Good (reader_takes c me d v from m)
+    takes_good are from (msg.ReadReq seq replica key) x named = request_good (asked_for (token from.index seq) replica key)
+    takes_good are from (msg.MatchReadAck u w es) x named =
+        let k : from.kind ≡ kind.Matchmaker = known.kinds.senders _ x in
+        match_ack_good are from u w es v.running refl x
+        (ltb-true from.index (2 * c.f + 1) (subst (λ j. nat_lt from.index (count_of c j) ≡ true) k named))
+    takes_good are from (msg.PreReadAck u w n) x named = pre_read_ack_good from u w n v.running
+    takes_good are from other x named = quiet why.Stranger v
+
+    ticks_good : AreKnown v → (o : Option Batch) → v.running ≡ o → Good (reader_tick c me v o)
+    ticks_good are None e = quiet why.Idle v
+    ticks_good are (Some b) e =
+        by_test (λ ds. Good (replied why.Resent v ds)) (is_matched c b) (ask_acceptors c me b) (ask_matchmakers c me b.turn)
+        (λ t. sending c past fresh history me ReaderIn why.Resent v _ tt (asks_acceptors b (live_entries b.told) refl (are b e) (enough_told b t)))
+        (λ f. sending c past fresh history me ReaderIn why.Resent v _ tt (asks_matchmakers history b.turn))
+
+    row_good : AreKnown v → (i : Input) → Given sent me i → Good (reader_row c me d v i)
+    row_good are (input.Take l) given =
+        by_test Good (same_role l.to me && names c l) _ _
+        (λ t. let p = and_parts (names_role c l.from && names_role c l.to) (names_body c l.msg) (and_parts (same_role l.to me) (names c l) t).1 in
+        takes_good are l.from l.msg (subst (λ a. Member (letter l.from a l.msg) sent) given.0 given.1) (and_parts (names_role c l.from) (names_role c l.to) p.0).0)
+        (λ f. quiet why.Stranger v)
+    row_good are input.Tick given = ticks_good are v.running refl
+    row_good are (input.Order order) given = quiet why.Stranger v
+
+  -- the running batch is as is known of all readers
+  batch_known : (t : Token) (o : Option Batch) → HasBatch c [] t me o → (b : Batch) → o ≡ Some b → AreMatchmakers c (told_by b.told)
+  batch_known t None is b e = absurd (none-some b e)
+  batch_known t (Some x) is b e =
+      subst (λ (y : Batch). AreMatchmakers c (told_by y.told)) (same_Some x b e) (record { once = is.once; known = is.known })
 
   pub reader_lands : (v : ReaderVolatile) (i : Input) → states me ≡ ReaderIn v → Given sent me i
-      → Lands (RetireFacts c past fresh) history sent states me ReaderIn (reader_row c me tt v i)
+      → Lands (RetireFacts c past fresh) history sent states me ReaderIn (reader_row c me (durable_of reader_rules me history) v i)
   reader_lands v i up given =
       let state : InState c history sent me (ReaderIn v) = subst (λ s. InState c history sent me s) up (known.facts.running me) in
-      let counted : InReader c (ReaderIn v) = subst (λ s. InReader c s) up (known.readers me) in
-      lands c past fresh history sent states h me ReaderIn (reader_row c me tt v i)
-      (row_good v (λ r m. (record { once = (counted r m).once; known = (counted r m).known }, λ a k. state.0.answers r a m k)) i given)
+      let any : Token = token 0 0 in
+      let counted : InReader c [] any me (ReaderIn v) = subst (λ s. InReader c [] any me s) up (known.readers me any) in
+      lands c past fresh history sent states h me ReaderIn (reader_row c me (durable_of reader_rules me history) v i)
+      (row_good (durable_of reader_rules me history) v (λ b e. (batch_known any v.running counted b e, λ a k. (state.0.batch b e).answers a k)) i given)

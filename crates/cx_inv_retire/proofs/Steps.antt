@@ -7,8 +7,8 @@ use Rattle.cx_base.specs.declared.role.Kind.TheVariants as kind
 use Rattle.cx_base.specs.declared.role.RoleId.{RoleId}
 use Rattle.cx_base.specs.declared.round.Round.{Round}
 use Rattle.cx_base.specs.Role.{role}
+use Rattle.cx_field.specs.declared.parts.Asking.{Asking}
 use Rattle.cx_field.specs.declared.parts.Entry.{Entry}
-use Rattle.cx_field.specs.declared.parts.Token.{Token}
 use Rattle.cx_msg.specs.Letter.{Letter, letter}
 use Rattle.cx_msg.specs.declared.input.KeptRecord.{KeptRecord}
 use Rattle.cx_msg.specs.declared.message.Msg.{Msg}
@@ -49,7 +49,7 @@ fresh_counted c kind.Replica = tt
 fresh_counted c kind.Unbatcher = tt
 fresh_counted c kind.Reader = tt
 
-pub retire_laws : (c : Cluster) (past : List KeptRecord) (fresh : Token → Type 0) → Laws c (λ n e. Unit {0}) (Known c past) (RetireFacts c past fresh)
+pub retire_laws : (c : Cluster) (past : List KeptRecord) (fresh : Asking → Type 0) → Laws c (λ n e. Unit {0}) (Known c past) (RetireFacts c past fresh)
 retire_laws c past fresh = record {
   same = λ history sent states others e h. same_states c past fresh history sent states h others e;
   start = λ states first. record {
@@ -96,7 +96,7 @@ pub has_run : (c : Cluster) (es more : List Event) → Has (reverse (run c (es +
 has_run c es more = subst (λ (w : World). Has (reverse w.kept) (reverse (run c es).kept)) (sym (run_append c es more)) (has_from (run c es) more)
 
 knows : (c : Cluster) (past : List KeptRecord) (es : List Event) → Has (reverse (run c es).kept) past → HoldsIn (Known c past) (run c es)
-knows c past es has = record { kinds = kinds_hold c es; facts = facts_hold c es; readers = (reads_always c es (record { client = 0; seq = 0 })).readers; has = has }
+knows c past es has = record { kinds = kinds_hold c es; facts = facts_hold c es; readers = λ me t. (reads_always c es t).readers me; has = has }
 
 knows_along : (c : Cluster) (past : List KeptRecord) (es more : List Event) → Has (reverse (run c es).kept) past → HoldsAlong (Known c past) (run c es) more
 knows_along c past es [] has = knows c past es has
@@ -105,34 +105,34 @@ knows_along c past es (e ∷ more) has = (
   subst (λ w. HoldsAlong (Known c past) w more) (run_append c es (e ∷ [])) (knows_along c past (es ++ e ∷ []) more (λ k m. has_run c es (e ∷ []) k (has k m))),
 )
 
--- from the start on there is no past, and no read is fresh
+-- from the start on there is no past, and no turn is fresh
 
-abbrev pub no_read : Token → Type 0
-no_read t = ⊥
+abbrev pub no_turn : Asking → Type 0
+no_turn u = ⊥
 
 pub knows_nothing : (c : Cluster) (es : List Event) → HoldsIn (Known c []) (run c es)
 knows_nothing c es = knows c [] es (λ k m. absurd m)
 
-pub retire_holds : (c : Cluster) (es : List Event) → HoldsIn (RetireFacts c [] no_read) (run c es)
-retire_holds c es = always c (Known c []) (RetireFacts c [] no_read) (retire_laws c [] no_read) (knows_nothing c) es
+pub retire_holds : (c : Cluster) (es : List Event) → HoldsIn (RetireFacts c [] no_turn) (run c es)
+retire_holds c es = always c (Known c []) (RetireFacts c [] no_turn) (retire_laws c [] no_turn) (knows_nothing c) es
 
--- a read of which neither an answer of a matchmaker nor a question to an acceptor was sent
-pub record IsFresh (sent : List Letter) (t : Token) : Type 0 where
-  pub answers : (from to : RoleId) (w : Round) (es : List Entry) → Member (letter from to (msg.MatchReadAck t w es)) sent → ⊥
-  pub asks : (from to : RoleId) (w : Round) → Member (letter from to (msg.PreRead t w)) sent → ⊥
+-- a turn of which neither an answer of a matchmaker nor a question to an acceptor was sent
+pub record IsFresh (sent : List Letter) (u : Asking) : Type 0 where
+  pub answers : (from to : RoleId) (w : Round) (es : List Entry) → Member (letter from to (msg.MatchReadAck u w es)) sent → ⊥
+  pub asks : (from to : RoleId) (w : Round) → Member (letter from to (msg.PreRead u w)) sent → ⊥
 
 -- any moment is a past
 
-module _ (c : Cluster) (history : List KeptRecord) (sent : List Letter) (states : RoleId → State) (facts : Facts c history sent states) (h : RetireFacts c [] no_read history sent states) where
+module _ (c : Cluster) (history : List KeptRecord) (sent : List Letter) (states : RoleId → State) (facts : Facts c history sent states) (h : RetireFacts c [] no_turn history sent states) where
   not_new : (m : RoleId) (k : Round) → HasLog history m k → IsNewRound history k → ⊥
   not_new m k x new = new x.0 (elim x.1 [ inl y ↦ facts.asked m k x.0 y | inr y ↦ (facts.garbaged m k x.0 y).0 ])
 
-  now_says : (from to : RoleId) (m : Msg) → Member (letter from to m) sent → RetireSays c [] no_read history from to m → RetireSays c history (IsFresh sent) history from to m
+  now_says : (from to : RoleId) (m : Msg) → Member (letter from to m) sent → RetireSays c [] no_turn history from to m → RetireSays c history (IsFresh sent) history from to m
   now_says from to (msg.MatchB k w es) x says = λ new. absurd (not_new from k (facts.says _ x).matched new)
   now_says from to (msg.GarbageB i) x says = says
   now_says from to (msg.Phase1A k) x says = (says.0, λ new. absurd (new says.0.0 says.0.1))
-  now_says from to (msg.MatchReadAck t w es) x says = (says.0, λ fresh. absurd (fresh.answers from to w es x))
-  now_says from to (msg.PreRead t w) x says = λ fresh. absurd (fresh.asks from to w x)
+  now_says from to (msg.MatchReadAck u w es) x says = (says.0, λ fresh. absurd (fresh.answers from to w es x))
+  now_says from to (msg.PreRead u w) x says = λ fresh. absurd (fresh.asks from to w x)
   now_says from to other x says = tt
 
   now : RetireFacts c history (IsFresh sent) history sent states

@@ -1,5 +1,5 @@
 -- What is reported and sent once the rounds below some round are retired.
-use Rattle.std.specs.Prelude.{◌≡◌, ◌⊎◌, ℕ, ◌+◌, ◌*◌, ◌<◌, Bool, true, false, List}
+use Rattle.std.specs.Prelude.{◌≡◌, ◌⊎◌, ℕ, ◌+◌, ◌*◌, ◌<◌, Bool, true, false, List, []}
 use Rattle.cx_base.specs.declared.cluster.Cluster.{Cluster}
 use Rattle.cx_base.specs.declared.role.Kind.TheVariants as kind
 use Rattle.cx_base.specs.declared.role.RoleId.{RoleId}
@@ -9,6 +9,7 @@ use Rattle.cx_base.specs.declared.why.Why.TheVariants as why
 use Rattle.cx_base.specs.Grid.{Shape}
 use Rattle.cx_base.specs.Role.{role}
 use Rattle.cx_base.specs.Round.{is_before, no_round}
+use Rattle.cx_field.specs.declared.parts.Asking.{Asking}
 use Rattle.cx_field.specs.declared.parts.Entry.{Entry}
 use Rattle.cx_field.specs.declared.parts.Token.{Token}
 use Rattle.cx_msg.specs.Letter.{Letter}
@@ -50,13 +51,13 @@ IsRisen past m w = (j : Round) (g : Shape) → HasGarbage past m j g → is_befo
 abbrev pub AreConfigs : List KeptRecord → List Entry → Type 0
 AreConfigs history es = (e : Entry) → Member e es → IsConfig history e.round e.grid
 
--- What a datagram says: of itself, and where its round is newer than the past, or its read is fresh. A kind that isn't named says nothing here.
-abbrev pub RetireSays : Cluster → List KeptRecord → (Token → Type 0) → List KeptRecord → RoleId → RoleId → Msg → Type 0
+-- What a datagram says: of itself, and where its round is newer than the past, or its turn is fresh. A kind that isn't named says nothing here.
+abbrev pub RetireSays : Cluster → List KeptRecord → (Asking → Type 0) → List KeptRecord → RoleId → RoleId → Msg → Type 0
 RetireSays c past fresh history from to (msg.MatchB k w es) = IsNewRound past k → IsRisen past from w
 RetireSays c past fresh history from to (msg.GarbageB i) = HasForgotten history from i
 RetireSays c past fresh history from to (msg.Phase1A k) = ((g : Shape) × IsConfig history k g) × (IsNewRound past k → IsFromRetired c past history to)
-RetireSays c past fresh history from to (msg.MatchReadAck t w es) = AreConfigs history es × (fresh t → IsRisen past from w)
-RetireSays c past fresh history from to (msg.PreRead t w) = fresh t → IsFromRetired c past history to
+RetireSays c past fresh history from to (msg.MatchReadAck u w es) = AreConfigs history es × (fresh u → IsRisen past from w)
+RetireSays c past fresh history from to (msg.PreRead u w) = fresh u → IsFromRetired c past history to
 RetireSays c past fresh history from to other = Unit {0}
 
 -- matchmakers of the cluster, none twice
@@ -74,8 +75,8 @@ abbrev pub WordSays : Cluster → List KeptRecord → Round → Why → Type 0
 WordSays c history own why.Retired = IsRetired c history own
 WordSays c history own other = Unit {0}
 
--- The facts on retirement, relative to a past and to the reads that are fresh since then.
-pub record RetireFacts (c : Cluster) (past : List KeptRecord) (fresh : Token → Type 0) (history : List KeptRecord) (sent : List Letter) (states : RoleId → State) : Type 0 where
+-- The facts on retirement, relative to a past and to the turns that are fresh since then.
+pub record RetireFacts (c : Cluster) (past : List KeptRecord) (fresh : Asking → Type 0) (history : List KeptRecord) (sent : List Letter) (states : RoleId → State) : Type 0 where
   pub says : (d : Letter) → Member d sent → RetireSays c past fresh history d.from d.to d.msg
   pub running : (me : RoleId) → HasCounted c (states me)
 
@@ -83,5 +84,5 @@ pub record RetireFacts (c : Cluster) (past : List KeptRecord) (fresh : Token →
 pub record Known (c : Cluster) (past : List KeptRecord) (history : List KeptRecord) (sent : List Letter) (states : RoleId → State) : Type 0 where
   pub kinds : Kinds history sent states
   pub facts : Facts c history sent states
-  pub readers : (me : RoleId) → InReader c (states me)
+  pub readers : (me : RoleId) (t : Token) → InReader c [] t me (states me)
   pub has : Has history past

@@ -14,6 +14,7 @@ use Rattle.cx_model.specs.Leader.{leader_rules}
 use Rattle.cx_model.specs.Matchmaker.{matchmaker_rules}
 use Rattle.cx_model.specs.Member.{Member}
 use Rattle.cx_model.specs.Outcome.{Outcome}
+use Rattle.cx_model.specs.Reader.{reader_rules}
 use Rattle.cx_model.specs.Replica.{replica_rules}
 use Rattle.cx_model.specs.Request.{request}
 use Rattle.cx_model.specs.World.{run}
@@ -87,7 +88,7 @@ kinds_laws c = record {
       landed kept sent states h (role kind.Replica p) ReplicaIn _ (replica_kinds c (role kind.Replica p) refl (durable_of replica_rules (role kind.Replica p) kept) v i);
   snap = λ kept sent states p v first knows h is e. snapped kept sent states h (role kind.Replica p) first refl;
   unbatcher = λ kept sent states u i knows h is given. landed kept sent states h (role kind.Unbatcher u) plain _ (unbatcher_kinds c (role kind.Unbatcher u) refl i);
-  reader = λ kept sent states r v i knows h is given. landed kept sent states h (role kind.Reader r) ReaderIn _ (reader_kinds c (role kind.Reader r) refl v i);
+  reader = λ kept sent states r v i knows h is given. landed kept sent states h (role kind.Reader r) ReaderIn _ (reader_kinds c (role kind.Reader r) refl (durable_of reader_rules (role kind.Reader r) kept) v i);
 }
 
 pub kinds_hold : (c : Cluster) (es : List Event) → HoldsIn Kinds (run c es)

@@ -18,8 +18,8 @@ use Rattle.cx_base.specs.Lists.{below, numbers}
 use Rattle.cx_base.specs.Log.{ready_values}
 use Rattle.cx_base.specs.Role.{same_role}
 use Rattle.cx_base.specs.Round.{is_before, same_round, lead_after, change_after}
+use Rattle.cx_field.specs.declared.parts.Asking.{Asking}
 use Rattle.cx_field.specs.declared.parts.Entry.{Entry}
-use Rattle.cx_field.specs.declared.parts.Token.{Token}
 use Rattle.cx_grid.specs.Quorum.{column_whole, with_mark}
 use Rattle.cx_msg.specs.Letter.{Letter, letter}
 use Rattle.cx_msg.specs.declared.input.Input.{Input}
@@ -43,7 +43,7 @@ use Rattle.cx_model.specs.Names.{names, names_grid}
 use Rattle.cx_model.specs.Outcome.{Outcome, answered, replied, either_way}
 use Rattle.cx_model.specs.Plan.{promised_by, has_promised, plan, placed_from}
 use Rattle.cx_model.specs.Proxy.{ProxyVolatile, raised_to, pending_of, pending_at, phase2a_to, column_for, members_for, chosen_to, chosen_in_to, announcement, ask, propose_over, vote_for, proxy_takes, again_for, again_at, proxy_tick, proxy_row}
-use Rattle.cx_model.specs.Reader.{ReaderVolatile, Reading, reading, token, reading_of, is_matched, acked_by, has_acked, greatest_mark, match_read_to, pre_read_to, ask_matchmakers, read_req_over, send_read, read_matched, match_ack_counted, match_ack_row, pre_read_counted, pre_read_ack_row, reader_takes, reader_row}
+use Rattle.cx_model.specs.Reader.{Asked, Batch, ReaderDurable, ReaderVolatile, acked_by, ask_acceptors, ask_matchmakers, ask_replicas, asked_for, asking_of, begin, begin_if, finish, greatest_mark, has_acked, is_among, is_first, is_matched, is_of_batch, last_turn, match_ack_counted, match_ack_row, match_read_to, matched as batch_matched, pre_read_ack_row, pre_read_counted, pre_read_to, read_to, reader_row, reader_takes, reader_tick, request_over, token}
 use Rattle.cx_model.specs.Replica.{ReplicaDurable, ReplicaVolatile, Machine, held, execute_value, machine_from, results_at, results_from, read_answer_to, read_answers, apply, read_row, fetched_by, fetch_found, held_to, fetch_to, replica_takes, replica_tick, replica_row}
 use Rattle.cx_model.specs.Request.{same_read}
 use Rattle.cx_model.specs.Unbatcher.{answer_to, unbatcher_takes, unbatcher_row}
@@ -250,52 +250,69 @@ module _ (c : Cluster) (me : RoleId) (is : me.kind ≡ kind.Replica) (d : Replic
   replica_kinds v (Order order) = quiet me _ v
 
 -- the reader's rows
-module _ (c : Cluster) (me : RoleId) (is : me.kind ≡ kind.Reader) where
-  asking : (t : Token) → AreOwn me (ask_matchmakers c me t)
-  asking t = mapped me (match_read_to me t) (matchmakers c) (λ m. (refl, is))
+module _ (c : Cluster) (me : RoleId) (is : me.kind ≡ kind.Reader) (d : ReaderDurable) where
+  matchmakers_asked : (turn : ℕ) → AreOwn me (ask_matchmakers c me turn)
+  matchmakers_asked turn = mapped me (match_read_to me (asking_of me turn)) (matchmakers c) (λ m. (refl, is))
 
-  requested : (v : ReaderVolatile) (r : Reading) (o : Option Reading) → OfKind me (read_req_over c me v r o)
-  requested v r None = pick me (nat_le 64 (length v.reads)) _ _ (quiet me _ v) (replying me _ _ _ (asking r.token))
-  requested v r (Some old) = replying me _ _ _ (asking r.token)
+  batch_begun : (w : Why) (first : List Letter) (rs : List Asked) → AreOwn me first → OfKind me (begin c me d w first rs)
+  batch_begun w first rs own = keeping me _ _ _ _ is (both me first (ask_matchmakers c me (d.turn + 1)) own (matchmakers_asked (d.turn + 1)))
 
-  read_sent : (v : ReaderVolatile) (r : Reading) (n : ℕ) → OfKind me (send_read me v r n)
-  read_sent v r n = replying me _ _ _ (one me _ _ is)
+  begun_if : (v : ReaderVolatile) (w : Why) (rs : List Asked) → OfKind me (begin_if c me d v w rs)
+  begun_if v w rs = pick me (d.turn == last_turn) _ _ (quiet me _ v) (batch_begun w [] rs (none me))
 
-  matched_read : (v : ReaderVolatile) (r : Reading) (es : List Entry) → OfKind me (read_matched c me v r es)
-  matched_read v r [] = read_sent v r 0
-  matched_read v r (e ∷ es) = replying me _ _ _ (mapped me (pre_read_to me r) (members_of c (e ∷ es)) (λ a. (refl, is)))
+  requested : (v : ReaderVolatile) (r : Asked) (o : Option Batch) → OfKind me (request_over c me d v r o)
+  requested v r None = pick me (nat_le 64 (length v.waiting)) _ _ (quiet me _ v) (begun_if v _ _)
+  requested v r (Some b) =
+      pick me (is_first r.read b.reads) _ _ (begun_if v _ _)
+      (pick me (is_among r.read b.reads) _ _ (quiet me _ v)
+      (pick me (nat_le 64 (length v.waiting + length b.reads)) _ _ (quiet me _ v) (quiet me _ _)))
 
-  told_counted : (v : ReaderVolatile) (r : Reading) → OfKind me (match_ack_counted c me v r)
-  told_counted v r = pick me (is_matched c r) _ _ (matched_read v r (live_entries r.told)) (quiet me _ _)
+  reads_sent : (v : ReaderVolatile) (b : Batch) (n : ℕ) → OfKind me (finish c me d v b n)
+  reads_sent v b n =
+      let own : AreOwn me (ask_replicas me b n) = mapped me (read_to me n) b.reads (λ r. (refl, is)) in
+      pick me (nat_lt 0 (length v.waiting) && not (d.turn == last_turn)) _ _ (batch_begun _ (ask_replicas me b n) v.waiting own) (replying me _ _ _ own)
 
-  told_row : (v : ReaderVolatile) (from : RoleId) (w : Round) (es : List Entry) (o : Option Reading) → OfKind me (match_ack_row c me v from w es o)
-  told_row v from w es None = quiet me _ v
-  told_row v from w es (Some r) =
-      pick me (is_matched c r) _ _ (quiet me _ v)
-      (pick me (is_counted from.index r.told) _ _ (quiet me _ v)
-      (told_counted v (record r { told = r.told ++ record { matchmaker = from.index; watermark = w; entries = es } ∷ [] })))
+  matched_read : (v : ReaderVolatile) (b : Batch) (es : List Entry) → OfKind me (batch_matched c me d v b es)
+  matched_read v b [] = reads_sent v b 0
+  matched_read v b (e ∷ es) = replying me _ _ _ (mapped me (pre_read_to me b) (members_of c (e ∷ es)) (λ a. (refl, is)))
 
-  acks_counted : (v : ReaderVolatile) (r : Reading) → OfKind me (pre_read_counted me v r)
-  acks_counted v r = pick me (rows_whole (live_entries r.told) (acked_by r.acks)) _ _ (read_sent v r (greatest_mark r.acks)) (quiet me _ _)
+  told_counted : (v : ReaderVolatile) (b : Batch) → OfKind me (match_ack_counted c me d v b)
+  told_counted v b = pick me (is_matched c b) _ _ (matched_read v b (live_entries b.told)) (quiet me _ _)
 
-  acked_row : (v : ReaderVolatile) (from : RoleId) (w : Round) (n : ℕ) (o : Option Reading) → OfKind me (pre_read_ack_row c me v from w n o)
-  acked_row v from w n None = quiet me _ v
-  acked_row v from w n (Some r) =
-      pick me (not (is_matched c r && is_member_of (live_entries r.told) from.index)) _ _ (quiet me _ v)
-      (pick me (not (same_round w (greatest_watermark r.told))) _ _ (quiet me _ v)
-      (pick me (has_acked from.index r.acks) _ _ (quiet me _ v)
-      (acks_counted v (record r { acks = r.acks ++ record { acceptor = from.index; mark = n } ∷ [] }))))
+  told_row : (v : ReaderVolatile) (from : RoleId) (u : Asking) (w : Round) (es : List Entry) (o : Option Batch) → OfKind me (match_ack_row c me d v from u w es o)
+  told_row v from u w es None = quiet me _ v
+  told_row v from u w es (Some b) =
+      pick me (not (is_of_batch me b u && not (is_matched c b))) _ _ (quiet me _ v)
+      (pick me (is_counted from.index b.told) _ _ (quiet me _ v)
+      (told_counted v (record b { told = b.told ++ record { matchmaker = from.index; watermark = w; entries = es } ∷ [] })))
 
-  reader_took : (v : ReaderVolatile) (from : RoleId) (m : Msg) → OfKind me (reader_takes c me v from m)
+  acks_counted : (v : ReaderVolatile) (b : Batch) → OfKind me (pre_read_counted c me d v b)
+  acks_counted v b = pick me (rows_whole (live_entries b.told) (acked_by b.acks)) _ _ (reads_sent v b (greatest_mark b.acks)) (quiet me _ _)
+
+  acked_row : (v : ReaderVolatile) (from : RoleId) (u : Asking) (w : Round) (n : ℕ) (o : Option Batch) → OfKind me (pre_read_ack_row c me d v from u w n o)
+  acked_row v from u w n None = quiet me _ v
+  acked_row v from u w n (Some b) =
+      pick me (not (is_of_batch me b u && is_matched c b && is_member_of (live_entries b.told) from.index)) _ _ (quiet me _ v)
+      (pick me (not (same_round w (greatest_watermark b.told))) _ _ (quiet me _ v)
+      (pick me (has_acked from.index b.acks) _ _ (quiet me _ v)
+      (acks_counted v (record b { acks = b.acks ++ record { acceptor = from.index; mark = n } ∷ [] }))))
+
+  reader_took : (v : ReaderVolatile) (from : RoleId) (m : Msg) → OfKind me (reader_takes c me d v from m)
   reader_took v from (msg.ReadReq seq replica key) =
-      let r = reading (token from.index seq) replica key in requested v r (reading_of r.token v.reads)
-  reader_took v from (msg.MatchReadAck t w es) = told_row v from w es (reading_of t v.reads)
-  reader_took v from (msg.PreReadAck t w n) = acked_row v from w n (reading_of t v.reads)
+      (let r = asked_for (token from.index seq) replica key in pick me (is_among r.read v.waiting) _ _ (quiet me _ _) (requested v r v.running))
+  reader_took v from (msg.MatchReadAck u w es) = told_row v from u w es v.running
+  reader_took v from (msg.PreReadAck u w n) = acked_row v from u w n v.running
   reader_took v from other = quiet me _ v
 
-  pub reader_kinds : (v : ReaderVolatile) (i : Input) → OfKind me (reader_row c me tt v i)
+  reader_ticked : (v : ReaderVolatile) (o : Option Batch) → OfKind me (reader_tick c me v o)
+  reader_ticked v None = quiet me _ v
+  reader_ticked v (Some b) =
+      replying me _ v _ (either_way (AreOwn me) (is_matched c b) (ask_acceptors c me b) (ask_matchmakers c me b.turn)
+      (mapped me (pre_read_to me b) (members_of c (live_entries b.told)) (λ a. (refl, is))) (matchmakers_asked b.turn))
+
+  pub reader_kinds : (v : ReaderVolatile) (i : Input) → OfKind me (reader_row c me d v i)
   reader_kinds v (Take letter) = pick me (same_role letter.to me && names c letter) _ _ (reader_took v letter.from letter.msg) (quiet me _ v)
-  reader_kinds v Tick = quiet me _ v
+  reader_kinds v Tick = reader_ticked v v.running
   reader_kinds v (Order order) = quiet me _ v
 
 -- the leader's rows

@@ -10,6 +10,7 @@ use Rattle.cx_base.specs.declared.role.RoleId.{RoleId}
 use Rattle.cx_base.specs.declared.round.Round.{Round}
 use Rattle.cx_base.specs.Grid.{Shape}
 use Rattle.cx_base.specs.Role.{role}
+use Rattle.cx_field.specs.declared.parts.Asking.{Asking}
 use Rattle.cx_field.specs.declared.parts.Entry.{Entry}
 use Rattle.cx_field.specs.declared.parts.NackReason.{NackReason}
 use Rattle.cx_field.specs.declared.parts.Token.{Token}
@@ -53,24 +54,24 @@ proxy_sends P phase2a chosen chosen_in (msg.ChosenIn i t) s = chosen_in i t
 proxy_sends P phase2a chosen chosen_in other s = cc
 
 pub acceptor_sends : (P : Msg → Type 0) → ((i : Round) (cw : ℕ) (votes : List Vote) → P (msg.Phase1B i cw votes)) → ((i promise : Round) → P (msg.Nack i promise))
-    → ((i : Round) (s : ℕ) → P (msg.Phase2B i s)) → ((i : Round) (cw : ℕ) → P (msg.Informed i cw)) → ((t : Token) (w : Round) (n : ℕ) → P (msg.PreReadAck t w n))
+    → ((i : Round) (s : ℕ) → P (msg.Phase2B i s)) → ((i : Round) (cw : ℕ) → P (msg.Informed i cw)) → ((u : Asking) (w : Round) (n : ℕ) → P (msg.PreReadAck u w n))
     → (m : Msg) → IsSender kind.Acceptor m → P m
 acceptor_sends P phase1b nack phase2b informed pre_read_ack (msg.Phase1B i cw votes) s = phase1b i cw votes
 acceptor_sends P phase1b nack phase2b informed pre_read_ack (msg.Nack i promise) s = nack i promise
 acceptor_sends P phase1b nack phase2b informed pre_read_ack (msg.Phase2B i t) s = phase2b i t
 acceptor_sends P phase1b nack phase2b informed pre_read_ack (msg.Informed i cw) s = informed i cw
-acceptor_sends P phase1b nack phase2b informed pre_read_ack (msg.PreReadAck t w n) s = pre_read_ack t w n
+acceptor_sends P phase1b nack phase2b informed pre_read_ack (msg.PreReadAck u w n) s = pre_read_ack u w n
 acceptor_sends P phase1b nack phase2b informed pre_read_ack (msg.Chosen t v) (inl e) = cc
 acceptor_sends P phase1b nack phase2b informed pre_read_ack (msg.Chosen t v) (inr e) = cc
 acceptor_sends P phase1b nack phase2b informed pre_read_ack other s = cc
 
 pub matchmaker_sends : (P : Msg → Type 0) → ((i w : Round) (entries : List Entry) → P (msg.MatchB i w entries)) → ((i : Round) (reason : NackReason) (other : Round) → P (msg.MatchNack i reason other))
-    → ((i : Round) → P (msg.GarbageB i)) → ((t : Token) (w : Round) (entries : List Entry) → P (msg.MatchReadAck t w entries))
+    → ((i : Round) → P (msg.GarbageB i)) → ((u : Asking) (w : Round) (entries : List Entry) → P (msg.MatchReadAck u w entries))
     → (m : Msg) → IsSender kind.Matchmaker m → P m
 matchmaker_sends P match_b match_nack garbage_b match_read_ack (msg.MatchB i w entries) s = match_b i w entries
 matchmaker_sends P match_b match_nack garbage_b match_read_ack (msg.MatchNack i reason other) s = match_nack i reason other
 matchmaker_sends P match_b match_nack garbage_b match_read_ack (msg.GarbageB i) s = garbage_b i
-matchmaker_sends P match_b match_nack garbage_b match_read_ack (msg.MatchReadAck t w entries) s = match_read_ack t w entries
+matchmaker_sends P match_b match_nack garbage_b match_read_ack (msg.MatchReadAck u w entries) s = match_read_ack u w entries
 matchmaker_sends P match_b match_nack garbage_b match_read_ack (msg.Chosen t v) (inl e) = cc
 matchmaker_sends P match_b match_nack garbage_b match_read_ack (msg.Chosen t v) (inr e) = cc
 matchmaker_sends P match_b match_nack garbage_b match_read_ack other s = cc
@@ -91,10 +92,10 @@ unbatcher_sends P answer (msg.Chosen t v) (inl e) = cc
 unbatcher_sends P answer (msg.Chosen t v) (inr e) = cc
 unbatcher_sends P answer other s = cc
 
-pub reader_sends : (P : Msg → Type 0) → ((t : Token) → P (msg.MatchRead t)) → ((t : Token) (w : Round) → P (msg.PreRead t w)) → ((t : Token) (n : ℕ) (key : List ℕ) → P (msg.Read t n key))
+pub reader_sends : (P : Msg → Type 0) → ((u : Asking) → P (msg.MatchRead u)) → ((u : Asking) (w : Round) → P (msg.PreRead u w)) → ((t : Token) (n : ℕ) (key : List ℕ) → P (msg.Read t n key))
     → (m : Msg) → IsSender kind.Reader m → P m
-reader_sends P match_read pre_read read (msg.MatchRead t) s = match_read t
-reader_sends P match_read pre_read read (msg.PreRead t w) s = pre_read t w
+reader_sends P match_read pre_read read (msg.MatchRead u) s = match_read u
+reader_sends P match_read pre_read read (msg.PreRead u w) s = pre_read u w
 reader_sends P match_read pre_read read (msg.Read t n key) s = read t n key
 reader_sends P match_read pre_read read (msg.Chosen t v) (inl e) = cc
 reader_sends P match_read pre_read read (msg.Chosen t v) (inr e) = cc
@@ -122,6 +123,10 @@ pub replica_keeps : (P : Record → Type 0) → ((values : List Value) → P (ke
 replica_keeps P log (kept.Log values) k = log values
 replica_keeps P log other k = cc
 
+pub reader_keeps : (P : Record → Type 0) → ((n : ℕ) → P (kept.Turn n)) → (r : Record) → IsKeeper kind.Reader r → P r
+reader_keeps P turn (kept.Turn n) k = turn n
+reader_keeps P turn other k = cc
+
 -- the others keep none
 
 pub batcher_keeps : {A : Type 0} (r : Record) → IsKeeper kind.Batcher r → A
@@ -135,10 +140,6 @@ proxy_keeps other k = cc
 pub unbatcher_keeps : {A : Type 0} (r : Record) → IsKeeper kind.Unbatcher r → A
 unbatcher_keeps (kept.Promise i) k = cc
 unbatcher_keeps other k = cc
-
-pub reader_keeps : {A : Type 0} (r : Record) → IsKeeper kind.Reader r → A
-reader_keeps (kept.Promise i) k = cc
-reader_keeps other k = cc
 
 -- from a row's kinds
 

@@ -47,6 +47,7 @@ module _ {D V : Type 0} (rules : Rules D V) (none : (d : D) (first : ℕ) → ru
   untouched d (written.Record (kept.Match i g)) is e = absurd cc
   untouched d (written.Record (kept.Garbage i g)) is e = absurd cc
   untouched d (written.Record (kept.Round i g)) is e = absurd cc
+  untouched d (written.Record (kept.Turn n)) is e = absurd cc
   untouched d (written.Record (kept.Base f n p c)) is e = absurd cc
   untouched d (written.Record (kept.Pairs ps)) is e = absurd cc
   untouched d (written.Record (kept.Notes c f ns)) is e = absurd cc

@@ -328,7 +328,7 @@ module _ (c : Cluster) (Allowed : ℕ → Event → Type 0) (known holds : Prope
           (slice_get w.roles.unbatchers me.index) refl
       at_role kind.Reader is =
           placed kind.Reader ReaderIn readers reader_rules me act is refl
-          (λ v i cut p s. as_role (λ a. states_of w.roles a ≡ ReaderIn v → Given w.sent a i → Lands holds (reverse w.kept) w.sent (states_of w.roles) a ReaderIn (reader_row c a tt v i)) kind.Reader me is
+          (λ v i cut p s. as_role (λ a. states_of w.roles a ≡ ReaderIn v → Given w.sent a i → Lands holds (reverse w.kept) w.sent (states_of w.roles) a ReaderIn (reader_row c a (durable_of reader_rules a (reverse w.kept)) v i)) kind.Reader me is
           (laws.reader (reverse w.kept) w.sent (states_of w.roles) me.index v i knows h) s (given_to i cut p))
           (λ v first s e. absurd cc)
           (slice_get w.roles.readers me.index) refl

@@ -42,10 +42,10 @@ IsSender k (msg.Informed i cw) = k ≡ kind.Acceptor
 IsSender k (msg.GarbageA i g) = k ≡ kind.Leader
 IsSender k (msg.GarbageB i) = k ≡ kind.Matchmaker
 IsSender k (msg.ReadReq seq replica key) = k ≡ kind.Client
-IsSender k (msg.MatchRead t) = k ≡ kind.Reader
-IsSender k (msg.MatchReadAck t w entries) = k ≡ kind.Matchmaker
-IsSender k (msg.PreRead t w) = k ≡ kind.Reader
-IsSender k (msg.PreReadAck t w n) = k ≡ kind.Acceptor
+IsSender k (msg.MatchRead u) = k ≡ kind.Reader
+IsSender k (msg.MatchReadAck u w entries) = k ≡ kind.Matchmaker
+IsSender k (msg.PreRead u w) = k ≡ kind.Reader
+IsSender k (msg.PreReadAck u w n) = k ≡ kind.Acceptor
 IsSender k (msg.Read t n key) = k ≡ kind.Reader
 IsSender k (msg.ReadAnswer seq n found) = k ≡ kind.Replica
 IsSender k (msg.SessRead seq n key) = k ≡ kind.Client
@@ -59,6 +59,7 @@ IsKeeper k (kept.Match i g) = k ≡ kind.Matchmaker
 IsKeeper k (kept.Garbage i g) = k ≡ kind.Matchmaker
 IsKeeper k (kept.Round i g) = k ≡ kind.Leader
 IsKeeper k (kept.Log values) = k ≡ kind.Replica
+IsKeeper k (kept.Turn n) = k ≡ kind.Reader
 IsKeeper k other = true ≡ false
 
 -- a role of this kind may make this change in its store: keep a record of its kind; a replica also forgets values

@@ -19,7 +19,7 @@ use Rattle.cx_model.specs.Leader.{LeaderVolatile, leader_rules, leader_row}
 use Rattle.cx_model.specs.Matchmaker.{matchmaker_rules, matchmaker_row}
 use Rattle.cx_model.specs.Outcome.{Outcome}
 use Rattle.cx_model.specs.Proxy.{ProxyVolatile, proxy_row}
-use Rattle.cx_model.specs.Reader.{ReaderVolatile, reader_row}
+use Rattle.cx_model.specs.Reader.{ReaderVolatile, reader_rules, reader_row}
 use Rattle.cx_model.specs.Replica.{ReplicaVolatile, replica_rules, replica_row}
 use Rattle.cx_model.specs.Request.{request, token_of}
 use Rattle.cx_model.specs.Unbatcher.{unbatcher_row}
@@ -77,7 +77,7 @@ pub record Laws (c : Cluster) (Allowed : ℕ → Event → Type 0) (known holds 
       → Lands holds kept sent states (role kind.Unbatcher u) plain (unbatcher_row c (role kind.Unbatcher u) tt tt i)
   pub reader : (kept : List KeptRecord) (sent : List Letter) (states : RoleId → State) (r : ℕ) (v : ReaderVolatile) (i : Input)
       → known kept sent states → holds kept sent states → states (role kind.Reader r) ≡ ReaderIn v → Given sent (role kind.Reader r) i
-      → Lands holds kept sent states (role kind.Reader r) ReaderIn (reader_row c (role kind.Reader r) tt v i)
+      → Lands holds kept sent states (role kind.Reader r) ReaderIn (reader_row c (role kind.Reader r) (durable_of reader_rules (role kind.Reader r) kept) v i)
 
 -- nothing is known
 abbrev pub anything : Property

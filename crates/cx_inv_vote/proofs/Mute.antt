@@ -1,5 +1,5 @@
--- Roles that keep nothing, and whose datagrams say nothing of what was kept: of their rows only the new state matters.
-use Rattle.std.proofs.Common.{◌≡◌, List, inl, inr, sym, ◌∙◌, subst}
+-- Roles that keep nothing but a reader's turns, and whose datagrams say nothing of what was kept: of their rows only the new state matters.
+use Rattle.std.proofs.Common.{◌≡◌, ℕ, List, ◌∷◌, inl, inr, sym, ◌∙◌, subst}
 use Rattle.cx_base.specs.declared.cluster.Cluster.{Cluster}
 use Rattle.cx_base.specs.declared.role.Kind.{Kind}
 use Rattle.cx_base.specs.declared.role.Kind.TheVariants as kind
@@ -13,11 +13,12 @@ use Rattle.cx_msg.specs.declared.message.Msg.TheVariants as msg
 use Rattle.cx_model.specs.Outcome.{Outcome}
 use Rattle.cx_inv_run.specs.Kinds.{IsSender, IsKeeper, IsKept, OfKind}
 use Rattle.cx_inv_run.specs.Laws.{Lands}
-use Rattle.cx_inv_run.specs.States.{State, with_record}
+use Rattle.cx_inv_run.specs.States.{State, Down, entry_by, set_state, with_record}
 use Rattle.cx_inv_match.specs.Facts.{Says, InState, Facts}
+use Rattle.cx_inv_match.proofs.Records.{keep_turn}
 use Rattle.cx_inv_vote.proofs.Rows.{lands, quiet_kind}
 
--- Kinds of roles that keep nothing, and whose datagrams say nothing of what was kept.
+-- Kinds of roles that keep nothing but turns, and whose datagrams say nothing of what was kept.
 module _ (k : Kind) (no_leader : k ≡ kind.Leader → ⊥) (no_matchmaker : k ≡ kind.Matchmaker → ⊥) (no_acceptor : k ≡ kind.Acceptor → ⊥)
     (no_proxy : k ≡ kind.Proxy → ⊥) (no_replica : k ≡ kind.Replica → ⊥) where
   mute_says : (c : Cluster) (history : List KeptRecord) (sent : List Letter) (from : RoleId) (m : Msg) → IsSender k m → Says c history sent from m
@@ -34,15 +35,17 @@ module _ (k : Kind) (no_leader : k ≡ kind.Leader → ⊥) (no_matchmaker : k �
   mute_says c history sent from (msg.GarbageA i g) e = absurd (no_leader e)
   mute_says c history sent from other e = tt
 
-  mute_keeps : (r : Record) → IsKeeper k r → ⊥
-  mute_keeps (kept.Promise i) e = no_acceptor e
-  mute_keeps (kept.Vote i s cw v) e = no_acceptor e
-  mute_keeps (kept.Water i cw) e = no_acceptor e
-  mute_keeps (kept.Match i g) e = no_matchmaker e
-  mute_keeps (kept.Garbage i g) e = no_matchmaker e
-  mute_keeps (kept.Round i g) e = no_leader e
-  mute_keeps (kept.Log values) e = no_replica e
-  mute_keeps other e = cc
+  -- of its records, a reader's turn alone
+  mute_keeps : (P : Record → Type 0) → ((n : ℕ) → P (kept.Turn n)) → (r : Record) → IsKeeper k r → P r
+  mute_keeps P turn (kept.Promise i) e = absurd (no_acceptor e)
+  mute_keeps P turn (kept.Vote i s cw v) e = absurd (no_acceptor e)
+  mute_keeps P turn (kept.Water i cw) e = absurd (no_acceptor e)
+  mute_keeps P turn (kept.Match i g) e = absurd (no_matchmaker e)
+  mute_keeps P turn (kept.Garbage i g) e = absurd (no_matchmaker e)
+  mute_keeps P turn (kept.Round i g) e = absurd (no_leader e)
+  mute_keeps P turn (kept.Log values) e = absurd (no_replica e)
+  mute_keeps P turn (kept.Turn n) e = turn n
+  mute_keeps P turn other e = cc
 
   module _ (c : Cluster) (history : List KeptRecord) (sent : List Letter) (states : RoleId → State) (facts : Facts c history sent states)
       (me : RoleId) (is : me.kind ≡ k) where
@@ -52,7 +55,8 @@ module _ (k : Kind) (no_leader : k ≡ kind.Leader → ⊥) (no_matchmaker : k �
     mute_lands make o of_kind state =
         lands c history sent states facts me make o (quiet_kind me o (λ e. no_leader (sym is ∙ e)) of_kind)
         record {
-          lawful = λ r e. absurd (mute_keeps r (subst (λ x. IsKeeper x r) is (subst (λ x. IsKept me.kind x) e of_kind.keeps)));
+          lawful = λ r e. mute_keeps (λ (x : Record). Facts c (entry_by me x ∷ history) sent (set_state me Down states)) (λ n. keep_turn c history sent states facts me n) r
+              (subst (λ x. IsKeeper x r) is (subst (λ x. IsKept me.kind x) e of_kind.keeps));
           says = λ longer more d m. mute_says c (with_record me o.kept history) longer d.from d.msg (subst (λ x. IsSender x d.msg) is (of_kind.sends d m).1);
           state = state;
         }

@@ -13,12 +13,12 @@ use Rattle.cx_model.specs.declared.states.Mode.{Mode}
 use Rattle.cx_model.specs.declared.states.Mode.TheVariants.{Idle, Matching, Phase1, Leading}
 use Rattle.cx_model.specs.declared.states.Pending.{Pending}
 use Rattle.cx_model.specs.Batcher.{BatcherVolatile}
-use Rattle.cx_model.specs.Facts.{IsProposed, IsRetiring, LeaderWasTold, ProxyWasTold, BatcherWasTold, ReplicaWasTold, ReaderWasTold}
+use Rattle.cx_model.specs.Facts.{IsProposed, IsRetiring, LeaderWasTold, ProxyWasTold, BatcherWasTold, ReplicaWasTold, ReaderWasTold, BatchWasTold}
 use Rattle.cx_model.specs.Leader.{LeaderVolatile, leader_rules, round_of}
 use Rattle.cx_model.specs.Lists.{by_role, other_role}
 use Rattle.cx_model.specs.Member.{Member}
 use Rattle.cx_model.specs.Proxy.{ProxyVolatile}
-use Rattle.cx_model.specs.Reader.{ReaderVolatile}
+use Rattle.cx_model.specs.Reader.{Batch, ReaderVolatile}
 use Rattle.cx_model.specs.Replica.{ReplicaVolatile}
 use Rattle.cx_inv_run.specs.States.{State, Down, Plain, BatcherIn, LeaderIn, ProxyIn, ReplicaIn, ReaderIn, set_state, durable_of}
 use Rattle.cx_inv_run.proofs.Members.{Member-cases, Member-first}
@@ -93,11 +93,17 @@ replica_told sent ds me v h = record {
   deferred = λ r m. elim (h.deferred r m) [ inl d ↦ inl (d.0, Member-first _ sent ds d.1) | inr d ↦ inr (d.0, d.1, Member-first _ sent ds d.2) ];
 }
 
+pub batch_told : (sent ds : List Letter) (me : RoleId) (b : Batch) → BatchWasTold sent me b → BatchWasTold (sent ++ ds) me b
+batch_told sent ds me b h = record {
+  requests = λ r m. Member-first _ sent ds (h.requests r m);
+  answers = λ a m. Member-first _ sent ds (h.answers a m);
+  acks = λ a m. Member-first _ sent ds (h.acks a m);
+}
+
 pub reader_told : (sent ds : List Letter) (me : RoleId) (v : ReaderVolatile) → ReaderWasTold sent me v → ReaderWasTold (sent ++ ds) me v
 reader_told sent ds me v h = record {
   requests = λ r m. Member-first _ sent ds (h.requests r m);
-  answers = λ r a m k. Member-first _ sent ds (h.answers r a m k);
-  acks = λ r a m k. Member-first _ sent ds (h.acks r a m k);
+  batch = λ b e. batch_told sent ds me b (h.batch b e);
 }
 
 pub still_pending : (history : List KeptRecord) (sent ds : List Letter) (p : Pending) → IsPending history sent p → IsPending history (sent ++ ds) p

@@ -1,5 +1,6 @@
 -- The facts of a moment in which nothing has happened, a role that was just opened, and a request that goes out.
 use Rattle.std.proofs.Common.{◌≡◌, ℕ, zero, suc, ◌⊎◌, List, [], ◌∷◌, ◌++◌, map, Some, inl, inr, sym, subst, refl}
+use Rattle.std.proofs.lemmas.Option.{none-some}
 use Rattle.std.specs.Prelude.{slice_get}
 use Rattle.std.proofs.lemmas.Option.{same_Some}
 use Rattle.cx_base.specs.declared.cluster.Cluster.{Cluster}
@@ -59,7 +60,7 @@ fresh_holds c history sent me kind.Matchmaker = tt
 fresh_holds c history sent me kind.Replica = record { early = λ p m. absurd m; deferred = λ r m. absurd m }
 fresh_holds c history sent me kind.Unbatcher = tt
 fresh_holds c history sent me kind.Reader =
-    (record { requests = λ r m. absurd m; answers = λ r a m k. absurd m; acks = λ r a m k. absurd m }, λ r m f a k. m)
+    (record { requests = λ r m. absurd m; batch = λ b e. absurd (none-some b e) }, λ b e f a k. absurd (none-some b e))
 
 -- it doesn't matter in which state it was before
 pub wake : (c : Cluster) (history : List KeptRecord) (sent : List Letter) (states : RoleId → State) (me : RoleId)

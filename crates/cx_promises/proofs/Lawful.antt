@@ -12,7 +12,7 @@ use Rattle.cx_inv_open.proofs.Steps.{roles_reopen}
 use Rattle.cx_inv_list.proofs.Answers.{answers_are_of_a_log, one_list, reads_tell}
 use Rattle.cx_inv_list.proofs.Right.{machine_is_the_fold}
 use Rattle.cx_inv_read.proofs.Results.{after_answers, after_heard, after_reads}
-use Rattle.cx_inv_retire.proofs.Later.{rounds_ask_later, reads_ask_later}
+use Rattle.cx_inv_retire.proofs.Later.{rounds_ask_later, turns_ask_later, reads_ask_later}
 use Rattle.cx_promises.specs.Lawful.{IsLawful, IsCommandList}
 
 pub lawful : (c : Cluster) (es : List Event) → IsLawful c es
@@ -36,6 +36,7 @@ lawful c es = record {
   chosen_below = kept_watermarks.chosen_below c es;
   held = kept_watermarks.held c es;
   rounds_ask_later = rounds_ask_later c es;
+  turns_ask_later = turns_ask_later c es;
   reads_ask_later = reads_ask_later c es;
   nothing_is_lost = safe_snapshots.nothing_is_lost c es;
   forgotten_is_kept = safe_snapshots.forgotten_is_kept c es;

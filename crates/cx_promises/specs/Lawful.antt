@@ -28,6 +28,7 @@ use Rattle.cx_model.specs.Promises.{
   ChosenBelow,
   HeldBelow,
   RoundsAskLater,
+  TurnsAskLater,
   ReadsAskLater,
   NothingIsLost,
   ForgottenIsKept,
@@ -61,6 +62,7 @@ pub record IsLawful (c : Cluster) (es : List Event) : Type 0 where
   pub chosen_below : ChosenBelow c es
   pub held : HeldBelow c es
   pub rounds_ask_later : RoundsAskLater c es
+  pub turns_ask_later : TurnsAskLater c es
   pub reads_ask_later : ReadsAskLater c es
   -- safe snapshots
   pub nothing_is_lost : NothingIsLost c es
