@@ -92,7 +92,9 @@ impl Role for Acceptor {
                 value,
             } => self.phase2a(keeper, from, *round, *slot, *cw, value, out),
             Msg::Inform { round, mark } => self.inform(keeper, from, *round, *mark, out),
-            Msg::PreRead { token, watermark } => Ok(self.pre_read(from, *token, *watermark, out)?),
+            Msg::PreRead { asking, watermark } => Ok(self.pre_read(
+                from, *asking, *watermark, out,
+            )?),
             _ => Ok(Why::Stranger),
         }
     }

@@ -7,7 +7,7 @@ ghost use Rattle.cx_field.specs.Fields as field;
 
 use crate::Acceptor;
 use cx_base::{NoMemory, RoleId, Round, Why};
-use cx_field::Token;
+use cx_field::Asking;
 use cx_keeper::Keeper;
 use cx_msg::{Record, informed, pre_read_ack};
 use cx_role::{Outbox, StepFault, keep};
@@ -49,20 +49,20 @@ impl Acceptor {
     pub(crate) fn pre_read(
         &self,
         from: RoleId,
-        token: Token,
+        asking: Asking,
         watermark: Round,
         out: &mut Outbox,
     ) -> Result<Why, NoMemory>
         requires empty { out.old.list ≡ [] }
         requires sender { from ≡ role Kind.Reader from.index }
-        requires token { IsTrue (field.token.fits token) }
+        requires asking { IsTrue (field.asking.fits asking) }
         requires watermark { IsTrue (field.round0.fits watermark) }
-        ensures { IsReply acceptor_rules self.now (pre_read_row self.now.me self.now.durable from token watermark)
+        ensures { IsReply acceptor_rules self.now (pre_read_row self.now.me self.now.durable from asking watermark)
             result self.now out.new.list }
     {
         let mark = self.cw.max(self.top);
         out.room(1)?;
-        out.push(pre_read_ack(self.me.index, from.index, token, watermark, mark));
+        out.push(pre_read_ack(self.me.index, from.index, asking, watermark, mark));
         Ok(Why::Asked)
     }
 }

@@ -83,7 +83,7 @@ impl Role for Matchmaker {
         match datagram.msg() {
             Msg::MatchA { round, grid } => self.match_a(keeper, from, *round, *grid, out),
             Msg::GarbageA { round, grid } => self.garbage_a(keeper, from, *round, *grid, out),
-            Msg::MatchRead { token } => Ok(self.match_read(from, *token, out)?),
+            Msg::MatchRead { asking } => Ok(self.match_read(from, *asking, out)?),
             _ => Ok(Why::Stranger),
         }
     }

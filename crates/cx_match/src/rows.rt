@@ -8,7 +8,7 @@ ghost use Rattle.cx_field.specs.Fields as field;
 use crate::Matchmaker;
 use crate::entries::{earlier, has_entry, has_later, last_round, retire, told};
 use cx_base::{Grid, NoMemory, ROUNDS, RoleId, Round, Why};
-use cx_field::{Entry, NackReason, Token};
+use cx_field::{Asking, Entry, NackReason};
 use cx_keeper::Keeper;
 use cx_msg::{Record, garbage_b, match_b, match_nack, match_read_ack};
 use cx_role::{Outbox, StepFault, keep};
@@ -105,18 +105,18 @@ impl Matchmaker {
     pub(crate) fn match_read(
         &self,
         from: RoleId,
-        token: Token,
+        asking: Asking,
         out: &mut Outbox,
     ) -> Result<Why, NoMemory>
         requires empty { out.old.list ≡ [] }
         requires sender { from ≡ role Kind.Reader from.index }
-        requires token { IsTrue (field.token.fits token) }
+        requires asking { IsTrue (field.asking.fits asking) }
         ensures { IsReply matchmaker_rules self.now
-            (match_read_row self.now.me self.now.durable from token) result self.now out.new.list }
+            (match_read_row self.now.me self.now.durable from asking) result self.now out.new.list }
     {
         let entries = told(self.alloc, &self.entries)?;
         out.room(1)?;
-        out.push(match_read_ack(self.me.index, from.index, token, self.watermark, entries));
+        out.push(match_read_ack(self.me.index, from.index, asking, self.watermark, entries));
         Ok(Why::Asked)
     }
 }

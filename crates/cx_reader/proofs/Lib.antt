@@ -1,6 +1,8 @@
+pub mod Again
 pub mod Counted
-pub mod Entries
-pub mod KeptNothing
+pub mod FitLaws
 pub mod Live
+pub mod Memory
 pub mod Opened
 pub mod Ranges
+pub mod Turns

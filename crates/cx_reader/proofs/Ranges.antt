@@ -1,10 +1,10 @@
--- The ranges of what a read sends.
-use Rattle.cx_role.proofs.Common.{◌≡◌, ◌<◌, true, List, [], ◌∷◌, ◌++◌, refl, arith, nat_lt, nat_tests, lt-ltb}
+-- The ranges of what a batch sends.
+use Rattle.cx_role.proofs.Common.{◌≡◌, ◌<◌, ◌≤◌, ◌+◌, true, length, Option, Some, List, [], ◌∷◌, ◌++◌, refl, arith, nat_lt, nat_tests, lt-ltb}
 use Rattle.cx_role.proofs.Common.{list_all-append, Acked, MatchAnswer, greatest_watermark}
 use Rattle.cx_wire.specs.Format.{u16, u32, u64}
 use Rattle.cx_field.specs.Fields.{mark, round0}
-use Rattle.cx_model.specs.Reader.{greatest_mark}
-use Rattle.cx_reader.specs.InProgress.{are_told, is_ack, are_acks}
+use Rattle.cx_model.specs.Reader.{Asked, Batch, greatest_mark}
+use Rattle.cx_reader.specs.Running.{are_told, is_ack, are_acks, count_running}
 
 -- the greatest of watermarks in their range
 pub watermark_fits : (told : List MatchAnswer) → are_told told ≡ true → round0.fits (greatest_watermark told) ≡ true
@@ -23,3 +23,8 @@ pub mark_fits : (acks : List Acked) → are_acks acks ≡ true → mark.fits (gr
 unfolding mark u64
 mark_fits [] fit = refl
 mark_fits (a ∷ acks) fit = grind (arith, nat_tests, mark_fits acks)
+
+-- what waits, and what of the batch that runs
+pub few_with : (waiting : List Asked) (running : Option Batch) (b : Batch) → running ≡ Some b
+    → length waiting + count_running running ≤ 64 → length waiting + length b.reads ≤ 64
+few_with waiting running b is few = rw is at few

@@ -1,3 +1,2 @@
-pub mod InProgress
 pub mod Live
-pub mod Reads
+pub mod Running

@@ -1,12 +1,19 @@
-//! The reader of quorum reads: it finds how many slots a read has to wait for (VLDB 2021). A replica then answers the read.
+//! The reader of quorum reads: it finds how many slots the reads of a batch have to wait for (VLDB 2021; in batches this project's
+//! own). A replica then answers each read.
 //!
-//! Its theorem is the contract of `Role` at `reader_rules`; it keeps no record.
+//! Its theorem is the contract of `Role` at `reader_rules`.
 #![tactic(auto)]
 
+mod asked;
+mod batch;
+mod begins;
 mod matched;
 mod reader;
-mod reading;
-mod reads;
+mod records;
+mod requests;
 mod rows;
+mod sends;
+#[cfg(test)]
+mod turn_tests;
 
 pub use reader::Reader;

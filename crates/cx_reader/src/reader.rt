@@ -1,13 +1,12 @@
 //! The reader.
 
 ghost use Rattle.std.specs.Prelude.{◌≡◌};
-ghost use Rattle.cx_role.specs.Prelude.{[], IsTrue, role, opened};
-ghost use Rattle.cx_role.specs.Prelude.kind;
-ghost use Rattle.cx_model.specs.Reader.{ReaderVolatile, reader_rules, token};
+ghost use Rattle.cx_role.specs.Prelude.{IsTrue};
+ghost use Rattle.cx_model.specs.Reader.{ReaderDurable, ReaderVolatile, reader_rules, token};
 ghost use Rattle.cx_field.specs.Fields as field;
 
-use crate::reading::Reading;
-use crate::reads::Reads;
+use crate::asked::Asked;
+use crate::batch::Batch;
 use cx_base::{Cluster, Kind, NoMemory, Order, RoleId, Why};
 use cx_field::Token;
 use cx_keeper::Keeper;
@@ -16,31 +15,36 @@ use cx_role::{Outbox, Role, StepFault, WakeFault, is_for};
 use std::alloc::Global;
 use std::marker::Model;
 
-/// A reader of the cluster: the reads in progress, at most 64 (VLDB 2021: quorum reads; over several grids this
-/// project's own). It keeps no record: who asked asks again when it was lost.
+/// A reader of the cluster: its last turn, the reads that wait, in the order in which they came, and the batch that runs, if one
+/// does. At most 64 reads wait and run together (VLDB 2021: quorum reads; over several grids, and in batches, this project's own).
 #[derive(Drop)]
 pub struct Reader {
     pub(crate) alloc: Global,
     pub(crate) cluster: Cluster,
     pub(crate) index: u16,
     pub(crate) live: bool,
-    pub(crate) reads: Reads,
+    pub(crate) turn: u64,
+    pub(crate) waiting: Vec<Asked>,
+    pub(crate) running: Option<Batch>,
 }
 
 impl Model for Reader {
     ghost use Rattle.cx_role.specs.Prelude.{role, Running};
     ghost use Rattle.cx_role.specs.Prelude.kind;
-    ghost use Rattle.cx_model.specs.Reader.{ReaderVolatile};
+    ghost use Rattle.cx_model.specs.Reader.{ReaderDurable, ReaderVolatile};
+    ghost use Rattle.cx_reader.specs.Running.{IsReader};
 
-    ghost Value = { Running (Unit {0}) ReaderVolatile };
+    ghost Value = { Running ReaderDurable ReaderVolatile };
 
     ghost view = { λ r. record {
       cluster = r.cluster;
       me = role kind.Reader r.index;
       live = r.live;
-      durable = tt;
-      volatile = record { reads = r.reads };
+      durable = record { turn = r.turn };
+      volatile = record { waiting = r.waiting.items; running = r.running };
     } };
+
+    ghost invariant = { λ r. IsReader r.turn r.waiting.items r.running };
 }
 
 #[tactic(auto, unfolding(cx_field::specs::Fields::token, cx_wire::specs::Format::u16))]
@@ -52,22 +56,8 @@ fn token(client: u16, seq: u64) -> Token
     Token { client, seq }
 }
 
-impl Reader {
-    fn new(alloc: Global, cluster: &Cluster, index: u16) -> Self
-        ensures { result ≡ opened reader_rules cluster.now (role kind.Reader index) [] }
-    {
-        Reader {
-            alloc,
-            cluster: *cluster,
-            index,
-            live: true,
-            reads: Reads::new(alloc),
-        }
-    }
-}
-
 impl Role for Reader {
-    ghost Durable = { Unit {0} };
+    ghost Durable = { ReaderDurable };
 
     ghost Volatile = { ReaderVolatile };
 
@@ -85,17 +75,23 @@ impl Role for Reader {
         Reader::new(alloc, cluster, me.index).reopen(records)
     }
 
-    #[tactic(auto, using(crate::proofs::Opened::reader_refuses))]
     fn reopen(self, records: &[Record]) -> Result<Self, WakeFault> {
-        if let [_, ..] = records {
-            return Err(WakeFault::Record { index: 0 });
+        let mut reader = self;
+        reader.live = true;
+        reader.waiting.clear();
+        reader.running = None;
+        for (index, what) in records.iter().enumerate() {
+            if !reader.fits(what) {
+                return Err(WakeFault::Record { index });
+            }
+            reader.remember(what);
         }
-        Ok(Reader::new(self.alloc, &self.cluster, self.index))
+        Ok(reader)
     }
 
     fn take<K: Keeper>(
         &mut self,
-        _keeper: &mut K,
+        keeper: &mut K,
         datagram: &Datagram,
         out: &mut Outbox,
     ) -> Result<Why, StepFault> {
@@ -106,20 +102,19 @@ impl Role for Reader {
         let from = datagram.from();
         match datagram.msg() {
             Msg::ReadReq { seq, replica, key } => {
-                let token = token(from.index, *seq);
-                let one = Reading::new(self.alloc, token, *replica, *key);
-                Ok(self.begin(one, out)?)
+                let one = Asked::new(token(from.index, *seq), *replica, *key);
+                self.request(keeper, one, out)
             }
             Msg::MatchReadAck {
-                token,
+                asking,
                 watermark,
                 entries,
-            } => Ok(self.match_answer(from, *token, *watermark, entries, out)?),
+            } => self.match_answer(keeper, from, *asking, *watermark, entries, out),
             Msg::PreReadAck {
-                token,
+                asking,
                 watermark,
                 mark,
-            } => Ok(self.pre_read_answer(from, *token, *watermark, *mark, out)?),
+            } => self.pre_read_answer(keeper, from, *asking, *watermark, *mark, out),
             _ => Ok(Why::Stranger),
         }
     }
@@ -133,8 +128,8 @@ impl Role for Reader {
         Ok(Why::Stranger)
     }
 
-    fn tick(&mut self, _out: &mut Outbox) -> Result<Why, NoMemory> {
-        Ok(Why::Idle)
+    fn tick(&mut self, out: &mut Outbox) -> Result<Why, NoMemory> {
+        self.resend(out)
     }
 
     fn live(&self) -> bool {

@@ -95,5 +95,6 @@ fn into_values(what: Record) -> LogValues
         Record::Pairs { .. } => unreachable!(),
         Record::Notes { .. } => unreachable!(),
         Record::Tail { .. } => unreachable!(),
+        Record::Turn { .. } => unreachable!(),
     }
 }

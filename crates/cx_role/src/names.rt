@@ -5,12 +5,12 @@ ghost use Rattle.std.specs.List.{list_all};
 ghost use Rattle.cx_base.specs.declared.command.Answered.{Answered};
 ghost use Rattle.cx_base.specs.declared.command.Command.{Command};
 ghost use Rattle.cx_base.specs.Role.{same_role};
-ghost use Rattle.cx_model.specs.Names.{names_role, names_round, names_grid, names_command, names_value, names_entry, names_vote, names_answer, names_token, names_body, names};
+ghost use Rattle.cx_model.specs.Names.{names_role, names_round, names_grid, names_command, names_value, names_entry, names_vote, names_answer, names_asking, names_token, names_body, names};
 ghost use Rattle.cx_field.specs.declared.parts.Entry.{Entry};
 ghost use Rattle.cx_field.specs.declared.parts.Vote.{Vote};
 
 use cx_base::{Answered, Cluster, Command, Grid, RoleId, Round, Value, count_of};
-use cx_field::{Entry, Token, Vote};
+use cx_field::{Asking, Entry, Token, Vote};
 use cx_msg::{Datagram, Msg};
 
 /// Whether a role is one of the cluster's. It takes no memory.
@@ -94,6 +94,12 @@ fn names_token(cluster: &Cluster, token: Token) -> bool
     token.client < cluster.clients
 }
 
+fn names_asking(cluster: &Cluster, asking: Asking) -> bool
+    ensures { result ≡ names_asking cluster.now asking }
+{
+    asking.reader < cluster.readers
+}
+
 fn names_body(cluster: &Cluster, msg: &Msg) -> bool
     ensures { result ≡ names_body cluster.now msg.now }
 {
@@ -145,22 +151,23 @@ fn names_body(cluster: &Cluster, msg: &Msg) -> bool
         Msg::GarbageA { round, grid } => names_round(cluster, *round) && names_grid(cluster, grid),
         Msg::GarbageB { round } => names_round(cluster, *round),
         Msg::ReadReq { replica, .. } => *replica < cluster.replicas,
-        Msg::MatchRead { token } | Msg::Read { token, .. } => names_token(cluster, *token),
+        Msg::Read { token, .. } => names_token(cluster, *token),
+        Msg::MatchRead { asking } => names_asking(cluster, *asking),
         Msg::MatchReadAck {
-            token,
+            asking,
             watermark,
             entries,
         } => {
-            names_token(cluster, *token)
+            names_asking(cluster, *asking)
                 && names_round(cluster, *watermark)
                 && names_entries(cluster, entries.as_slice())
         }
-        Msg::PreRead { token, watermark }
+        Msg::PreRead { asking, watermark }
         | Msg::PreReadAck {
-            token,
+            asking,
             watermark,
             ..
-        } => { names_token(cluster, *token) && names_round(cluster, *watermark) }
+        } => { names_asking(cluster, *asking) && names_round(cluster, *watermark) }
     }
 }
 

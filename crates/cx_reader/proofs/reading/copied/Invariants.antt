@@ -1,5 +1,0 @@
-use Rattle.cx_role.proofs.Common.{◌≡◌, take}
-use Rattle.cx_reader.proofs.reading.copied.Given as goal
-
-abbrev pub invariant-loop-answer : goal.invariant-loop-answer
-invariant-loop-answer l = l.list.items ≡ take l.answer-index l.told

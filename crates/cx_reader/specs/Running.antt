@@ -1,0 +1,34 @@
+-- What is so of every batch, and of every reader.
+use Rattle.std.specs.Prelude.{◌≡◌, ◌+◌, ◌≤◌, ◌&&◌}
+use Rattle.cx_role.specs.Prelude.{ℕ, nat_lt, Bool, List, Option, None, Some, length, IsTrue, list_all, is_in, Acked, MatchAnswer}
+use Rattle.cx_field.specs.Fields.{mark, round0, seq}
+use Rattle.cx_model.specs.Reader.{Asked, Batch, has_acked, last_turn}
+
+-- whether the watermarks of matchmakers' answers are in their range
+abbrev pub are_told : List MatchAnswer → Bool
+are_told told = list_all (λ (a : MatchAnswer). round0.fits a.watermark) told
+
+-- whether an acceptor can be marked, and its number of slots is in its range
+abbrev pub is_ack : Acked → Bool
+is_ack a = nat_lt a.acceptor 64 && mark.fits a.mark
+
+abbrev pub are_acks : List Acked → Bool
+are_acks acks = list_all (λ (a : Acked). is_ack a) acks
+
+-- what the batch sends is in its ranges, its reads are at most 64, and those are marked that were counted
+pub record IsBatch (turn : ℕ) (reads : List Asked) (told : List MatchAnswer) (acks : List Acked) (marks : List ℕ) : Type 0 where
+  pub turn_fits : IsTrue (seq.fits turn)
+  pub few : length reads ≤ 64
+  pub told_fit : IsTrue (are_told told)
+  pub acks_fit : IsTrue (are_acks acks)
+  pub marked : (id : ℕ) → is_in id marks ≡ has_acked id acks
+
+-- how many reads of the running batch there are
+abbrev pub count_running : Option Batch → ℕ
+count_running None = 0
+count_running (Some b) = length b.reads
+
+-- the last turn is in its range, and at most 64 reads wait and run together
+pub record IsReader (turn : ℕ) (waiting : List Asked) (running : Option Batch) : Type 0 where
+  pub turn_fits : turn ≤ last_turn
+  pub few : length waiting + count_running running ≤ 64
