@@ -82,6 +82,7 @@ all_told values rounds votes casts s v are told =
       same_whole (written.Record (kept.Pairs pairs)) = refl
       same_whole (written.Record (kept.Notes client floor notes)) = refl
       same_whole (written.Record (kept.Tail values)) = refl
+      same_whole (written.Record (kept.Turn turn)) = refl
       same_whole (written.Snap first) = refl
 
 -- so they are when all votes were looked at

@@ -50,6 +50,7 @@ elsewhere_is_no_vote j s v (written.Record (kept.Base first held pairs clients))
 elsewhere_is_no_vote j s v (written.Record (kept.Pairs pairs)) e = refl
 elsewhere_is_no_vote j s v (written.Record (kept.Notes client floor notes)) e = refl
 elsewhere_is_no_vote j s v (written.Record (kept.Tail values)) e = refl
+elsewhere_is_no_vote j s v (written.Record (kept.Turn turn)) e = refl
 elsewhere_is_no_vote j s v (written.Snap first) e = refl
 
 same_votes : (history : List KeptRecord) (a : ℕ) (j : Round) (s : ℕ) (v : Value) → has_vote (votes_of s history) a j s v ≡ has_vote history a j s v
@@ -72,6 +73,7 @@ by_record history s v (written.Record (kept.Base first held pairs clients)) = re
 by_record history s v (written.Record (kept.Pairs pairs)) = refl
 by_record history s v (written.Record (kept.Notes client floor notes)) = refl
 by_record history s v (written.Record (kept.Tail values)) = refl
+by_record history s v (written.Record (kept.Turn turn)) = refl
 by_record history s v (written.Snap first) = refl
 
 by_records : (history ks : List KeptRecord) (s : ℕ) (v : Value) → is_chosen_among (rounds_of ks) (votes_of s history) s v ≡ list_any (λ (k : KeptRecord). is_chosen_by history s v k.what) ks
@@ -99,6 +101,7 @@ same_selects history rounds s (written.Record (kept.Base first held pairs client
 same_selects history rounds s (written.Record (kept.Pairs pairs)) are = refl
 same_selects history rounds s (written.Record (kept.Notes client floor notes)) are = refl
 same_selects history rounds s (written.Record (kept.Tail values)) are = refl
+same_selects history rounds s (written.Record (kept.Turn turn)) are = refl
 same_selects history rounds s (written.Snap first) are = refl
 
 no_vote_elsewhere : (history : List KeptRecord) (s : ℕ) (r : Written) (later : Option Value) → is_vote_in s r ≡ false → chosen_vote history s r later ≡ later
@@ -113,6 +116,7 @@ no_vote_elsewhere history s (written.Record (kept.Base first held pairs clients)
 no_vote_elsewhere history s (written.Record (kept.Pairs pairs)) later e = refl
 no_vote_elsewhere history s (written.Record (kept.Notes client floor notes)) later e = refl
 no_vote_elsewhere history s (written.Record (kept.Tail values)) later e = refl
+no_vote_elsewhere history s (written.Record (kept.Turn turn)) later e = refl
 no_vote_elsewhere history s (written.Snap first) later e = refl
 
 first_of_votes : (history : List KeptRecord) (s : ℕ) (ks : List KeptRecord) → first_chosen history s (votes_of s ks) ≡ first_chosen history s ks

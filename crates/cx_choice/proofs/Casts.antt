@@ -59,6 +59,7 @@ of_another i j s v (written.Record (kept.Base first held pairs clients)) same ot
 of_another i j s v (written.Record (kept.Pairs pairs)) same other = refl
 of_another i j s v (written.Record (kept.Notes client floor notes)) same other = refl
 of_another i j s v (written.Record (kept.Tail values)) same other = refl
+of_another i j s v (written.Record (kept.Turn turn)) same other = refl
 of_another i j s v (written.Snap first) same other = refl
 
 and_none : (a b : Bool) → b ≡ false → (a && b) ≡ false

@@ -30,6 +30,7 @@ choosing history s (written.Record (kept.Base first held pairs clients)) later e
 choosing history s (written.Record (kept.Pairs pairs)) later e = cc
 choosing history s (written.Record (kept.Notes client floor notes)) later e = cc
 choosing history s (written.Record (kept.Tail values)) later e = cc
+choosing history s (written.Record (kept.Turn turn)) later e = cc
 choosing history s (written.Snap first) later e = cc
 
 passing : (history : List KeptRecord) (s : ℕ) (what : Written) (later : Option Value) → chooses history s what ≡ false → chosen_vote history s what later ≡ later
@@ -44,6 +45,7 @@ passing history s (written.Record (kept.Base first held pairs clients)) later e 
 passing history s (written.Record (kept.Pairs pairs)) later e = refl
 passing history s (written.Record (kept.Notes client floor notes)) later e = refl
 passing history s (written.Record (kept.Tail values)) later e = refl
+passing history s (written.Record (kept.Turn turn)) later e = refl
 passing history s (written.Snap first) later e = refl
 
 abbrev place_in : List KeptRecord → ℕ → List KeptRecord → ℕ

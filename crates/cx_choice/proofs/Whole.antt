@@ -79,6 +79,7 @@ vote_parts rounds votes i s v (written.Record (kept.Base first held pairs client
 vote_parts rounds votes i s v (written.Record (kept.Pairs pairs)) e enough = cc
 vote_parts rounds votes i s v (written.Record (kept.Notes client floor notes)) e enough = cc
 vote_parts rounds votes i s v (written.Record (kept.Tail values)) e enough = cc
+vote_parts rounds votes i s v (written.Record (kept.Turn turn)) e enough = cc
 vote_parts rounds votes i s v (written.Snap first) e enough = cc
 
 -- a column that voted has a member that did
@@ -109,6 +110,7 @@ whole_parts rounds votes s v (written.Record (kept.Base first held pairs clients
 whole_parts rounds votes s v (written.Record (kept.Pairs pairs)) e = cc
 whole_parts rounds votes s v (written.Record (kept.Notes client floor notes)) e = cc
 whole_parts rounds votes s v (written.Record (kept.Tail values)) e = cc
+whole_parts rounds votes s v (written.Record (kept.Turn turn)) e = cc
 whole_parts rounds votes s v (written.Snap first) e = cc
 
 pub chosen_by_whole : ChosenByWholeVotes

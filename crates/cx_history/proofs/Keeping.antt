@@ -57,6 +57,7 @@ tag_first (kept.Base f h p c) = refl
 tag_first (kept.Pairs ps) = refl
 tag_first (kept.Notes c f ns) = refl
 tag_first (kept.Tail vs) = refl
+tag_first (kept.Turn n) = refl
 
 slot_again : (first : ℕ) → first < 256 ^ 8 → slot_in (0 ∷ big_bytes 8 first) ≡ first
 slot_again first small = ap (λ l. big_number 8 l) (sym (append-nil (big_bytes 8 first))) ∙ big_number-reads_back 8 first [] small

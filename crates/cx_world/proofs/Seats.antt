@@ -15,7 +15,7 @@ use Rattle.cx_model.specs.Leader.{LeaderDurable, LeaderVolatile, leader_rules}
 use Rattle.cx_model.specs.Lists.{get_set_same, get_set_other, same_number, bool_cases, differ_role, not_both, number_itself, list_own, list_other, list_with}
 use Rattle.cx_model.specs.Matchmaker.{MatchmakerDurable, matchmaker_rules}
 use Rattle.cx_model.specs.Proxy.{ProxyVolatile, proxy_rules}
-use Rattle.cx_model.specs.Reader.{ReaderVolatile, reader_rules}
+use Rattle.cx_model.specs.Reader.{ReaderDurable, ReaderVolatile, reader_rules}
 use Rattle.cx_model.specs.Replica.{ReplicaDurable, ReplicaVolatile, replica_rules}
 use Rattle.cx_model.specs.Rules.{Rules, Running, folded}
 use Rattle.cx_model.specs.Turn.{turn}
@@ -315,7 +315,7 @@ module _ (w : World) (act : Act) (who : RoleId) (olds : SeatLists) (u v : Why) (
       } in
       subst (λ ch. IsChange w ch at v more (record olds { unbatchers = news }) sent) (sym change) done
 
-  pub reader_change : who.kind ≡ kind.Reader → (news : List (Seat (Running (Unit {0}) ReaderVolatile))) → TurnsAt reader_rules (λ s. s) act who.index olds.readers news u r sent → IsChange w (act_at w act who) at v more (record olds { readers = news }) sent
+  pub reader_change : who.kind ≡ kind.Reader → (news : List (Seat (Running ReaderDurable ReaderVolatile))) → TurnsAt reader_rules (λ s. s) act who.index olds.readers news u r sent → IsChange w (act_at w act who) at v more (record olds { readers = news }) sent
   reader_change is news turns =
       let t = turned_at reader_rules w.cluster kind.Reader w.kept who is act olds.readers news u r sent has.readers (slice_get olds.readers who.index) refl turns in
       let model = turn_at reader_rules w.cluster who w.kept act (volatiles olds.readers) in

@@ -14,7 +14,7 @@ use Rattle.cx_model.specs.Heard.{heard_by}
 use Rattle.cx_model.specs.Leader.{LeaderDurable, LeaderVolatile, leader_rules}
 use Rattle.cx_model.specs.Matchmaker.{MatchmakerDurable, matchmaker_rules}
 use Rattle.cx_model.specs.Proxy.{ProxyVolatile, proxy_rules}
-use Rattle.cx_model.specs.Reader.{ReaderVolatile, reader_rules}
+use Rattle.cx_model.specs.Reader.{ReaderDurable, ReaderVolatile, reader_rules}
 use Rattle.cx_model.specs.Replica.{ReplicaDurable, ReplicaVolatile, replica_rules}
 use Rattle.cx_model.specs.Rules.{Running}
 use Rattle.cx_model.specs.Unbatcher.{unbatcher_rules}
@@ -61,7 +61,7 @@ pub record SeatLists : Type 0 where
   pub matchmakers : List (Seat (Running MatchmakerDurable (Unit {0})))
   pub replicas : List (Seat (Running ReplicaDurable ReplicaVolatile))
   pub unbatchers : List (Seat (Running (Unit {0}) (Unit {0})))
-  pub readers : List (Seat (Running (Unit {0}) ReaderVolatile))
+  pub readers : List (Seat (Running ReaderDurable ReaderVolatile))
 
 abbrev pub lists_of : Seats → SeatLists
 lists_of seats =
