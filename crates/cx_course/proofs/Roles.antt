@@ -186,7 +186,7 @@ role_lands w (UnbatcherAt s) i e off traced is this =
     (unbatcher_kinds s.cluster s.me is.kind_is i)
 role_lands w (ReaderAt s) i e off traced is this =
     row_lands kind.Reader ReaderIn readers reader_rules refl (by_code kind.Reader refl) has_reader (λ c roles kept a me. refl) ReaderAt (λ w s is. is) (λ s. refl) w s i e traced is this
-    (reader_kinds s.cluster s.me is.kind_is s.volatile i)
+    (reader_kinds s.cluster s.me is.kind_is s.durable s.volatile i)
 
 -- ---- a snap
 

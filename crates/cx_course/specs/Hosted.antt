@@ -14,7 +14,7 @@ use Rattle.cx_model.specs.Batcher.{BatcherVolatile, batcher_rules}
 use Rattle.cx_model.specs.Leader.{LeaderDurable, LeaderVolatile, leader_rules, is_idle}
 use Rattle.cx_model.specs.Matchmaker.{MatchmakerDurable, matchmaker_rules}
 use Rattle.cx_model.specs.Proxy.{ProxyVolatile, proxy_rules}
-use Rattle.cx_model.specs.Reader.{ReaderVolatile, reader_rules}
+use Rattle.cx_model.specs.Reader.{ReaderDurable, ReaderVolatile, reader_rules}
 use Rattle.cx_model.specs.Replica.{ReplicaDurable, ReplicaVolatile, replica_renewed, replica_rules, replica_snap}
 use Rattle.cx_model.specs.Rules.{Rules, Running, outcome_of, running_after}
 use Rattle.cx_model.specs.Unbatcher.{unbatcher_rules}
@@ -34,7 +34,7 @@ pub data Hosted : Type 0 where
   MatchmakerAt : (s : Running MatchmakerDurable (Unit {0})) → Hosted
   ReplicaAt : (s : Running ReplicaDurable ReplicaVolatile) → Hosted
   UnbatcherAt : (s : Running (Unit {0}) (Unit {0})) → Hosted
-  ReaderAt : (s : Running (Unit {0}) ReaderVolatile) → Hosted
+  ReaderAt : (s : Running ReaderDurable ReaderVolatile) → Hosted
 
 abbrev pub name_of : Hosted → RoleId
 name_of (ClientAt s) = s.me

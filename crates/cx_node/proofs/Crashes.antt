@@ -199,6 +199,7 @@ own_tag k (kept_record.Match i g) is = subst (λ (own : Kind). may_keep (Some ow
 own_tag k (kept_record.Garbage i g) is = subst (λ (own : Kind). may_keep (Some own) 5 ≡ true) (sym is) refl
 own_tag k (kept_record.Round i g) is = subst (λ (own : Kind). may_keep (Some own) 6 ≡ true) (sym is) refl
 own_tag k (kept_record.Log values) is = subst (λ (own : Kind). may_keep (Some own) 7 ≡ true) (sym is) refl
+own_tag k (kept_record.Turn n) is = subst (λ (own : Kind). may_keep (Some own) 16 ≡ true) (sym is) refl
 own_tag k other is = cc
 
 -- whether a journal of this kind may have the tags of these records

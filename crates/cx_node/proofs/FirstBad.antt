@@ -17,6 +17,7 @@ use Rattle.cx_journal.specs.declared.store.Store.{Store}
 use Rattle.cx_model.specs.Acceptor.{acceptor_rules}
 use Rattle.cx_model.specs.Leader.{leader_rules}
 use Rattle.cx_model.specs.Matchmaker.{matchmaker_rules}
+use Rattle.cx_model.specs.Reader.{reader_rules}
 use Rattle.cx_model.specs.Replica.{replica_rules}
 use Rattle.cx_model.specs.Rules.{Rules, refused}
 use Rattle.cx_msg.specs.declared.kept.Record.{Record}
@@ -57,7 +58,7 @@ bad_as_once c me files a b Acceptor p q = bad_once acceptor_rules c me files a b
 bad_as_once c me files a b Matchmaker p q = bad_once matchmaker_rules c me files a b p q
 bad_as_once c me files a b Replica p q = bad_once replica_rules c me files a b p q
 bad_as_once c me files a b Unbatcher p q = absurd p
-bad_as_once c me files a b Reader p q = absurd p
+bad_as_once c me files a b Reader p q = bad_once reader_rules c me files a b p q
 
 -- ---- one role
 

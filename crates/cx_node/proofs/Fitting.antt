@@ -35,7 +35,6 @@ asks_none gives (guest.Client role) what o b fails = absurd fails
 asks_none gives (guest.Batcher role) what o b fails = absurd fails
 asks_none gives (guest.Proxy role) what o b fails = absurd fails
 asks_none gives (guest.Unbatcher role) what o b fails = absurd fails
-asks_none gives (guest.Reader role) what o b fails = absurd fails
 asks_none gives (guest.Leader role keeper) Begin o b fails = refl
 asks_none gives (guest.Leader role keeper) (Give n i) o b fails = refl
 asks_none gives (guest.Leader role keeper) Snap o b fails = refl
@@ -48,6 +47,9 @@ asks_none gives (guest.Matchmaker role keeper) Snap o b fails = refl
 asks_none gives (guest.Replica role keeper) Begin o b fails = refl
 asks_none gives (guest.Replica role keeper) (Give n i) o b fails = refl
 asks_none gives (guest.Replica role keeper) Snap o b fails = refl
+asks_none gives (guest.Reader role keeper) Begin o b fails = refl
+asks_none gives (guest.Reader role keeper) (Give n i) o b fails = refl
+asks_none gives (guest.Reader role keeper) Snap o b fails = refl
 
 -- so its own lines are all
 pub own_is_all : {K : Type 0} (gives : Changing K) (h : Guest K) (what : Doing) (o : Option Change) (b : Option K)

@@ -24,6 +24,7 @@ use Rattle.cx_model.specs.Leader.{leader_rules}
 use Rattle.cx_model.specs.Matchmaker.{matchmaker_rules}
 use Rattle.cx_model.specs.Member.{Member}
 use Rattle.cx_model.specs.Names.{names_role}
+use Rattle.cx_model.specs.Reader.{reader_rules}
 use Rattle.cx_model.specs.Replica.{replica_rules}
 use Rattle.cx_model.specs.Rules.{Rules, opened}
 use Rattle.cx_msg.specs.declared.kept.Record.{Record}
@@ -71,7 +72,7 @@ module _ (c : Cluster) (window : ℕ) (events : List Event) (scripts : (client :
   is_fresh me records Matchmaker kind named none = role_fresh matchmaker_rules me records (none refl) kind named
   is_fresh me records Replica kind named none = role_fresh replica_rules me records (none refl) kind named
   is_fresh me records Unbatcher kind named none = record { opened = refl; kind_is = kind; named = named }
-  is_fresh me records Reader kind named none = record { opened = refl; kind_is = kind; named = named }
+  is_fresh me records Reader kind named none = role_fresh reader_rules me records (none refl) kind named
 
   -- all of them
   pub are_fresh : (told : RoleId → List Record) (roles : List RoleId) → AreDistinct (hosts c window events told roles)

@@ -22,6 +22,7 @@ use Rattle.cx_model.specs.Leader.{leader_rules}
 use Rattle.cx_model.specs.Lists.{by_role, differ_role, same_role-itself}
 use Rattle.cx_model.specs.Matchmaker.{matchmaker_rules}
 use Rattle.cx_model.specs.Names.{names_role}
+use Rattle.cx_model.specs.Reader.{reader_rules}
 use Rattle.cx_model.specs.Replica.{replica_rules}
 use Rattle.cx_model.specs.Rules.{Rules, refused}
 use Rattle.cx_msg.specs.declared.kept.Record.{Record}
@@ -133,7 +134,8 @@ good_as c me files records at Matchmaker read accepted bad =
 good_as c me files records at Replica read accepted bad =
     good_store replica_rules c me files records at (read refl) accepted bad
 good_as c me files records at Unbatcher read accepted bad = bad
-good_as c me files records at Reader read accepted bad = bad
+good_as c me files records at Reader read accepted bad =
+    good_store reader_rules c me files records at (read refl) accepted bad
 
 module _ {D : Type 0} (seen : D → Option (List ℕ)) (disk_faults : D → ℕ) (tells second : Bool) where
   has_store : (records : List Record) (b : Bool) (o : Option (Store D)) → b ≡ true

@@ -29,7 +29,7 @@ hosted_of (guest.Acceptor role keeper) = AcceptorAt role
 hosted_of (guest.Matchmaker role keeper) = MatchmakerAt role
 hosted_of (guest.Replica role keeper) = ReplicaAt role
 hosted_of (guest.Unbatcher role) = UnbatcherAt role
-hosted_of (guest.Reader role) = ReaderAt role
+hosted_of (guest.Reader role keeper) = ReaderAt role
 
 -- the keeper of its records, where it has any
 abbrev pub keeper_of : {K : Type 0} → Guest K → Option K
@@ -41,7 +41,7 @@ keeper_of (guest.Acceptor role keeper) = Some keeper
 keeper_of (guest.Matchmaker role keeper) = Some keeper
 keeper_of (guest.Replica role keeper) = Some keeper
 keeper_of (guest.Unbatcher role) = None
-keeper_of (guest.Reader role) = None
+keeper_of (guest.Reader role keeper) = Some keeper
 
 abbrev pub hosted_in : {K : Type 0} → List (Guest K) → List Hosted
 hosted_in guests = map hosted_of guests

@@ -48,7 +48,7 @@ is_durable kind.Acceptor = true
 is_durable kind.Matchmaker = true
 is_durable kind.Replica = true
 is_durable kind.Unbatcher = false
-is_durable kind.Reader = false
+is_durable kind.Reader = true
 
 -- A role of this kind as it is opened: a client with its requests among those of the input, another one from its
 -- records.
@@ -61,7 +61,7 @@ opened_as c window events me records kind.Acceptor = AcceptorAt (opened acceptor
 opened_as c window events me records kind.Matchmaker = MatchmakerAt (opened matchmaker_rules c me records)
 opened_as c window events me records kind.Replica = ReplicaAt (opened replica_rules c me records)
 opened_as c window events me records kind.Unbatcher = UnbatcherAt (opened unbatcher_rules c me [])
-opened_as c window events me records kind.Reader = ReaderAt (opened reader_rules c me [])
+opened_as c window events me records kind.Reader = ReaderAt (opened reader_rules c me records)
 
 -- the bytes are no store of a role of this kind, for the reason at this place
 abbrev pub IsBadAs : Cluster → RoleId → Files → ℕ → Kind → Type 0
@@ -69,6 +69,7 @@ IsBadAs c me files at kind.Leader = IsBadStore leader_rules c me files at
 IsBadAs c me files at kind.Acceptor = IsBadStore acceptor_rules c me files at
 IsBadAs c me files at kind.Matchmaker = IsBadStore matchmaker_rules c me files at
 IsBadAs c me files at kind.Replica = IsBadStore replica_rules c me files at
+IsBadAs c me files at kind.Reader = IsBadStore reader_rules c me files at
 IsBadAs c me files at other = ⊥
 
 -- whether the store of a role that has one has a record

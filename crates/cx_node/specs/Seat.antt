@@ -16,7 +16,7 @@ named me (guest.Acceptor role keeper) = guest.Acceptor (record role { me = me })
 named me (guest.Matchmaker role keeper) = guest.Matchmaker (record role { me = me }) keeper
 named me (guest.Replica role keeper) = guest.Replica (record role { me = me }) keeper
 named me (guest.Unbatcher role) = guest.Unbatcher (record role { me = me })
-named me (guest.Reader role) = guest.Reader (record role { me = me })
+named me (guest.Reader role keeper) = guest.Reader (record role { me = me }) keeper
 
 -- a role that may take a step has this name
 abbrev pub IsNamed : {K : Type 0} → RoleId → Guest K → Type 0

@@ -20,5 +20,5 @@ pub enum Guest<K> {
     Matchmaker { role: Matchmaker, keeper: K },
     Replica { role: Replica, keeper: K },
     Unbatcher { role: Unbatcher },
-    Reader { role: Reader },
+    Reader { role: Reader, keeper: K },
 }

@@ -223,8 +223,8 @@ fn open_guest<D: Depot>(
             Ok(Guest::Unbatcher { role })
         }
         Kind::Reader => {
-            let role = open_fresh::<Reader>(alloc, cluster, me)?;
-            Ok(Guest::Reader { role })
+            let (keeper, role) = open_durable::<D, Reader>(alloc, cluster, me, depot)?;
+            Ok(Guest::Reader { role, keeper })
         }
     }
 }

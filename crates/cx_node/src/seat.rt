@@ -169,7 +169,7 @@ fn give<K: Renew>(
         Guest::Matchmaker { role, keeper } => step(role, keeper, input, out)?,
         Guest::Replica { role, keeper } => step(role, keeper, input, out)?,
         Guest::Unbatcher { role } => step_alone(alloc, role, input, out)?,
-        Guest::Reader { role } => step_alone(alloc, role, input, out)?,
+        Guest::Reader { role, keeper } => step(role, keeper, input, out)?,
     }
     Ok(())
 }
@@ -211,6 +211,7 @@ fn keeper_in<K>(guest: Guest<K>) -> Option<K>
         Guest::Acceptor { keeper, .. } => Some(keeper),
         Guest::Matchmaker { keeper, .. } => Some(keeper),
         Guest::Replica { keeper, .. } => Some(keeper),
+        Guest::Reader { keeper, .. } => Some(keeper),
         _ => None,
     }
 }
@@ -387,6 +388,7 @@ pub fn holds_record<D: Disk>(seat: &Seat<Store<D>>) -> bool
         Guest::Acceptor { keeper, .. } => !keeper.is_empty(),
         Guest::Matchmaker { keeper, .. } => !keeper.is_empty(),
         Guest::Replica { keeper, .. } => !keeper.is_empty(),
+        Guest::Reader { keeper, .. } => !keeper.is_empty(),
         _ => false,
     }
 }

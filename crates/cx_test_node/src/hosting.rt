@@ -66,12 +66,13 @@ pub(crate) const ROLES: [RoleId; 9] = [
     },
 ];
 
-const STORES: [(Kind, u8); 5] = [
+const STORES: [(Kind, u8); 6] = [
     (Kind::Leader, 0),
     (Kind::Acceptor, 0),
     (Kind::Matchmaker, 0),
     (Kind::Replica, 0),
     (Kind::Replica, 1),
+    (Kind::Reader, 0),
 ];
 
 const DISK_ROOM: Room = Room {
@@ -97,24 +98,48 @@ pub(crate) fn replica() -> RoleId {
     role(Kind::Replica)
 }
 
+pub(crate) fn reader() -> RoleId {
+    role(Kind::Reader)
+}
+
+/// A disk that stops after so many calls: of the role of this kind, the one on this side.
+#[derive(Clone, Copy)]
+pub(crate) struct Stop {
+    pub(crate) kind: Kind,
+    pub(crate) side: u8,
+    pub(crate) calls: u64,
+}
+
 /// A node's stores, all empty.
 pub(crate) fn empty_depot(alloc: Global) -> Result<MemDepot, Fail>
     ensures { IfOk result (λ depot. depot_out depot ≡ []) }
 {
+    depot_of_reader(alloc, &[])
+}
+
+/// A node's stores, of which the reader's has these bytes, and the others are empty.
+pub(crate) fn depot_of_reader(alloc: Global, bytes: &[u8]) -> Result<MemDepot, Fail>
+    ensures { IfOk result (λ depot. depot_out depot ≡ []) }
+{
     let mut stores = Vec::new(alloc);
     for (kind, side) in STORES {
-        let disk = MemDisk::new(alloc, &[], DISK_ROOM, Vec::new(alloc), None)?;
+        let held = if kind == Kind::Reader {
+            bytes
+        } else {
+            &bytes[..0]
+        };
+        let disk = MemDisk::new(alloc, held, DISK_ROOM, Vec::new(alloc), None)?;
         stores.push((Shelf::new(role(kind), side), disk))?;
     }
     Ok(MemDepot::new(alloc, stores, DISK_ROOM.bytes, Vec::new(alloc))?)
 }
 
-/// What a crash leaves of a node's stores. The replica's disk on one side stops after so many calls more.
+/// What a crash leaves of a node's stores. One of its disks stops after so many calls more.
 pub(crate) fn crashed(
     alloc: Global,
     depot: &MemDepot,
     unsynced: Unsynced,
-    stop: Option<(u8, u64)>,
+    stop: Option<Stop>,
 ) -> Result<MemDepot, Fail>
     ensures { IfOk result (λ depot. depot_out depot ≡ []) }
 {
@@ -132,9 +157,9 @@ pub(crate) fn crashed(
 }
 
 // After how many calls a disk stops.
-fn stop_of(kind: Kind, side: u8, stop: Option<(u8, u64)>) -> Option<u64> {
+fn stop_of(kind: Kind, side: u8, stop: Option<Stop>) -> Option<u64> {
     match stop {
-        Some((its_side, calls)) if kind == Kind::Replica && its_side == side => Some(calls),
+        Some(stop) if kind == stop.kind && side == stop.side => Some(stop.calls),
         _ => None,
     }
 }

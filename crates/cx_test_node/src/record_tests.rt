@@ -3,7 +3,9 @@
 ghost use Rattle.std.specs.Prelude.{◌≡◌, []};
 ghost use Rattle.cx_edge.specs.MemDepot.{depot_out};
 
-use crate::hosting::{HEADER, ROLES, empty_depot, host, host_over, with_header};
+use crate::hosting::{
+    HEADER, ROLES, depot_of_reader, empty_depot, host, host_over, reader, with_header,
+};
 use cx_base::{Kind, RoleId, Status};
 use cx_edge::{Front, MemDepot, MemSink, MemSource};
 use cx_replay::replay;
@@ -63,6 +65,14 @@ fn is_record(alloc: Global, text: &[u8], lines: &str) -> Result<bool, Fail> {
     Ok(text == expected.as_slice())
 }
 
+// Whether a node didn't begin since this role's store has a record.
+fn is_used(status: Status, role: RoleId) -> bool {
+    match status {
+        Status::NotFresh { role: first } => first.is(role),
+        _ => false,
+    }
+}
+
 #[test]
 fn each_step_has_its_line(rt: HostRuntime) -> Result<(), Fail> {
     let alloc = rt.alloc();
@@ -117,10 +127,18 @@ fn a_record_begins_with_empty_stores_and_all_roles(rt: HostRuntime) -> Result<()
     let (status, _) = host(alloc, &mut depot, &ROLES, 1000, PUT)?;
     assert!(rt; status.exit() == 0);
     let (status, text) = recorded(alloc, &mut depot, 5)?;
-    let is_leader = match status {
-        Status::NotFresh { role } => role.is(RoleId::new(Kind::Leader, 0)),
-        _ => false,
-    };
-    assert!(rt; is_leader && text.is_empty());
+    assert!(rt; is_used(status, RoleId::new(Kind::Leader, 0)) && text.is_empty());
+    Ok(())
+}
+
+// The journal of a reader that has kept its first turn.
+const FIRST_TURN: [u8; 15] = [1, 0, 0, 0, 9, 16, 0, 0, 0, 0, 0, 0, 0, 1, 0];
+
+#[test]
+fn a_readers_store_must_be_empty_too(rt: HostRuntime) -> Result<(), Fail> {
+    let alloc = rt.alloc();
+    let mut depot = depot_of_reader(alloc, &FIRST_TURN)?;
+    let (status, text) = recorded(alloc, &mut depot, 5)?;
+    assert!(rt; is_used(status, reader()) && text.is_empty());
     Ok(())
 }

@@ -3,8 +3,8 @@
 ghost use Rattle.std.specs.Prelude.{◌≡◌, []};
 ghost use Rattle.cx_edge.specs.MemDepot.{depot_out};
 
-use crate::hosting::{ROLES, crashed, empty_depot, host, replica};
-use cx_base::Status;
+use crate::hosting::{ROLES, Stop, crashed, empty_depot, host, replica};
+use cx_base::{Kind, Status};
 use cx_disk::Unsynced;
 use cx_edge::MemDepot;
 use std::alloc::Global;
@@ -143,7 +143,12 @@ const MOST: u64 = 64;
 // Whether a node goes on wherever the replica's disk on this side stops in a run.
 fn outlives_stops(alloc: Global, depot: &MemDepot, side: u8, run: &Run) -> Result<bool, Fail> {
     for call in 0..MOST {
-        let mut stopped = crashed(alloc, depot, Unsynced::Kept, Some((side, call)))?;
+        let stop = Stop {
+            kind: Kind::Replica,
+            side,
+            calls: call,
+        };
+        let mut stopped = crashed(alloc, depot, Unsynced::Kept, Some(stop))?;
         if is_done(alloc, &mut stopped, run.lines, run.text)? {
             return Ok(call > 0);
         }
