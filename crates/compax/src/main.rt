@@ -33,11 +33,12 @@ fn arguments(rt: &HostRuntime) -> Result<Vec<String>, Status> {
 }
 
 // How many roles with stores a cluster may have, by their kinds.
-const STORED: [(Kind, u16); 4] = [
+const STORED: [(Kind, u16); 5] = [
     (Kind::Leader, 8),
     (Kind::Acceptor, 64),
     (Kind::Matchmaker, 7),
     (Kind::Replica, 8),
+    (Kind::Reader, 8),
 ];
 
 /// More roles than a process may host.
