@@ -15,7 +15,7 @@ PROGRAMS = (TOP / "crates/compax/out/compax", TOP / "out/compax")      # as `rt 
 KINDS = ("client", "batcher", "leader", "proxy", "acceptor", "match", "replica", "unbatcher", "reader")     # in the order of their ports
 COUNTED_BY = {"client": "clients", "batcher": "batchers", "leader": "leaders", "proxy": "proxies", "acceptor": "acceptors",
               "replica": "replicas", "unbatcher": "unbatchers", "reader": "readers"}
-KEEPING = ("leader", "acceptor", "match", "replica")                    # the kinds with a journal
+KEEPING = ("leader", "acceptor", "match", "replica", "reader")          # the kinds with a journal
 RANGES = {"f": (0, 3), "leaders": (1, 8), "proxies": (1, 16), "acceptors": (1, 64), "replicas": (1, 8), "batchers": (1, 8),
           "unbatchers": (1, 8), "readers": (1, 8), "clients": (1, 64), "batch": (1, 8), "base_port": (1024, 60000)}
 GRID_MOST = 16                  # acceptors in a grid

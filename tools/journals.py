@@ -176,6 +176,11 @@ def notes_of(body: Body) -> str:
     return f"client:{client} floor {floor}: " + ", ".join(note_of(body) for _ in range(count))
 
 
+def turn_of(body: Body) -> str:
+    """A turn of a reader."""
+    return str(body.number(8, "turn", 1, GREATEST))
+
+
 @dataclass(frozen=True)
 class Tag:
     """A kind of record, the role that has it, and what reads its fields."""
@@ -197,6 +202,7 @@ TAGS = {
     9: Tag("Pairs", "replica", pairs_of),
     10: Tag("Notes", "replica", notes_of),
     11: Tag("Tail", "replica", log_of),
+    16: Tag("Turn", "reader", turn_of),
 }
 KINDS = tuple(dict.fromkeys(tag.kind for tag in TAGS.values()))     # of roles with a journal
 

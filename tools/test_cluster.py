@@ -314,7 +314,7 @@ class SupervisorTest(ClusterTrial):
         status, text = self.status()
         self.assertEqual(status, 0, text)
         for line in (r"^process 0 runs since .*, pid \d+$", r"^  acceptor:0: \d+ records: .* Vote; [\d,]+ bytes; last ", r"^a write was answered in ",
-                     r"^  replica:0: \d+ records: .*; [\d,]+ bytes; last ", r"^  batcher:0 proxy:0 unbatcher:0 reader:0$"):
+                     r"^  replica:0: \d+ records: .*; [\d,]+ bytes; last ", r"^  reader:0: \d+ records?; [\d,]+ bytes$", r"^  batcher:0 proxy:0 unbatcher:0$"):
             self.assertRegex(text, re.compile(line, re.MULTILINE))
         started = [self.state().supervisor, self.node()]
         self.assertIn("down: 1 process ended", self.passes("cluster", "down", self.file))

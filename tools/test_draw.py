@@ -13,7 +13,7 @@ TOP = pathlib.Path(__file__).resolve().parent.parent
 RUNS = TOP / "crates/compax/runs"
 DRAW = TOP / "tools/draw"
 COUNTED = ["torn-vote", "collection", "snapshot-kept", "random-small-too", "random-usual", "random-with-bad-line", "floor-lets-both-act",
-           "session"]
+           "session", "reader-turn-cut", "full-reader"]
 SVG = "{http://www.w3.org/2000/svg}"
 
 

@@ -11,7 +11,7 @@ import tempfile
 import unittest
 
 from headers import Role, program
-from journals import Break, Journal
+from journals import GREATEST, Break, Journal
 from trials import LONGEST, SMALL, TOOLS, Trial, run
 
 RUNS = TOOLS.parent / "crates/compax/runs"
@@ -110,6 +110,12 @@ class JournalTest(unittest.TestCase):
                          ["0 Match round 1.0.0 grid 2x2 0,1,2,3", "26 Garbage round 1.0.0 grid 2x2 0,1,2,3", "52 closed"])
         self.assertEqual(self.read(journal(b"\6" + LATER + GRID))[1], ["0 Round round 2.3.4 grid 2x2 0,1,2,3", "26 closed"])
 
+    def test_a_reader(self) -> None:
+        turns = journal(b"\x10" + number(1), b"\x10" + number(GREATEST))
+        self.assertEqual(self.read(turns, name="compax-reader-1.journal"), (0, ["0 Turn 1", f"14 Turn {GREATEST}", "28 closed"], ""))
+        self.breaks(journal(b"\x10" + number(0)), 6, [])
+        self.breaks(turns, 5, [], name="compax-match-0.journal")
+
     def test_a_replica_says_which_slots(self) -> None:
         data = journal(b"\7\2\0\1\1" + PUT, b"\7\1\0", b"\7\2\0\0")
         self.assertEqual(self.read(data)[1], ["0 Log slots 0 to 1: noop | client:5 7 put a 12", "26 Log slot 2: noop",
@@ -127,6 +133,7 @@ class JournalTest(unittest.TestCase):
             "compax-acceptor-0.journal": ["0 Vote round 1.0.0 slot 0 watermark 0: client:0 1 put a 1", "49 closed"],
             "compax-leader-0.journal": ["0 Round round 1.0.0 grid 1x1 0", "20 closed"],
             "compax-match-0.journal": ["0 Match round 1.0.0 grid 1x1 0", "20 closed"],
+            "compax-reader-0.journal": ["0 closed"],
             "compax-replica-0.journal": ["0 Log slot 0: client:0 1 put a 1", "24 closed"],
             "compax-replica-0.other": ["0 closed"],
         })
