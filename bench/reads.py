@@ -22,23 +22,12 @@ import time
 TOP = pathlib.Path(__file__).resolve().parent.parent
 sys.path.insert(0, str(TOP / "tools"))
 
-from headers import KINDS, Header, Unusable, free_ports, header_of  # noqa: E402
+from headers import KINDS, Header, Unusable  # noqa: E402
 from picture import READS  # noqa: E402
 
+from record import cluster  # noqa: E402
+
 CLIENTS = 64
-HEADER = """\
-f = 1
-leaders = 1
-proxies = 2
-acceptors = 4
-replicas = 2
-batchers = 2
-unbatchers = 2
-readers = 1
-clients = 64
-batch = 8
-base_port = {port}
-"""
 SENT = re.compile(r"\+\d+ \S+ \S+ (\w+) ", re.MULTILINE)
 RECORDED = 10                   # commands of each client in the run that records, which has at most 65,535 lines
 
@@ -81,8 +70,7 @@ def main() -> int:
     reader.add_argument("--waits", type=int, default=1)
     reader.add_argument("--folder", type=pathlib.Path, default=pathlib.Path(tempfile.gettempdir()))
     words = reader.parse_args()
-    count = sum(len(header_of(HEADER.format(port=1024), "header").roles(kind)) for kind in KINDS)
-    header = header_of(HEADER.format(port=free_ports(count)), "header")
+    header = cluster(clients=CLIENTS, readers=1)
     window = f"--window {words.waits}"
     given = asked(header, words.commands)
     programs = [path.absolute() for path in words.programs]

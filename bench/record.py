@@ -31,12 +31,19 @@ acceptors = 4
 replicas = 2
 batchers = 2
 unbatchers = 2
-readers = 2
-clients = 16
+readers = {readers}
+clients = {clients}
 batch = 8
 base_port = {port}
 """
 LEAST = 2 / 3
+
+
+def cluster(clients: int, readers: int) -> Header:
+    """A cluster with f = 1 that one node hosts, on ports that are free just now."""
+    text = HEADER.format(clients=clients, readers=readers, port=1024)
+    count = sum(len(header_of(text, "header").roles(kind)) for kind in KINDS)
+    return header_of(HEADER.format(clients=clients, readers=readers, port=free_ports(count)), "header")
 
 
 def asked(header: Header, count: int) -> str:
@@ -63,8 +70,7 @@ def main() -> int:
     reader.add_argument("--commands", type=int, default=4000)
     reader.add_argument("--folder", type=pathlib.Path, default=pathlib.Path(tempfile.gettempdir()))
     words = reader.parse_args()
-    count = sum(len(header_of(HEADER.format(port=1024), "header").roles(kind)) for kind in KINDS)
-    header = header_of(HEADER.format(port=free_ports(count)), "header")
+    header = cluster(clients=16, readers=2)
     given = asked(header, words.commands)
     plain, recorded = [], []
     for _ in range(words.rounds):
