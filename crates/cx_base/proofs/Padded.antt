@@ -1,8 +1,9 @@
--- An array of zeros into whose front a name or a grid's members were copied.
-use Rattle.std.proofs.Common.{◌≡◌, ◌≤◌, ◌++◌, ◌-◌, ◌*◌, ℕ, List, length, take, drop, replicate, sym, ap, subst, ◌∙◌, arith}
+-- An array of zeros into whose front a name, a set or a grid's members were copied.
+use Rattle.std.proofs.Common.{◌≡◌, ◌≤◌, ◌++◌, ◌-◌, ◌*◌, ℕ, List, length, take, drop, replicate, sym, ap, subst, ◌∙◌, arith, IsTrue}
 use Rattle.std.proofs.lemmas.List.{take_at, drop_at, length-append, length-drop, length-replicate, drop-replicate}
 use Rattle.cx_base.specs.Grid.{IsGrid, Shape}
 use Rattle.cx_base.specs.Name.{IsName}
+use Rattle.cx_base.specs.Sets.{is_rising}
 
 -- bytes before an array of zeros are such an array
 pub name_padded : (limit : ℕ) (front bytes : List ℕ) → front ≡ bytes → IsName limit bytes
@@ -19,6 +20,23 @@ name_padded limit front bytes same name =
       drop_at front tail n len ∙ tail-is,
       name.room,
       subst (IsName limit) (sym (take_at front tail n len ∙ same)) name,
+    )
+
+-- rising ids before an array of zeros are such an array
+pub set_padded : (front ids : List ℕ) → front ≡ ids → length ids ≤ 7 → IsTrue (is_rising ids)
+    → (length (front ++ drop (length ids) (replicate 7 0)) ≡ 7)
+    × (drop (length ids) (front ++ drop (length ids) (replicate 7 0)) ≡ replicate (7 - length ids) 0)
+    × (length ids ≤ 7)
+    × IsTrue (is_rising (take (length ids) (front ++ drop (length ids) (replicate 7 0))))
+set_padded front ids same room rising =
+    let n = length ids in
+    let len : length front ≡ n = ap length same in
+    let tail : List ℕ = drop n (replicate 7 0) in
+    let tail-is : tail ≡ replicate (7 - n) 0 = drop-replicate {X = ℕ} n 7 0 in (
+      omega (arith, length-append front tail, length-drop {A = ℕ} n (replicate 7 0), length-replicate {A = ℕ} 7 0, room),
+      drop_at front tail n len ∙ tail-is,
+      room,
+      subst (λ (ns : List ℕ). IsTrue (is_rising ns)) (sym (take_at front tail n len ∙ same)) rising,
     )
 
 -- members before an array of zeros are such an array

@@ -13,5 +13,7 @@ pub mod Noted
 pub mod Role
 pub mod Round
 pub mod Same
+pub mod SetFields
+pub mod Sets
 pub mod Status
 pub mod Why

@@ -1,8 +1,9 @@
 //! How many roles of each kind a cluster has.
 
-ghost use Rattle.std.specs.Prelude.{◌≤◌, ◌+◌};
+ghost use Rattle.std.specs.Prelude.{◌≤◌, ◌+◌, ◌*◌};
 
-/// The counts of a cluster, each in its range; it has 2f + 1 matchmakers and survives the loss of f of each kind of store.
+/// The counts of a cluster, each in its range; a set of its matchmakers has 2f + 1, and it survives the loss of f of each kind
+/// of store.
 /// Its roles are the indices below these counts.
 #[derive(Clone, Copy, PartialEq, Eq)]
 pub struct Cluster {
@@ -19,6 +20,9 @@ pub struct Cluster {
     pub batch: u8,
     /// The port of the first role, where the roles are to be reached over loopback.
     pub base_port: Option<u16>,
+    /// How many matchmakers there are. The first 2f + 1 are the first set; the others may be of later sets.
+    pub pool: u16,
+    pub replacers: u16,
     pub ghost f_fits: { f ≤ 3 },
     pub ghost some_leader: { 1 ≤ leaders },
     pub ghost leaders_fit: { leaders ≤ 8 },
@@ -38,4 +42,7 @@ pub struct Cluster {
     pub ghost clients_fit: { clients ≤ 64 },
     pub ghost some_batch: { 1 ≤ batch },
     pub ghost batch_fits: { batch ≤ 8 },
+    pub ghost some_pool: { 2 * f + 1 ≤ pool },
+    pub ghost pool_fits: { pool ≤ 64 },
+    pub ghost replacers_fit: { replacers ≤ 4 },
 }

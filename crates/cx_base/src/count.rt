@@ -6,7 +6,7 @@ ghost use Rattle.cx_base.specs.Cluster.{count_of};
 use crate::cluster::Cluster;
 use crate::role::Kind;
 
-/// The count of a kind of role; there are 2f + 1 matchmakers (JSys 2021).
+/// The count of a kind of role; of the matchmakers, 2f + 1 are in each set (JSys 2021).
 pub fn count_of(cluster: &Cluster, kind: Kind) -> u16
     ensures count { result ≡ count_of cluster.now kind }
     ensures most { result ≤ 64 }
@@ -17,9 +17,10 @@ pub fn count_of(cluster: &Cluster, kind: Kind) -> u16
         Kind::Leader => cluster.leaders,
         Kind::Proxy => cluster.proxies,
         Kind::Acceptor => cluster.acceptors,
-        Kind::Matchmaker => 2 * u16::from(cluster.f) + 1,
+        Kind::Matchmaker => cluster.pool,
         Kind::Replica => cluster.replicas,
         Kind::Unbatcher => cluster.unbatchers,
         Kind::Reader => cluster.readers,
+        Kind::Replacer => cluster.replacers,
     }
 }

@@ -7,6 +7,7 @@ use crate::grid::Grid;
 use crate::memory::{Duplicate, NoMemory};
 use crate::name::Key;
 use crate::role::RoleId;
+use crate::set::Set;
 use crate::why::Why;
 use std::alloc::Global;
 
@@ -22,7 +23,7 @@ pub enum Cut {
     Kept,
 }
 
-/// What a leader is ordered.
+/// What a leader is ordered, or, by `Replace`, a replacer.
 #[derive(Clone, Copy, Debug, PartialEq, Eq)]
 pub enum Order {
     /// Begin a round above all that it has seen, with this grid.
@@ -31,6 +32,8 @@ pub enum Order {
     Change(Grid),
     /// Retire all earlier rounds.
     Collect,
+    /// Replace the matchmakers by this set.
+    Replace(Set),
 }
 
 /// One event of a run, and its atomic step: a client asks, or one role takes a datagram, a tick or an order, snaps, crashes or
@@ -70,6 +73,12 @@ pub enum Event {
     Order {
         leader: u16,
         order: Order,
+        cut: Cut,
+    },
+    /// A replacer is ordered to replace the matchmakers by this set.
+    Replace {
+        replacer: u16,
+        set: Set,
         cut: Cut,
     },
     /// A replica forgets the values that no other replica will ask it for.

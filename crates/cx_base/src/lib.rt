@@ -22,6 +22,7 @@ mod name;
 mod role;
 mod round;
 mod same;
+mod set;
 mod status;
 mod why;
 
@@ -38,14 +39,16 @@ pub use greatest::Greatest;
 pub use grid::Grid;
 pub use grid_fault::GridFault;
 pub use limits::{
-    ACCEPTORS, BATCH, CLIENTS, ENTRIES, IDS, KEY_LENGTH, KEYS, MAX_DATAGRAM_LENGTH, MAX_F,
-    MAX_HEADER_LENGTH, MAX_LINE_LENGTH, MAX_LINES, MAX_RECORD_LENGTH, MAX_SENDS, MEMBERS, NOTES,
-    OUTSTANDING, PAIRS, PROXIES, READS, ROLES, ROUNDS, SLOTS, TEXT_LENGTH, WINDOW, WINDOW_LENGTH,
+    ACCEPTORS, BATCH, CLIENTS, ENTRIES, IDS, JOINED, KEY_LENGTH, KEYS, MATCHMAKERS,
+    MAX_DATAGRAM_LENGTH, MAX_F, MAX_HEADER_LENGTH, MAX_LINE_LENGTH, MAX_LINES, MAX_RECORD_LENGTH,
+    MAX_SENDS, MEMBERS, NOTES, OUTSTANDING, PAIRS, PROXIES, READS, REPLACERS, ROLES, ROUNDS,
+    SET_LENGTH, SLOTS, TEXT_LENGTH, WINDOW, WINDOW_LENGTH,
 };
 pub use memory::{Duplicate, NoMemory};
 pub use name::{Key, Name, Text, is_name_byte};
 pub use role::{Kind, RoleId};
 pub use round::Round;
 pub use same::{same_command, same_op, same_value};
+pub use set::Set;
 pub use status::Status;
 pub use why::Why;

@@ -17,8 +17,17 @@ pub const SLOTS: u64 = 1 << 40;
 
 // A cluster.
 
-/// The greatest f, the number of stores of each kind that a cluster survives the loss of: it has at most 7 matchmakers.
+/// The greatest f, the number of stores of each kind that a cluster survives the loss of: a set of matchmakers has at most 7.
 pub const MAX_F: u16 = 3;
+
+/// The most members of a set of matchmakers, which are 2f + 1, so that a set is a value that is copied.
+pub const SET_LENGTH: usize = 7;
+
+/// The most matchmakers of a cluster, in all of its sets: enough for nine sets of the greatest length.
+pub const MATCHMAKERS: u16 = 64;
+
+/// The most replacers of a cluster. One is enough for replacing; the others are for when it is lost.
+pub const REPLACERS: u16 = 4;
 
 /// The most leaders, replicas, batchers, unbatchers and readers of a cluster, of each kind. What is sent to all of a kind
 /// then takes a few of the sends of a step.
@@ -43,8 +52,12 @@ pub const MEMBERS: usize = 16;
 /// has all of them.
 pub const ROUNDS: usize = 16;
 
-/// The most rounds in a message: those of a matchmaker, and the one for which it forgot earlier ones.
-pub const ENTRIES: usize = 17;
+/// The most rounds with which a matchmaker begins as a member of a set: what the members of the set before had, joined. A
+/// replacer that would need more gives up.
+pub const JOINED: usize = 254;
+
+/// The most rounds in a message: those with which a matchmaker began, and the one for which it forgot earlier ones.
+pub const ENTRIES: usize = 255;
 
 // Requests.
 

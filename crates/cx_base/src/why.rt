@@ -8,6 +8,8 @@ ghost use Rattle.cx_base.specs.Why.{why_text};
 pub enum Why {
     /// No such datagram was sent yet.
     Absent,
+    /// The matchmaker accepted the next set.
+    Accepted,
     /// The pending read begins anew.
     Again,
     /// The read, or session read, was answered.
@@ -20,6 +22,8 @@ pub enum Why {
     Asking,
     /// The gathered commands went to a leader.
     Batched,
+    /// The matchmaker began as a member of a set.
+    Booted,
     /// The leader goes on from its round before, and asks no acceptor.
     Bypassed,
     /// A value is now known to be chosen.
@@ -32,6 +36,8 @@ pub enum Why {
     Counted,
     /// The role stopped.
     Crashed,
+    /// The next set of matchmakers is decided.
+    Decided,
     /// The read, or session read, waits until enough is executed.
     Deferred,
     /// All was announced before.
@@ -46,6 +52,8 @@ pub enum Why {
     Fetched,
     /// There is no room for more.
     Full,
+    /// The matchmaker stopped.
+    Halted,
     /// A client has it.
     Heard,
     /// It was noted.
@@ -62,12 +70,16 @@ pub enum Why {
     Later,
     /// The leader leads, or is known to.
     Leads,
+    /// A later set of matchmakers is known.
+    Learnt,
     /// The round and its grid were recorded.
     Matched,
     /// A greater round was promised.
     Nack,
     /// The leader gave up its round.
     Nacked,
+    /// The matchmaker is of no set yet.
+    New,
     /// It belongs to an earlier round or stage.
     Old,
     /// The role runs again.
@@ -84,6 +96,8 @@ pub enum Why {
     Queued,
     /// The watermark of rounds was raised.
     Raised,
+    /// The next set of matchmakers is at work.
+    Replaced,
     /// All that is waited for was sent again.
     Resent,
     /// All earlier rounds are retired.
@@ -98,6 +112,8 @@ pub enum Why {
     Stale,
     /// A round or a read began.
     Started,
+    /// The matchmaker has stopped.
+    Stopped,
     /// It is nothing for this role.
     Stranger,
     /// The role crashed while its store was changed, and the change is lost.
@@ -123,18 +139,21 @@ impl Why {
     {
         match self {
             Why::Absent => "absent",
+            Why::Accepted => "accepted",
             Why::Again => "again",
             Why::Answered => "answered",
             Why::Applied => "applied",
             Why::Asked => "asked",
             Why::Asking => "asking",
             Why::Batched => "batched",
+            Why::Booted => "booted",
             Why::Bypassed => "bypassed",
             Why::Chosen => "chosen",
             Why::Collected => "collected",
             Why::Collecting => "collecting",
             Why::Counted => "counted",
             Why::Crashed => "crashed",
+            Why::Decided => "decided",
             Why::Deferred => "deferred",
             Why::Done => "done",
             Why::Down => "down",
@@ -142,6 +161,7 @@ impl Why {
             Why::End => "end",
             Why::Fetched => "fetched",
             Why::Full => "full",
+            Why::Halted => "halted",
             Why::Heard => "heard",
             Why::Held => "held",
             Why::Idle => "idle",
@@ -150,9 +170,11 @@ impl Why {
             Why::Kept => "kept",
             Why::Later => "later",
             Why::Leads => "leads",
+            Why::Learnt => "learnt",
             Why::Matched => "matched",
             Why::Nack => "nack",
             Why::Nacked => "nacked",
+            Why::New => "new",
             Why::Old => "old",
             Why::Opened => "opened",
             Why::Past => "past",
@@ -161,6 +183,7 @@ impl Why {
             Why::Proposed => "proposed",
             Why::Queued => "queued",
             Why::Raised => "raised",
+            Why::Replaced => "replaced",
             Why::Resent => "resent",
             Why::Retired => "retired",
             Why::Same => "same",
@@ -168,6 +191,7 @@ impl Why {
             Why::Snapped => "snapped",
             Why::Stale => "stale",
             Why::Started => "started",
+            Why::Stopped => "stopped",
             Why::Stranger => "stranger",
             Why::Torn => "torn",
             Why::Unasked => "unasked",

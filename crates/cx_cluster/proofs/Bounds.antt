@@ -1,5 +1,5 @@
 -- Two clusters with the same counts are the same: a bound has one proof.
-use Rattle.std.proofs.Common.{◌≡◌, ◌≤◌, ◌+◌, ℕ, Option, ap}
+use Rattle.std.proofs.Common.{◌≡◌, ◌≤◌, ◌+◌, ◌*◌, ℕ, Option, ap}
 use Rattle.std.proofs.Math.Bridge.{le_prop}
 use Rattle.cx_base.specs.declared.cluster.Cluster.{Cluster}
 
@@ -15,6 +15,8 @@ pub record Counts : Type 0 where
   pub clients : ℕ
   pub batch : ℕ
   pub base_port : Option ℕ
+  pub pool : ℕ
+  pub replacers : ℕ
 
 pub record Bounds (c : Counts) : Type 0 where
   pub f_fits : c.f ≤ 3
@@ -36,6 +38,9 @@ pub record Bounds (c : Counts) : Type 0 where
   pub clients_fit : c.clients ≤ 64
   pub some_batch : 1 ≤ c.batch
   pub batch_fits : c.batch ≤ 8
+  pub some_pool : 2 * c.f + 1 ≤ c.pool
+  pub pool_fits : c.pool ≤ 64
+  pub replacers_fit : c.replacers ≤ 4
 
 abbrev pub cluster : (c : Counts) → Bounds c → Cluster
 cluster c b = record {
@@ -50,6 +55,8 @@ cluster c b = record {
   clients = c.clients;
   batch = c.batch;
   base_port = c.base_port;
+  pool = c.pool;
+  replacers = c.replacers;
   f_fits = b.f_fits;
   some_leader = b.some_leader;
   leaders_fit = b.leaders_fit;
@@ -69,6 +76,9 @@ cluster c b = record {
   clients_fit = b.clients_fit;
   some_batch = b.some_batch;
   batch_fits = b.batch_fits;
+  some_pool = b.some_pool;
+  pool_fits = b.pool_fits;
+  replacers_fit = b.replacers_fit;
 }
 
 Bounds-prop : (c : Counts) → IsProp (Bounds c)

@@ -5,7 +5,7 @@ use Rattle.std.specs.Int.{FitsUnsignedBits}
 use Rattle.cx_cluster.specs.declared.key.ClusterKey.{ClusterKey}
 use Rattle.cx_cluster.specs.Reading.{IsNumber, ranged, tested}
 
-of_tests : (key : ClusterKey) (low high n : ℕ) (least : low ≤ n) (most : n ≤ high) (d : Dec (low ≤ n)) (e : Dec (n ≤ high)) → IsNumber (Ok n) (tested key low high n d e)
+pub of_tests : (key : ClusterKey) (low high n : ℕ) (least : low ≤ n) (most : n ≤ high) (d : Dec (low ≤ n)) (e : Dec (n ≤ high)) → IsNumber (Ok n) (tested key low high n d e)
 of_tests key low high n least most (yes first) (yes second) = (first, second, refl)
 of_tests key low high n least most (yes first) (no more) = absurd (more most)
 of_tests key low high n least most (no less) e = absurd (less least)

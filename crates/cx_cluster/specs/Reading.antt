@@ -1,5 +1,5 @@
 -- The cluster that the bytes of a header say, or its first fault.
-use Rattle.std.specs.Prelude.{◌≡◌, ℕ, ◌+◌, ◌≤◌, ℤ, pos, negsuc, List, Option, Some, None, Result, Ok, Err, if◌then◌else◌}
+use Rattle.std.specs.Prelude.{◌≡◌, ℕ, ◌+◌, ◌*◌, ◌≤◌, ℤ, pos, negsuc, List, Option, Some, None, Result, Ok, Err, if◌then◌else◌}
 use Rattle.std.specs.Cmp.Lexicographic.{slice_cmp}
 use Rattle.std.specs.Ordering.{nat_cmp, is_lt}
 use Rattle.std.specs.Str.{is_utf8}
@@ -10,7 +10,7 @@ use Rattle.cx_base.specs.declared.cluster.Cluster.{Cluster}
 use Rattle.cx_cluster.specs.declared.fault.ClusterFault.{ClusterFault}
 use Rattle.cx_cluster.specs.declared.fault.ClusterFault.TheVariants.{Toml, Unknown, Missing, NotNumber, Range}
 use Rattle.cx_cluster.specs.declared.key.ClusterKey.{ClusterKey}
-use Rattle.cx_cluster.specs.declared.key.ClusterKey.TheVariants.{F, Leaders, Proxies, Acceptors, Replicas, Batchers, Unbatchers, Readers, Clients, Batch, BasePort}
+use Rattle.cx_cluster.specs.declared.key.ClusterKey.TheVariants.{F, Leaders, Proxies, Acceptors, Replicas, Batchers, Unbatchers, Readers, Clients, Batch, BasePort, Pool, Replacers}
 use Rattle.cx_cluster.specs.Keys.{key_name, is_key}
 
 -- a number from low to high
@@ -48,6 +48,14 @@ number_in key low high (Some value) = number_of key low high value
 abbrev pub number_at : Members → ClusterKey → (low high : ℕ) → Result (Within low high) ClusterFault
 number_at ms key low high = number_in key low high (get_member (key_name key) ms)
 
+-- the number of a key that may be left out, which is the least one then
+abbrev pub number_or_least : ClusterKey → (low high : ℕ) → Option Data → Result (Within low high) ClusterFault
+number_or_least key low high None = tested key low high low (dec_le low low) (dec_le low high)
+number_or_least key low high (Some value) = number_of key low high value
+
+abbrev pub optional_at : Members → ClusterKey → (low high : ℕ) → Result (Within low high) ClusterFault
+optional_at ms key low high = number_or_least key low high (get_member (key_name key) ms)
+
 -- what follows a good part, or the part's fault
 infixl 10 ◌>>=◌
 abbrev pub ◌>>=◌ : {A B : Type 0} → Result A ClusterFault → (A → Result B ClusterFault) → Result B ClusterFault
@@ -81,6 +89,8 @@ cluster_at ms =
     number_at ms Clients 1 64 >>= (λ clients.
     number_at ms Batch 1 8 >>= (λ batch.
     port_at ms >>= (λ base_port.
+    optional_at ms Pool (2 * f.number + 1) 64 >>= (λ pool.
+    optional_at ms Replacers 0 4 >>= (λ replacers.
     Ok (record {
       f = f.number;
       leaders = leaders.number;
@@ -93,6 +103,8 @@ cluster_at ms =
       clients = clients.number;
       batch = batch.number;
       base_port = base_port;
+      pool = pool.number;
+      replacers = replacers.number;
       f_fits = f.most;
       some_leader = leaders.least;
       leaders_fit = leaders.most;
@@ -112,7 +124,10 @@ cluster_at ms =
       clients_fit = clients.most;
       some_batch = batch.least;
       batch_fits = batch.most;
-    }))))))))))))
+      some_pool = pool.least;
+      pool_fits = pool.most;
+      replacers_fit = replacers.most;
+    }))))))))))))))
 
 -- the lesser of a key and another, in byte order
 abbrev pub lesser : List ℕ → Option (List ℕ) → List ℕ

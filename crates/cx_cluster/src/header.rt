@@ -1,10 +1,10 @@
 //! Reading a header.
 
-ghost use Rattle.std.specs.Prelude.{◌≡◌, ◌≢◌, option_map, string_bytes, find, not, IfOk, IfErr, Ok, Err};
+ghost use Rattle.std.specs.Prelude.{◌≡◌, ◌≢◌, ◌≤◌, option_map, string_bytes, find, not, IfOk, IfErr, Ok, Err};
 ghost use Rattle.std.specs.Option.{option_copied};
 ghost use Rattle.std.specs.BTreeMap.{keys, IsOrdered};
 ghost use Rattle.std.specs.String.{string_cmp};
-ghost use Rattle.cx_cluster.specs.Reading.{IsNumber, ranged, number_of, number_at, port_at, cluster_at, header_cluster};
+ghost use Rattle.cx_cluster.specs.Reading.{IsNumber, ranged, number_of, number_at, optional_at, port_at, cluster_at, header_cluster};
 ghost use Rattle.cx_cluster.specs.declared.fault.ClusterFault.TheVariants.{NoMemory, Unknown};
 ghost use Rattle.cx_cluster.specs.Keys.{key_name, is_key};
 ghost use Rattle.toml.specs.Data.{get_member};
@@ -12,7 +12,7 @@ ghost use Rattle.toml.specs.View.{table_view, view};
 
 use crate::fault::{ClusterFault, UnknownKey};
 use crate::key::{ClusterKey, is_key};
-use cx_base::{ACCEPTORS, BATCH, CLIENTS, Cluster, MAX_F, PROXIES, ROLES};
+use cx_base::{ACCEPTORS, BATCH, CLIENTS, Cluster, MATCHMAKERS, MAX_F, PROXIES, REPLACERS, ROLES};
 use std::alloc::Global;
 use toml::{Table, Value};
 
@@ -58,6 +58,17 @@ fn number(table: &Table, key: ClusterKey, low: u16, high: u16) -> Result<u16, Cl
     }
 }
 
+/// The number under a key that may be left out, from `low` to `high`; it is `low` then.
+fn optional(table: &Table, key: ClusterKey, low: u16, high: u16) -> Result<u16, ClusterFault>
+    requires { low ≤ high }
+    ensures { IsNumber result (optional_at (table_view table.now) key low high) }
+{
+    match member(table, key) {
+        Some(value) => number_of(key, value, low, high),
+        None => Ok(low),
+    }
+}
+
 /// The port, which may be left out.
 fn port(table: &Table) -> Result<Option<u16>, ClusterFault>
     ensures { result ≡ port_at (table_view table.now) }
@@ -84,6 +95,8 @@ fn cluster_of(table: &Table) -> Result<Cluster, ClusterFault>
     let clients = number(table, ClusterKey::Clients, 1, MAX_CLIENTS)?;
     let batch = number(table, ClusterKey::Batch, 1, MAX_BATCH)?;
     let base_port = port(table)?;
+    let pool = optional(table, ClusterKey::Pool, 2 * f + 1, MATCHMAKERS)?;
+    let replacers = optional(table, ClusterKey::Replacers, 0, REPLACERS)?;
     Ok(Cluster {
         f: f as u8,
         leaders,
@@ -96,6 +109,8 @@ fn cluster_of(table: &Table) -> Result<Cluster, ClusterFault>
         clients,
         batch: batch as u8,
         base_port,
+        pool,
+        replacers,
     })
 }
 
@@ -117,12 +132,13 @@ fn unknown(alloc: Global, key: &str) -> ClusterFault
 }
 
 /// The cluster that a header says, or the first fault, in this order: the bytes are no TOML document; a key that no header
-/// has, the least in byte order; then for each key in the order of `ClusterKey`, that it is missing (the port may be), no
-/// whole number, or outside its range.
+/// has, the least in byte order; then for each key in the order of `ClusterKey`, that it is missing (the last three
+/// may be), no whole number, or outside its range.
 ///
 /// The ranges: `f` 0 to 3, `leaders` 1 to 8, `proxies` 1 to 16, `acceptors` 1 to 64, `replicas` f + 1 to 8, `batchers`,
-/// `unbatchers` and `readers` 1 to 8, `clients` 1 to 64, `batch` 1 to 8, `base_port` 1024 to 60000 (this project's own
-/// form; TOML is that of the crate `toml`).
+/// `unbatchers` and `readers` 1 to 8, `clients` 1 to 64, `batch` 1 to 8, `base_port` 1024 to 60000, `pool` 2f + 1 to 64,
+/// `replacers` 0 to 4. Without `base_port` there is no port; a `pool` or `replacers` that is missing is the least of its
+/// range (this project's own form; TOML is that of the crate `toml`).
 pub fn read(alloc: Global, bytes: &[u8]) -> Result<Cluster, ClusterFault>
     ensures cluster { IfOk result (λ cluster. header_cluster bytes.now ≡ Ok cluster) }
     ensures fault { IfErr result (λ fault. fault ≢ NoMemory → header_cluster bytes.now ≡ Err fault) }

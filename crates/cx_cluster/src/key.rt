@@ -17,9 +17,11 @@ pub enum ClusterKey {
     Clients,
     Batch,
     BasePort,
+    Pool,
+    Replacers,
 }
 
-const KEYS: [ClusterKey; 11] = [
+const KEYS: [ClusterKey; 13] = [
     ClusterKey::F,
     ClusterKey::Leaders,
     ClusterKey::Proxies,
@@ -31,6 +33,8 @@ const KEYS: [ClusterKey; 11] = [
     ClusterKey::Clients,
     ClusterKey::Batch,
     ClusterKey::BasePort,
+    ClusterKey::Pool,
+    ClusterKey::Replacers,
 ];
 
 impl ClusterKey {
@@ -50,6 +54,8 @@ impl ClusterKey {
             ClusterKey::Clients => "clients",
             ClusterKey::Batch => "batch",
             ClusterKey::BasePort => "base_port",
+            ClusterKey::Pool => "pool",
+            ClusterKey::Replacers => "replacers",
         }
     }
 }

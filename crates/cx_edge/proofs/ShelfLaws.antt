@@ -5,7 +5,7 @@ use Rattle.std.proofs.lemmas.Bool.{cases_Bool}
 use Rattle.std.proofs.lemmas.Bool.Decides.{nat_tests}
 use Rattle.cx_base.specs.declared.role.RoleId.{RoleId}
 use Rattle.cx_base.specs.declared.role.Kind.{Kind}
-use Rattle.cx_base.specs.declared.role.Kind.TheVariants.{Client, Batcher, Leader, Proxy, Acceptor, Matchmaker, Replica, Unbatcher, Reader}
+use Rattle.cx_base.specs.declared.role.Kind.TheVariants.{Client, Batcher, Leader, Proxy, Acceptor, Matchmaker, Replica, Unbatcher, Reader, Replacer}
 use Rattle.cx_base.specs.Role.{same_role, code_of, kind_of}
 use Rattle.cx_edge.specs.declared.shelf.Shelf.{Shelf}
 use Rattle.cx_edge.specs.Depot.{IsOut, without}
@@ -28,6 +28,7 @@ kind_back Matchmaker = refl
 kind_back Replica = refl
 kind_back Unbatcher = refl
 kind_back Reader = refl
+kind_back Replacer = refl
 
 pub same_role-true : (a b : RoleId) → same_role a b ≡ true → a ≡ b
 same_role-true a b h =

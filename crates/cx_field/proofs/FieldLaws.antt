@@ -21,7 +21,7 @@ use Rattle.cx_field.specs.declared.parts.Entry.{Entry}
 use Rattle.cx_field.specs.declared.parts.NackReason.{NackReason}
 use Rattle.cx_field.specs.declared.parts.NackReason.TheVariants as nack
 use Rattle.cx_field.specs.declared.parts.Vote.{Vote}
-use Rattle.cx_field.specs.Fields.{slot, mark, at, seq, round_fields, round, round0, member, grid, name_byte, name, floor_below, told_shape, floor_cases, told_cases, told_op, told_floor, meant_floor, make_command, command_parts, command_with, command, commands_with, commands, value_shape, value_cases, value_with, value, reply_len, reply_shape, reply_cases, reply, values, last_passes, in_window, entry, entries, vote_with, votes_with, votes, answered, answers, pair, pairs, note, notes, found_shape, found_cases, found, reason_shape, reason_cases, reason, token, asking}
+use Rattle.cx_field.specs.Fields.{slot, mark, at, seq, round_fields, round, round0, member, grid, name_byte, name, floor_below, told_shape, floor_cases, told_cases, told_op, told_floor, meant_floor, make_command, command_parts, command_with, command, commands_with, commands, value_shape, value_cases, value_with, value, reply_len, reply_shape, reply_cases, reply, values, last_passes, in_window, entry, entries, joined, set_member, set, goes_with, accepted_set, vote_with, votes_with, votes, answered, answers, pair, pairs, note, notes, found_shape, found_cases, found, reason_shape, reason_cases, reason, token, asking}
 
 pub slot-exact : IsExact slot
 unfolding slot
@@ -267,7 +267,24 @@ entry-exact before =
 
 pub entries-exact : IsExact entries
 unfolding entries
-entries-exact = counted-exact (only (λ n. nat_le n 17) u8) entry (only-exact (λ n. nat_le n 17) u8 u8-exact) entry-exact
+entries-exact = counted-exact (only (λ n. nat_le n 255) u8) entry (only-exact (λ n. nat_le n 255) u8 u8-exact) entry-exact
+
+pub joined-exact : IsExact joined
+unfolding joined
+joined-exact = counted-exact (only (λ n. nat_le n 254) u8) entry (only-exact (λ n. nat_le n 254) u8 u8-exact) entry-exact
+
+pub set_member-exact : (before : List ℕ) → IsExact (set_member before)
+unfolding set_member
+set_member-exact before = only-exact (λ id. last_passes (λ m. nat_lt m id) before) u16 u16-exact
+
+pub set-exact : IsExact set
+unfolding set
+set-exact = counted-exact (only (λ n. nat_le n 7) u8) set_member (only-exact (λ n. nat_le n 7) u8 u8-exact) set_member-exact
+
+pub accepted_set-exact : (accepted : Round) → IsExact (accepted_set accepted)
+unfolding accepted_set
+accepted_set-exact accepted =
+    counted-exact (only (λ n. nat_le n 7 && goes_with accepted n) u8) set_member (only-exact (λ n. nat_le n 7 && goes_with accepted n) u8 u8-exact) set_member-exact
 
 vote_with-exact : (floors : Bool) (cw : ℕ) (before : List Vote) → IsExact (vote_with floors cw before)
 unfolding vote_with

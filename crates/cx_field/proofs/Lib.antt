@@ -5,4 +5,5 @@ pub mod ListLaws
 pub mod NameBytes
 pub mod RangeLaws
 pub mod Rising
+pub mod SetLaws
 pub mod Sizes

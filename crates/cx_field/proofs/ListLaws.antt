@@ -14,7 +14,7 @@ use Rattle.cx_base.specs.declared.command.Value.TheVariants as choice
 use Rattle.cx_base.specs.declared.round.Round.{Round}
 use Rattle.cx_wire.specs.Format.{u8, each_fits}
 use Rattle.cx_wire.proofs.Laws.{both}
-use Rattle.cx_field.specs.Fields.{slot, round, grid, command, commands_with, commands, value_with, value, last_passes, in_window, entry, entries, vote_with, votes_with, votes, answered, answers, values}
+use Rattle.cx_field.specs.Fields.{slot, round, grid, command, commands_with, commands, value_with, value, last_passes, in_window, entry, entries, joined, vote_with, votes_with, votes, answered, answers, values}
 use Rattle.cx_field.specs.Ranges.{entry_in_range, rounds_rise, vote_in_range, slots_rise}
 use Rattle.cx_field.specs.declared.parts.Entry.{Entry}
 use Rattle.cx_field.specs.declared.parts.Vote.{Vote}
@@ -125,21 +125,21 @@ before-trans a b c h k = grind (arith, nat_tests)
 rounds_pass : PassesOn (λ (e : Entry) (later : Entry). is_before e.round later.round)
 rounds_pass = record { on = λ x y z. before-trans x.round y.round z.round }
 
--- the entries of a matchmaker fit: at most 17, each in its range, in rising order
-pub entries_apart : (xs : List Entry) → IsTrue (entries.fits xs) → (length xs ≤ 17) × IsTrue (list_all (λ x. entry_in_range x) xs) × IsTrue (rounds_rise xs)
+-- the entries of a matchmaker fit: at most 255, each in its range, in rising order
+pub entries_apart : (xs : List Entry) → IsTrue (entries.fits xs) → (length xs ≤ 255) × IsTrue (list_all (λ x. entry_in_range x) xs) × IsTrue (rounds_rise xs)
 unfolding entries
 entries_apart xs h =
-    let p = both (u8.fits (length xs) && nat_le (length xs) 17) (eqb (length xs) (length xs) && each_fits entry [] xs) h in
-    let q = both (u8.fits (length xs)) (nat_le (length xs) 17) p.0 in
+    let p = both (u8.fits (length xs) && nat_le (length xs) 255) (eqb (length xs) (length xs) && each_fits entry [] xs) h in
+    let q = both (u8.fits (length xs)) (nat_le (length xs) 255) p.0 in
     let s = both (eqb (length xs) (length xs)) (each_fits entry [] xs) p.1 in
     let t = rising_apart entry (λ (e : Entry) (later : Entry). is_before e.round later.round) (λ x. entry_in_range x) entry_asks rounds_pass xs [] refl s.1 in
-    (at_most (length xs) 17 q.1, t.1, t.0)
+    (at_most (length xs) 255 q.1, t.1, t.0)
 
-pub entries_fit : (xs : List Entry) → length xs ≤ 17 → IsTrue (list_all (λ x. entry_in_range x) xs) → IsTrue (rounds_rise xs) → IsTrue (entries.fits xs)
+pub entries_fit : (xs : List Entry) → length xs ≤ 255 → IsTrue (list_all (λ x. entry_in_range x) xs) → IsTrue (rounds_rise xs) → IsTrue (entries.fits xs)
 unfolding entries
 entries_fit xs high h r =
-    join (u8.fits (length xs) && nat_le (length xs) 17) (eqb (length xs) (length xs) && each_fits entry [] xs)
-    (join (u8.fits (length xs)) (nat_le (length xs) 17) (byte_fits (length xs) (omega arith)) (is_at_most (length xs) 17 high))
+    join (u8.fits (length xs) && nat_le (length xs) 255) (eqb (length xs) (length xs) && each_fits entry [] xs)
+    (join (u8.fits (length xs)) (nat_le (length xs) 255) (byte_fits (length xs) (omega arith)) (is_at_most (length xs) 255 high))
     (join (eqb (length xs) (length xs)) (each_fits entry [] xs) (eq-eqb (length xs) (length xs) refl) (rising_fits entry (λ (e : Entry) (later : Entry). is_before e.round later.round) (λ x. entry_in_range x) entry_asks xs [] r h))
 
 -- some of them left out
@@ -149,7 +149,7 @@ entries_filter p xs h =
     entries_fit (filter p xs) (omega (arith, t.0, length-filter p xs)) (list_all-filter p (λ x. entry_in_range x) xs t.1) (rises-filter p (λ (e : Entry) (later : Entry). is_before e.round later.round) xs t.2)
 
 -- one more after them
-pub entries_snoc : (xs : List Entry) (x : Entry) → IsTrue (entries.fits xs) → length xs < 17 → IsTrue (entry_in_range x) → IsTrue (list_all (λ y. (λ (e : Entry) (later : Entry). is_before e.round later.round) y x) xs) → IsTrue (entries.fits (xs ++ x ∷ []))
+pub entries_snoc : (xs : List Entry) (x : Entry) → IsTrue (entries.fits xs) → length xs < 255 → IsTrue (entry_in_range x) → IsTrue (list_all (λ y. (λ (e : Entry) (later : Entry). is_before e.round later.round) y x) xs) → IsTrue (entries.fits (xs ++ x ∷ []))
 entries_snoc xs x h room fine last =
     let t = entries_apart xs h in
     entries_fit (xs ++ x ∷ []) (omega (arith, room, length-append xs (x ∷ [])))
@@ -157,10 +157,39 @@ entries_snoc xs x h room fine last =
     (rises-snoc (λ (e : Entry) (later : Entry). is_before e.round later.round) x xs t.2 last)
 
 -- one more before them
-pub entries_cons : (x : Entry) (xs : List Entry) → IsTrue (entries.fits xs) → length xs < 17 → IsTrue (entry_in_range x) → IsTrue (list_all (λ y. (λ (e : Entry) (later : Entry). is_before e.round later.round) x y) xs) → IsTrue (entries.fits (x ∷ xs))
+pub entries_cons : (x : Entry) (xs : List Entry) → IsTrue (entries.fits xs) → length xs < 255 → IsTrue (entry_in_range x) → IsTrue (list_all (λ y. (λ (e : Entry) (later : Entry). is_before e.round later.round) x y) xs) → IsTrue (entries.fits (x ∷ xs))
 entries_cons x xs h room fine first =
     let t = entries_apart xs h in
     entries_fit (x ∷ xs) (omega (arith, room)) (join (entry_in_range x) (list_all (λ y. entry_in_range y) xs) fine t.1) (join (list_all (λ y. (λ (e : Entry) (later : Entry). is_before e.round later.round) x y) xs) (rounds_rise xs) first t.2)
+
+-- the entries with which a matchmaker begins fit: at most 254, each in its range, in rising order
+pub joined_apart : (xs : List Entry) → IsTrue (joined.fits xs) → (length xs ≤ 254) × IsTrue (list_all (λ x. entry_in_range x) xs) × IsTrue (rounds_rise xs)
+unfolding joined
+joined_apart xs h =
+    let p = both (u8.fits (length xs) && nat_le (length xs) 254) (eqb (length xs) (length xs) && each_fits entry [] xs) h in
+    let q = both (u8.fits (length xs)) (nat_le (length xs) 254) p.0 in
+    let s = both (eqb (length xs) (length xs)) (each_fits entry [] xs) p.1 in
+    let t = rising_apart entry (λ (e : Entry) (later : Entry). is_before e.round later.round) (λ x. entry_in_range x) entry_asks rounds_pass xs [] refl s.1 in
+    (at_most (length xs) 254 q.1, t.1, t.0)
+
+pub joined_fit : (xs : List Entry) → length xs ≤ 254 → IsTrue (list_all (λ x. entry_in_range x) xs) → IsTrue (rounds_rise xs) → IsTrue (joined.fits xs)
+unfolding joined
+joined_fit xs high h r =
+    join (u8.fits (length xs) && nat_le (length xs) 254) (eqb (length xs) (length xs) && each_fits entry [] xs)
+    (join (u8.fits (length xs)) (nat_le (length xs) 254) (byte_fits (length xs) (omega arith)) (is_at_most (length xs) 254 high))
+    (join (eqb (length xs) (length xs)) (each_fits entry [] xs) (eq-eqb (length xs) (length xs) refl) (rising_fits entry (λ (e : Entry) (later : Entry). is_before e.round later.round) (λ x. entry_in_range x) entry_asks xs [] r h))
+
+-- they are entries
+pub joined_are_entries : (xs : List Entry) → IsTrue (joined.fits xs) → IsTrue (entries.fits xs)
+joined_are_entries xs h =
+    let t = joined_apart xs h in
+    entries_fit xs (omega (arith, t.0)) t.1 t.2
+
+-- entries that are few enough
+pub entries_are_joined : (xs : List Entry) → IsTrue (entries.fits xs) → length xs ≤ 254 → IsTrue (joined.fits xs)
+entries_are_joined xs h few =
+    let t = entries_apart xs h in
+    joined_fit xs few t.1 t.2
 
 vote_shuffle : (a b c d e : Bool) → (a && ((b && (c && d)) && e)) ≡ (d && (a && ((b && c) && e)))
 vote_shuffle true true true d e = refl

@@ -50,6 +50,10 @@ rises-snoc before x (y ∷ ys) r h =
     let all : list_all (λ w. before y w) (ys ++ x ∷ []) ≡ true = list_all-append (λ w. before y w) ys (x ∷ []) ∙ join _ _ p.0 (join (before y x) true q.0 refl) in
     join (list_all (λ w. before y w) (ys ++ x ∷ [])) (rises before (ys ++ x ∷ [])) all (rises-snoc before x ys p.1 q.1)
 
+-- rising values, the last of them before x, rise with x after them
+pub rises-next : {A : Type 0} (before : A → A → Bool) → PassesOn before → (x : A) (front : List A) → rises before front ≡ true → last_passes (λ y. before y x) front ≡ true → rises before (front ++ x ∷ []) ≡ true
+rises-next before passes x front r last = rises-snoc before x front r (last_all before passes x front r last)
+
 before_all : {A : Type 0} (before : A → A → Bool) (x : A) (xs front : List A) → rises before (front ++ x ∷ xs) ≡ true → list_all (λ y. before y x) front ≡ true
 before_all before x xs [] r = refl
 before_all before x xs (y ∷ ys) r =

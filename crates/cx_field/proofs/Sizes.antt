@@ -15,7 +15,7 @@ use Rattle.cx_base.specs.declared.command.Reply.TheVariants as replies
 use Rattle.cx_wire.specs.Format.{u8, u16, u32, u64, only, whole, then_by, ◌▷◌, times}
 use Rattle.cx_wire.proofs.Laws.{both}
 use Rattle.cx_wire.proofs.Sizes.{IsShort, u8-short, u16-short, u32-short, u64-short, weaker, only-short, whole-short, then_by-short, ▷-short, shaped-short, times-short, counted-short, tagged-short}
-use Rattle.cx_field.specs.Fields.{slot, mark, seq, at, round_fields, round, round0, member, grid, name_byte, name, floor_below, told_shape, told_cases, told_op, make_command, command_parts, command_with, command, commands_with, commands, value_shape, value_cases, value_with, value, reply_len, reply_shape, reply_cases, reply, last_passes, in_window, entry, entries, vote_with, votes_with, votes, answered, answers, pair, pairs, note, notes, found_shape, found_cases, found, reason_shape, reason_cases, reason, token, asking}
+use Rattle.cx_field.specs.Fields.{slot, mark, seq, at, round_fields, round, round0, member, grid, name_byte, name, floor_below, told_shape, told_cases, told_op, make_command, command_parts, command_with, command, commands_with, commands, value_shape, value_cases, value_with, value, reply_len, reply_shape, reply_cases, reply, last_passes, in_window, entry, entries, joined, set_member, set, goes_with, accepted_set, vote_with, votes_with, votes, answered, answers, pair, pairs, note, notes, found_shape, found_cases, found, reason_shape, reason_cases, reason, token, asking}
 use Rattle.cx_field.specs.declared.parts.Entry.{Entry}
 use Rattle.cx_field.specs.declared.parts.NackReason.{NackReason}
 use Rattle.cx_field.specs.declared.parts.NackReason.TheVariants as nack
@@ -151,9 +151,29 @@ entry-short before =
     shaped-short {A = Round × GridShape} (λ x. record { round = x.0; grid = x.1 }) (λ e. (e.round, e.grid)) (only rises round ▷ grid) 44
     (▷-short (only rises round) grid 10 34 (only-short rises round 10 round-short) grid-short)
 
-pub entries-short : IsShort entries 749
+pub entries-short : IsShort entries 11221
 unfolding entries
-entries-short = counted-short (only (λ n. nat_le n 17) u8) entry 1 17 44 (only-short (λ n. nat_le n 17) u8 1 u8-short) (λ n h. from_none n 17 h) entry-short
+entries-short = counted-short (only (λ n. nat_le n 255) u8) entry 1 255 44 (only-short (λ n. nat_le n 255) u8 1 u8-short) (λ n h. from_none n 255 h) entry-short
+
+pub joined-short : IsShort joined 11177
+unfolding joined
+joined-short = counted-short (only (λ n. nat_le n 254) u8) entry 1 254 44 (only-short (λ n. nat_le n 254) u8 1 u8-short) (λ n h. from_none n 254 h) entry-short
+
+set_member-short : (before : List ℕ) → IsShort (set_member before) 2
+unfolding set_member
+set_member-short before = only-short (λ id. last_passes (λ m. nat_lt m id) before) u16 2 u16-short
+
+pub set-short : IsShort set 15
+unfolding set
+set-short = counted-short (only (λ n. nat_le n 7) u8) set_member 1 7 2 (only-short (λ n. nat_le n 7) u8 1 u8-short) (λ n h. from_none n 7 h) set_member-short
+
+from_accepted : (accepted : Round) (n : ℕ) → (only (λ m. nat_le m 7 && goes_with accepted m) u8).fits n ≡ true → n ≤ 7
+from_accepted accepted n h = at_most n 7 (both (nat_le n 7) (goes_with accepted n) (both (u8.fits n) (nat_le n 7 && goes_with accepted n) h).1).0
+
+pub accepted_set-short : (accepted : Round) → IsShort (accepted_set accepted) 15
+unfolding accepted_set
+accepted_set-short accepted =
+    counted-short (only (λ n. nat_le n 7 && goes_with accepted n) u8) set_member 1 7 2 (only-short (λ n. nat_le n 7 && goes_with accepted n) u8 1 u8-short) (from_accepted accepted) set_member-short
 
 vote-short : (cw : ℕ) (before : List Vote) → IsShort (vote_with true cw before) 956
 unfolding vote_with value

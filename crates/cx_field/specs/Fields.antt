@@ -206,9 +206,29 @@ in_window cw s = nat_le cw s && nat_lt s (cw + 32)
 unfoldable pub entry : List Entry → Format Entry
 entry before = shaped (λ x. record { round = x.0; grid = x.1 }) (λ e. (e.round, e.grid)) (only (λ r. last_passes (λ e. is_before e.round r) before) round ▷ grid)
 
--- at most 17 entries
+-- at most 255 entries
 unfoldable pub entries : Format (List Entry)
-entries = counted (only (λ n. nat_le n 17) u8) entry
+entries = counted (only (λ n. nat_le n 255) u8) entry
+
+-- at most 254 entries, with which a matchmaker begins
+unfoldable pub joined : Format (List Entry)
+joined = counted (only (λ n. nat_le n 254) u8) entry
+
+-- a matchmaker of a set, after others: its id is greater
+unfoldable pub set_member : List ℕ → Format ℕ
+set_member before = only (λ id. last_passes (λ m. nat_lt m id) before) u16
+
+-- a set of at most seven matchmakers
+unfoldable pub set : Format (List ℕ)
+set = counted (only (λ n. nat_le n 7) u8) set_member
+
+-- whether a set of n matchmakers goes with the round in which it was accepted: it has none exactly where there is no round
+abbrev pub goes_with : Round → ℕ → Bool
+goes_with accepted n = if nat_le 1 accepted.r then nat_le 1 n else n == 0
+
+-- the set that was accepted in a round, or in none
+unfoldable pub accepted_set : Round → Format (List ℕ)
+accepted_set accepted = counted (only (λ n. nat_le n 7 && goes_with accepted n) u8) set_member
 
 -- a vote after others, at a greater slot of the window
 unfoldable pub vote_with : Bool → ℕ → List Vote → Format Vote

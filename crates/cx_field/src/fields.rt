@@ -14,14 +14,14 @@ ghost use Rattle.cx_field.specs.Reading.{Reads, Gives};
 use crate::fault::ReadFault;
 use crate::items::{items_from, list_from};
 use crate::lists::{
-    AnsweredItems, CommandItems, EntryItems, MemberItems, NoteItems, PairItems, ValueItems,
-    VoteItems,
+    AnsweredItems, CommandItems, EntryItems, MemberItems, NoteItems, PairItems, SetItems,
+    ValueItems, VoteItems,
 };
 use crate::parts::{Answers, Asking, Entries, LogValues, NackReason, Notes, Pairs, Token, Votes};
 use crate::reader::Reader;
 use cx_base::{
-    Command, Commands, Few, Grid, Key, MEMBERS, Name, OUTSTANDING, Op, Reply, Round, SLOTS, Text,
-    Value, is_name_byte,
+    Command, Commands, Few, Grid, Key, MEMBERS, Name, OUTSTANDING, Op, Reply, Round, SET_LENGTH,
+    SLOTS, Set, Text, Value, is_name_byte,
 };
 use std::alloc::Global;
 
@@ -141,6 +141,17 @@ fn floor_below_from(number: u64, reader: &mut Reader<'_>) -> Result<u64, ReadFau
         return Err(ReadFault::Bad { left });
     }
     Ok(floor)
+}
+
+// Whether a set of this many goes with the round in which it was accepted.
+fn goes_with(accepted: &Round, count: usize) -> bool
+    ensures { result ≡ field.goes_with accepted.now count }
+{
+    if accepted.r >= 1 {
+        count >= 1
+    } else {
+        count == 0
+    }
 }
 
 fn key_text_from(reader: &mut Reader<'_>) -> Result<(Key, Text), ReadFault>
@@ -373,13 +384,56 @@ pub fn found_from(reader: &mut Reader<'_>) -> Result<Option<Text>, ReadFault>
     }
 }
 
-/// Entries of a matchmaker: how many in a byte, at most 17, and each, a round above the one before and its grid.
+/// Entries of a matchmaker: how many in a byte, and each, a round above the one before and its grid.
 #[tactic(auto, unfolding(crate::specs::Fields::entries))]
 pub fn entries_from(alloc: Global, reader: &mut Reader<'_>) -> Result<Entries, ReadFault>
     ensures { Reads field.entries reader.old result reader.new }
 {
-    let list = list_from(alloc, &EntryItems, 0, 17, reader)?;
+    let list = list_from(alloc, &EntryItems, 0, 255, reader)?;
     Ok(Few::from_vec(list))
+}
+
+/// Entries with which a matchmaker begins: how many in a byte, at most 254, and each, a round above the one before and its
+/// grid.
+#[tactic(auto, unfolding(crate::specs::Fields::joined))]
+pub fn joined_from(alloc: Global, reader: &mut Reader<'_>) -> Result<Entries, ReadFault>
+    ensures { Reads field.joined reader.old result reader.new }
+{
+    let list = list_from(alloc, &EntryItems, 0, 254, reader)?;
+    Ok(Few::from_vec(list))
+}
+
+/// A set of matchmakers: how many in a byte, at most 7, and the id of each in two bytes, above the one before.
+#[tactic(auto, unfolding(crate::specs::Fields::set))]
+pub fn set_from(alloc: Global, reader: &mut Reader<'_>) -> Result<Set, ReadFault>
+    ensures { Reads field.set reader.old result reader.new }
+{
+    let left = reader.left();
+    let count = reader.u8()? as usize;
+    if count > SET_LENGTH {
+        return Err(ReadFault::Bad { left });
+    }
+    let ids = items_from(alloc, &SetItems, count, reader)?;
+    Ok(Set::new(&ids))
+}
+
+/// The set that was accepted in a round, or in none: how many in a byte, 0 exactly where there is no round, and at most 7; and
+/// the id of each in two bytes, above the one before.
+#[tactic(auto, unfolding(crate::specs::Fields::accepted_set))]
+pub fn accepted_set_from(
+    alloc: Global,
+    accepted: &Round,
+    reader: &mut Reader<'_>,
+) -> Result<Set, ReadFault>
+    ensures { Reads (field.accepted_set accepted.now) reader.old result reader.new }
+{
+    let left = reader.left();
+    let count = reader.u8()? as usize;
+    if count > SET_LENGTH || !goes_with(accepted, count) {
+        return Err(ReadFault::Bad { left });
+    }
+    let ids = items_from(alloc, &SetItems, count, reader)?;
+    Ok(Set::new(&ids))
 }
 
 /// Votes of an acceptor: how many in a byte, at most 32, and each: a round, a slot above the one before, at `cw` to

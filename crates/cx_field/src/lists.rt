@@ -85,6 +85,38 @@ impl Items for MemberItems {
     }
 }
 
+/// Matchmakers of a set, by rising id.
+pub struct SetItems;
+
+impl Items for SetItems {
+    type Item = u16;
+
+    ghost format = { λ _ before. field.set_member before };
+
+    ghost most = { 2 };
+
+    #[tactic(auto, unfolding(crate::specs::Fields::set_member))]
+    fn next_from(
+        &self,
+        _alloc: Global,
+        before: &[u16],
+        reader: &mut Reader<'_>,
+    ) -> Result<u16, ReadFault> {
+        let left = reader.left();
+        let id = reader.u16()?;
+        let rises = before.last().map_or(true, |last| *last < id);
+        if !rises {
+            return Err(ReadFault::Bad { left });
+        }
+        Ok(id)
+    }
+
+    #[tactic(auto, unfolding(crate::specs::Fields::set_member, cx_wire::specs::Format::u16))]
+    fn put_next(&self, id: &u16, out: &mut Vec<u8>) -> Result<(), NoMemory> {
+        put_u16(out, *id)
+    }
+}
+
 /// Entries of a matchmaker, of rising rounds.
 pub struct EntryItems;
 

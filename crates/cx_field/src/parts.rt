@@ -74,7 +74,7 @@ pub enum NackReason {
     Full,
 }
 
-/// Entries of a matchmaker, at most 17, of strictly rising rounds.
+/// Entries of a matchmaker, at most 255, of strictly rising rounds.
 pub type Entries = Few<Entry, 0, ENTRIES>;
 
 /// Votes of an acceptor, at most 32, of strictly rising slots.

@@ -8,11 +8,11 @@ ghost use Rattle.cx_wire.specs.Format.{Appends, ◌▷◌};
 
 use crate::items::put_items;
 use crate::lists::{
-    AnsweredItems, CommandItems, EntryItems, MemberItems, NoteItems, PairItems, ValueItems,
-    VoteItems,
+    AnsweredItems, CommandItems, EntryItems, MemberItems, NoteItems, PairItems, SetItems,
+    ValueItems, VoteItems,
 };
 use crate::parts::{Answers, Asking, Entries, LogValues, NackReason, Notes, Pairs, Token, Votes};
-use cx_base::{Command, Commands, Grid, Key, Name, NoMemory, Op, Reply, Round, Text, Value};
+use cx_base::{Command, Commands, Grid, Key, Name, NoMemory, Op, Reply, Round, Set, Text, Value};
 use cx_wire::{put_u8, put_u16, put_u32, put_u64};
 
 /// Appends a slot, eight bytes.
@@ -201,14 +201,27 @@ pub fn put_reply(out: &mut Vec<u8>, reply: &Reply) -> Result<(), NoMemory>
     }
 }
 
-/// Appends entries of a matchmaker, at most 749 bytes.
-#[tactic(auto, unfolding(crate::specs::Fields::entries))]
+/// Appends entries of a matchmaker, at most 11,221 bytes; those with which it begins have the same bytes.
+#[tactic(auto, unfolding(crate::specs::Fields::entries, crate::specs::Fields::joined))]
 pub fn put_entries(out: &mut Vec<u8>, entries: &Entries) -> Result<(), NoMemory>
-    ensures { OnOk result (Appends field.entries entries.now 749 out.old.items out.new.items) }
+    ensures any { OnOk result (Appends field.entries entries.now 11221 out.old.items out.new.items) }
+    ensures joined { OnOk result (Appends field.joined entries.now 11221 out.old.items out.new.items) }
 {
     let list = entries.as_slice();
     put_u8(out, list.len() as u8)?;
     put_items(&EntryItems, list, out)
+}
+
+/// Appends a set of matchmakers, at most 15 bytes; one that was accepted in a round has the same bytes.
+#[tactic(auto, unfolding(crate::specs::Fields::set, crate::specs::Fields::accepted_set))]
+pub fn put_set(out: &mut Vec<u8>, set: &Set) -> Result<(), NoMemory>
+    ensures any { OnOk result (Appends field.set set.now 15 out.old.items out.new.items) }
+    ensures accepted { OnOk result ((accepted : Round)
+        → Appends (field.accepted_set accepted) set.now 15 out.old.items out.new.items) }
+{
+    let ids = set.ids();
+    put_u8(out, ids.len() as u8)?;
+    put_items(&SetItems, ids, out)
 }
 
 /// Appends votes of an acceptor, at most 30,593 bytes.

@@ -1,14 +1,15 @@
 //! What the types of fields say of their ranges. These calls do nothing when they run; they give their caller a fact.
 
-ghost use Rattle.std.specs.Prelude.{◌≡◌, ◌<◌, ◌≤◌, ◌^◌, ℕ, slice_index, IsTrue};
+ghost use Rattle.std.specs.Prelude.{◌≡◌, ◌<◌, ◌≤◌, ◌^◌, ℕ, length, slice_index, IsTrue};
 ghost use Rattle.cx_base.specs.Asked.{floor_fits};
 ghost use Rattle.cx_base.specs.Grid.{IsGrid};
 ghost use Rattle.cx_base.specs.Name.{IsName};
 ghost use Rattle.cx_field.specs.Fields as field;
+ghost use Rattle.cx_field.specs.Fields.{goes_with};
 ghost use Rattle.cx_field.specs.Ranges.{is_text_len, op_in_range};
 
 use crate::parts::NackReason;
-use cx_base::{Command, Grid, Name, Op, Reply, Text};
+use cx_base::{Command, Grid, Name, Op, Reply, Round, Set, Text};
 
 // Ids take two bytes.
 fn ids_fit(ids: &[u16])
@@ -26,6 +27,21 @@ pub fn grid_fits(grid: &Grid)
     ensures { IsTrue (field.grid.fits grid.now) }
 {
     ids_fit(grid.members());
+}
+
+/// Each set of matchmakers has a spelling.
+pub fn set_fits(set: &Set)
+    ensures { IsTrue (field.set.fits set.now) }
+{
+    ids_fit(set.ids());
+}
+
+/// A set has a spelling behind the round in which it was accepted, where it is empty exactly if there is no round.
+pub fn accepted_set_fits(accepted: &Round, set: &Set)
+    requires { IsTrue (goes_with accepted.now (length set.now)) }
+    ensures { IsTrue ((field.accepted_set accepted.now).fits set.now) }
+{
+    ids_fit(set.ids());
 }
 
 /// Each key and each text has a spelling.

@@ -17,11 +17,11 @@ use Rattle.cx_base.specs.declared.event.Event.TheVariants as event
 use Rattle.cx_base.specs.declared.event.Event.TheVariants.{Write, Read, Session}
 use Rattle.cx_base.specs.declared.event.Order.TheVariants.{Collect}
 use Rattle.cx_base.specs.declared.event.Cut.TheVariants.{Whole}
-use Rattle.cx_base.specs.declared.role.Kind.TheVariants.{Client, Batcher, Leader, Replica, Reader}
+use Rattle.cx_base.specs.declared.role.Kind.TheVariants.{Client, Batcher, Leader, Replica, Reader, Replacer}
 use Rattle.cx_script.specs.declared.fault.LineFault.{LineFault}
 use Rattle.cx_script.specs.declared.fault.LineFault.TheVariants.{Long, Number}
-use Rattle.cx_script.specs.Grammar.{◌>>=◌, next, op_at, cut_at, write_event, read_event, session_event, deliver_event, round_of, collect_event, snap_event, server_of, event_of, is_comment, event_in, line_event}
-use Rattle.cx_script.specs.Places.{fitting, seq_and_floor, seq_word, number_word, key_word, index_word}
+use Rattle.cx_script.specs.Grammar.{◌>>=◌, next, op_at, cut_at, write_event, read_event, session_event, deliver_event, round_of, collect_event, snap_event, replace_event, server_of, event_of, is_comment, event_in, line_event}
+use Rattle.cx_script.specs.Places.{fitting, seq_and_floor, seq_word, number_word, key_word, index_word, set_word}
 use Rattle.cx_script.specs.Requests.{has_slash, request_line, tells_no_floor, without_floor}
 use Rattle.cx_script.specs.Words.{is_blank, is_empty, number_of, parts_of, words_of}
 use Rattle.cx_script.proofs.Cuts.{split_free, split_none, split_some}
@@ -161,6 +161,13 @@ snap_plain c words =
     then_ok _ TellsNone (next (index_word c Replica) words) _ (whatever (next (index_word c Replica) words)) (λ (replica, words) h.
     then_ok _ TellsNone (cut_at words) _ (whatever (cut_at words)) (λ cut k. refl))
 
+replace_plain : (c : Cluster) (words : List (List ℕ)) → IfOk (replace_event c words) TellsNone
+unfolding replace_event
+replace_plain c words =
+    then_ok _ TellsNone (next (index_word c Replacer) words) _ (whatever (next (index_word c Replacer) words)) (λ (replacer, words) h.
+    then_ok _ TellsNone (next (set_word c) words) _ (whatever (next (set_word c) words)) (λ (set, words) k.
+    then_ok _ TellsNone (cut_at words) _ (whatever (cut_at words)) (λ cut l. refl)))
+
 event_plain : (c : Cluster) (verb : List ℕ) (words : List (List ℕ)) → list_any has_slash words ≡ false → IfOk (event_of c verb words) TellsNone
 unfolding event_of
 event_plain c verb words free =
@@ -176,8 +183,9 @@ event_plain c verb words free =
     or_else (bytes_eq verb (codes "change")) _ _ (then_ok _ TellsNone (round_of c words) _ round (λ (leader, grid, cut) h. refl)) (
     or_else (bytes_eq verb (codes "collect")) _ _ (collect_plain c words) (
     or_else (bytes_eq verb (codes "snap")) _ _ (snap_plain c words) (
+    or_else (bytes_eq verb (codes "replace")) _ _ (replace_plain c words) (
     or_else (bytes_eq verb (codes "crash")) _ _ (then_ok _ TellsNone (server_of c words) _ server (λ role h. refl)) (
-    or_else (bytes_eq verb (codes "restart")) _ _ (then_ok _ TellsNone (server_of c words) _ server (λ role h. refl)) tt))))))))))
+    or_else (bytes_eq verb (codes "restart")) _ _ (then_ok _ TellsNone (server_of c words) _ server (λ role h. refl)) tt)))))))))))
 
 in_plain : (c : Cluster) (words : List (List ℕ)) → list_any has_slash words ≡ false → IfOk (event_in c words) (λ o. IfSome o TellsNone)
 in_plain c [] free = tt

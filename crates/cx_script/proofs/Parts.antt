@@ -1,5 +1,5 @@
 -- What holds of all that a part of a line may say.
-use Rattle.std.proofs.Common.{◌≡◌, ℕ, Bool, true, false, not, nat_lt, List, [], ◌∷◌, Option, None, Some, option_map, option_and_then, ok_or, Result, Ok, Err, IfOk, IfSome, is_none, find, refl, inl, inr, ◌-◌, ◌==◌, if◌then◌else◌}
+use Rattle.std.proofs.Common.{◌≡◌, ℕ, Bool, true, false, not, nat_lt, List, [], ◌∷◌, Option, None, Some, option_map, option_and_then, ok_or, Result, Ok, Err, IfOk, IfSome, is_none, find, length, refl, inl, inr, ◌-◌, ◌+◌, ◌*◌, ◌==◌, ◌&&◌, if◌then◌else◌}
 use Rattle.std.specs.Bool.{⊤}
 use Rattle.std.proofs.lemmas.Bool.{cases_Bool, and_parts}
 use Rattle.std.specs.List.{list_all, slice_split}
@@ -9,12 +9,13 @@ use Rattle.cx_base.specs.declared.cluster.Cluster.{Cluster}
 use Rattle.cx_base.specs.declared.role.Kind.{Kind}
 use Rattle.cx_base.specs.Grid.{grid_fault, make_grid}
 use Rattle.cx_base.specs.Role.{kind_text, role}
+use Rattle.cx_base.specs.Sets.{is_rising}
 use Rattle.cx_script.specs.declared.fault.LineFault.{LineFault}
 use Rattle.cx_script.specs.declared.fault.LineFault.TheVariants.{Number, Role, Grid}
 use Rattle.cx_script.specs.Grammar.{◌>>=◌, next, ended, grid_at}
 use Rattle.cx_base.specs.Cluster.{count_of}
-use Rattle.cx_script.specs.Names.{is_client, names_server, names_members}
-use Rattle.cx_script.specs.Places.{fitting, seq_and_floor, seq_word, below, index_below, kind_part, index_part, index_word, server_kinds, server_kind, server_in, server_word, sides_word, ids_of, grid_of, members_word}
+use Rattle.cx_script.specs.Names.{is_client, names_server, names_members, names_set}
+use Rattle.cx_script.specs.Places.{fitting, seq_and_floor, seq_word, below, index_below, kind_part, index_part, index_word, server_kinds, server_kind, server_in, server_word, sides_word, ids_of, grid_of, members_word, set_in, set_word}
 use Rattle.cx_script.specs.Words.{number_of}
 
 pub then_ok : {A B : Type 0} (P : A → Type 0) (Q : B → Type 0) (r : Result A LineFault) (more : A → Result B LineFault) → IfOk r P → ((a : A) → P a → IfOk (more a) Q) → IfOk (r >>= more) Q
@@ -126,3 +127,17 @@ pub grid_ok : (c : Cluster) (words : List (List ℕ)) → IfOk (grid_at c words)
 grid_ok c words =
     then_ok (λ sides. ⊤) (λ part. names_members c part.0 ≡ true) (next sides_word words) (λ (sides, words). next (members_word c sides.0 sides.1) words) (whatever (next sides_word words))
     (λ (sides, words) h. next_ok (λ g. names_members c g ≡ true) (members_word c sides.0 sides.1) (members_ok c sides.0 sides.1) words)
+
+-- the ids of such a set are matchmakers of the cluster
+set_some : (c : Cluster) (ids : List ℕ) → list_all (λ id. nat_lt id c.pool) ids ≡ true → IfSome (set_in c ids) (λ s. names_set c s ≡ true)
+set_some c ids named = go ((length ids == 2 * c.f + 1) && is_rising ids) refl
+  where
+    go : (b : Bool) → ((length ids == 2 * c.f + 1) && is_rising ids) ≡ b → IfSome (if b then Some ids else None) (λ s. names_set c s ≡ true)
+    go true is = rw (is, named) refl
+    go false is = tt
+
+pub set_ok : (c : Cluster) (word : List ℕ) → IfOk (set_word c word) (λ s. names_set c s ≡ true)
+set_ok c word =
+    let ids : Option (List ℕ) = ids_of c.pool (slice_split (λ b. b == 44) word) in
+    some_ok (λ s. names_set c s ≡ true) (option_and_then (set_in c) ids) Number
+    (and_then_some (λ ids. list_all (λ id. nat_lt id c.pool) ids ≡ true) (λ s. names_set c s ≡ true) ids (set_in c) (ids_some c.pool (slice_split (λ b. b == 44) word)) (set_some c))

@@ -42,6 +42,7 @@ small c (Session other number floor replica key) client seq named is =
 small c (Deliver number cut) client seq named is = cc
 small c (Tick role) client seq named is = cc
 small c (event.Order leader order cut) client seq named is = cc
+small c (event.Replace replacer set cut) client seq named is = cc
 small c (Snap replica cut) client seq named is = cc
 small c (Crash role) client seq named is = cc
 small c (Restart role) client seq named is = cc

@@ -11,15 +11,15 @@ use Rattle.cx_base.specs.declared.event.Order.TheVariants.{Collect}
 use Rattle.cx_base.specs.declared.event.Cut.{Cut}
 use Rattle.cx_base.specs.declared.event.Cut.TheVariants.{Whole}
 use Rattle.cx_base.specs.Grid.{Shape}
-use Rattle.cx_base.specs.declared.role.Kind.TheVariants.{Client, Batcher, Leader, Replica, Reader}
+use Rattle.cx_base.specs.declared.role.Kind.TheVariants.{Client, Batcher, Leader, Replica, Reader, Replacer}
 use Rattle.cx_script.specs.declared.fault.LineFault.{LineFault}
 use Rattle.cx_script.specs.declared.fault.LineFault.TheVariants.{Long}
-use Rattle.cx_script.specs.Grammar.{◌>>=◌, next, op_at, cut_at, grid_at, write_event, read_event, session_event, deliver_event, round_of, collect_event, snap_event, server_of, event_of, is_comment, event_in, line_event}
+use Rattle.cx_script.specs.Grammar.{◌>>=◌, next, op_at, cut_at, grid_at, write_event, read_event, session_event, deliver_event, round_of, collect_event, snap_event, replace_event, server_of, event_of, is_comment, event_in, line_event}
 use Rattle.cx_script.specs.Lines.{Spelled, with_line, spelled_from, lines_of, schedule_of}
-use Rattle.cx_script.specs.Names.{names_event, names_members, names_server}
-use Rattle.cx_script.specs.Places.{seq_word, number_word, key_word, index_word, server_word}
+use Rattle.cx_script.specs.Names.{names_event, names_members, names_server, names_set}
+use Rattle.cx_script.specs.Places.{seq_word, number_word, key_word, index_word, server_word, set_word}
 use Rattle.cx_script.specs.Words.{words_of}
-use Rattle.cx_script.proofs.Parts.{then_ok, either_ok, next_ok, ended_ok, whatever, seq_ok, index_ok, server_ok, grid_ok}
+use Rattle.cx_script.proofs.Parts.{then_ok, either_ok, next_ok, ended_ok, whatever, seq_ok, index_ok, server_ok, grid_ok, set_ok}
 
 -- the world takes the event, and its names lie in the cluster
 pub record IsGood (c : Cluster) (e : Event) : Type 0 where
@@ -86,6 +86,13 @@ snap_ok c words =
     then_ok _ (IsGood c) (next (index_word c Replica) words) _ (next_ok _ (index_word c Replica) (index_ok c Replica) words) (λ (replica, words) h.
     then_ok _ (IsGood c) (cut_at words) _ (whatever (cut_at words)) (λ cut k. record { taken = refl; named = h }))
 
+replace_ok : (c : Cluster) (words : List (List ℕ)) → IfOk (replace_event c words) (IsGood c)
+unfolding replace_event
+replace_ok c words =
+    then_ok _ (IsGood c) (next (index_word c Replacer) words) _ (next_ok _ (index_word c Replacer) (index_ok c Replacer) words) (λ (replacer, words) h.
+    then_ok _ (IsGood c) (next (set_word c) words) _ (next_ok (λ s. names_set c s ≡ true) (set_word c) (set_ok c) words) (λ (set, words) k.
+    then_ok _ (IsGood c) (cut_at words) _ (whatever (cut_at words)) (λ cut l. record { taken = refl; named = rw (h, k) refl })))
+
 servers_ok : (c : Cluster) (words : List (List ℕ)) → IfOk (server_of c words) (λ role. names_server c role ≡ true)
 unfolding server_of
 servers_ok c words =
@@ -107,8 +114,9 @@ event_ok c verb words =
     or_else (bytes_eq verb (codes "change")) _ _ (then_ok _ (IsGood c) (round_of c words) _ round (λ (leader, grid, cut) h. record { taken = refl; named = h })) (
     or_else (bytes_eq verb (codes "collect")) _ _ (collect_ok c words) (
     or_else (bytes_eq verb (codes "snap")) _ _ (snap_ok c words) (
+    or_else (bytes_eq verb (codes "replace")) _ _ (replace_ok c words) (
     or_else (bytes_eq verb (codes "crash")) _ _ (then_ok _ (IsGood c) (server_of c words) _ server (λ role h. record { taken = refl; named = h })) (
-    or_else (bytes_eq verb (codes "restart")) _ _ (then_ok _ (IsGood c) (server_of c words) _ server (λ role h. record { taken = refl; named = h })) tt))))))))))
+    or_else (bytes_eq verb (codes "restart")) _ _ (then_ok _ (IsGood c) (server_of c words) _ server (λ role h. record { taken = refl; named = h })) tt)))))))))))
 
 -- the event of a line, if it has one
 abbrev IsGoodLine : Cluster → Option Event → Type 0

@@ -32,6 +32,8 @@ gen_cluster =
       clients = 4;
       batch = 2;
       base_port = None;
+      pool = 3;
+      replacers = 0;
       f_fits = lit≤ tt;
       some_leader = lit≤ tt;
       leaders_fit = lit≤ tt;
@@ -51,6 +53,9 @@ gen_cluster =
       clients_fit = lit≤ tt;
       some_batch = lit≤ tt;
       batch_fits = lit≤ tt;
+      some_pool = lit≤ tt;
+      pool_fits = lit≤ tt;
+      replacers_fit = lit≤ tt;
     }
 
 -- its roles that are no clients, by kind, then index

@@ -11,12 +11,12 @@ use Rattle.cx_base.specs.declared.event.Event.{Event}
 use Rattle.cx_base.specs.declared.event.Event.TheVariants as event
 use Rattle.cx_base.specs.declared.event.Event.TheVariants.{Write, Read, Session, Deliver, Tick, Snap, Crash, Restart}
 use Rattle.cx_base.specs.declared.event.Order.TheVariants.{Lead, Change, Collect}
-use Rattle.cx_base.specs.declared.role.Kind.TheVariants.{Client, Batcher, Leader, Replica, Reader}
+use Rattle.cx_base.specs.declared.role.Kind.TheVariants.{Client, Batcher, Leader, Replica, Reader, Replacer}
 use Rattle.cx_base.specs.declared.role.RoleId.{RoleId}
 use Rattle.cx_base.specs.Grid.{Shape}
 use Rattle.cx_script.specs.declared.fault.LineFault.{LineFault}
 use Rattle.cx_script.specs.declared.fault.LineFault.TheVariants.{Long, Word}
-use Rattle.cx_script.specs.Places.{seq_word, number_word, key_word, text_word, index_word, server_word, sides_word, members_word}
+use Rattle.cx_script.specs.Places.{seq_word, number_word, key_word, text_word, index_word, server_word, set_word, sides_word, members_word}
 use Rattle.cx_script.specs.Words.{words_of}
 
 -- what follows a part without a fault, or the part's fault
@@ -121,6 +121,14 @@ snap_event c words =
     cut_at words >>= (λ cut.
     Ok (Snap replica cut)))
 
+-- replacer:X a,b,.., and a cut
+unfoldable pub replace_event : Cluster → List (List ℕ) → Result Event LineFault
+replace_event c words =
+    next (index_word c Replacer) words >>= (λ (replacer, words).
+    next (set_word c) words >>= (λ (set, words).
+    cut_at words >>= (λ cut.
+    Ok (event.Replace replacer set cut))))
+
 -- ROLE
 unfoldable pub server_of : Cluster → List (List ℕ) → Result RoleId LineFault
 server_of c words = next (server_word c) words >>= (λ (role, words). ended role words)
@@ -137,6 +145,7 @@ event_of c verb words =
     else if bytes_eq verb (codes "change") then round_of c words >>= (λ (leader, grid, cut). Ok (event.Order leader (Change grid) cut))
     else if bytes_eq verb (codes "collect") then collect_event c words
     else if bytes_eq verb (codes "snap") then snap_event c words
+    else if bytes_eq verb (codes "replace") then replace_event c words
     else if bytes_eq verb (codes "crash") then server_of c words >>= (λ role. Ok (Crash role))
     else if bytes_eq verb (codes "restart") then server_of c words >>= (λ role. Ok (Restart role))
     else Err Word

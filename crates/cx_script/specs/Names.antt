@@ -1,17 +1,18 @@
 -- Which names of an event lie in a cluster.
-use Rattle.std.specs.Prelude.{Bool, true, false, ◌&&◌, not, nat_lt}
+use Rattle.std.specs.Prelude.{ℕ, ◌+◌, ◌*◌, ◌==◌, Bool, true, false, ◌&&◌, not, nat_lt, List, length}
 use Rattle.std.specs.List.{list_all}
 use Rattle.cx_base.specs.declared.cluster.Cluster.{Cluster}
 use Rattle.cx_base.specs.declared.event.Event.{Event}
 use Rattle.cx_base.specs.declared.event.Event.TheVariants as event
 use Rattle.cx_base.specs.declared.event.Event.TheVariants.{Write, Read, Session, Deliver, Tick, Snap, Crash, Restart}
 use Rattle.cx_base.specs.declared.event.Order.{Order}
-use Rattle.cx_base.specs.declared.event.Order.TheVariants.{Lead, Change, Collect}
+use Rattle.cx_base.specs.declared.event.Order.TheVariants.{Lead, Change, Collect, Replace}
 use Rattle.cx_base.specs.declared.role.Kind.{Kind}
-use Rattle.cx_base.specs.declared.role.Kind.TheVariants.{Client, Batcher, Leader, Proxy, Acceptor, Matchmaker, Replica, Unbatcher, Reader}
+use Rattle.cx_base.specs.declared.role.Kind.TheVariants.{Client, Batcher, Leader, Proxy, Acceptor, Matchmaker, Replica, Unbatcher, Reader, Replacer}
 use Rattle.cx_base.specs.declared.role.RoleId.{RoleId}
 use Rattle.cx_base.specs.Cluster.{count_of}
 use Rattle.cx_base.specs.Grid.{Shape}
+use Rattle.cx_base.specs.Sets.{is_rising}
 
 abbrev pub is_client : Kind → Bool
 is_client Client = true
@@ -23,6 +24,7 @@ is_client Matchmaker = false
 is_client Replica = false
 is_client Unbatcher = false
 is_client Reader = false
+is_client Replacer = false
 
 -- whether it is a role of the cluster, and no client
 abbrev pub names_server : Cluster → RoleId → Bool
@@ -32,10 +34,16 @@ names_server c role = not (is_client role.kind) && nat_lt role.index (count_of c
 abbrev pub names_members : Cluster → Shape → Bool
 names_members c grid = list_all (λ id. nat_lt id c.acceptors) grid.members
 
+-- whether it is a set of the cluster's matchmakers: 2f + 1 of them
+abbrev pub names_set : Cluster → List ℕ → Bool
+names_set c set = (length set == 2 * c.f + 1) && is_rising set && list_all (λ id. nat_lt id c.pool) set
+
+-- whether it is an order that a leader of the cluster may be given: the members of its grid are acceptors of the cluster
 abbrev pub names_order : Cluster → Order → Bool
 names_order c (Lead grid) = names_members c grid
 names_order c (Change grid) = names_members c grid
 names_order c Collect = true
+names_order c (Replace set) = false
 
 -- whether each name of an event lies in the cluster, and each role that ticks, crashes or restarts is no client
 abbrev pub names_event : Cluster → Event → Bool
@@ -45,6 +53,7 @@ names_event c (Session client seq floor replica key) = nat_lt client c.clients &
 names_event c (Deliver number cut) = true
 names_event c (Tick role) = names_server c role
 names_event c (event.Order leader order cut) = nat_lt leader c.leaders && names_order c order
+names_event c (event.Replace replacer set cut) = nat_lt replacer c.replacers && names_set c set
 names_event c (Snap replica cut) = nat_lt replica c.replicas
 names_event c (Crash role) = names_server c role
 names_event c (Restart role) = names_server c role

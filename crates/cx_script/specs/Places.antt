@@ -1,15 +1,16 @@
 -- What a word says in its place, or the place's fault.
-use Rattle.std.specs.Prelude.{ℕ, ◌-◌, ◌*◌, Bool, ◌==◌, ◌&&◌, nat_le, nat_lt, List, [], ◌∷◌, find, is_none, Option, Some, None, option_map, option_and_then, ok_or, Result, Err, if◌then◌else◌}
+use Rattle.std.specs.Prelude.{ℕ, ◌-◌, ◌+◌, ◌*◌, Bool, ◌==◌, ◌&&◌, nat_le, nat_lt, List, [], ◌∷◌, length, find, is_none, Option, Some, None, option_map, option_and_then, ok_or, Result, Err, if◌then◌else◌}
 use Rattle.std.specs.List.{before_first, after_first, slice_split}
 use Rattle.std.specs.Str.{bytes_eq}
 use Rattle.cx_base.specs.Asked.{floor_fits}
 use Rattle.cx_base.specs.declared.cluster.Cluster.{Cluster}
 use Rattle.cx_base.specs.declared.role.Kind.{Kind}
-use Rattle.cx_base.specs.declared.role.Kind.TheVariants.{Batcher, Leader, Proxy, Acceptor, Matchmaker, Replica, Unbatcher, Reader}
+use Rattle.cx_base.specs.declared.role.Kind.TheVariants.{Batcher, Leader, Proxy, Acceptor, Matchmaker, Replica, Unbatcher, Reader, Replacer}
 use Rattle.cx_base.specs.declared.role.RoleId.{RoleId}
 use Rattle.cx_base.specs.Grid.{Shape, make_grid, grid_fault}
 use Rattle.cx_base.specs.Name.{name_of}
 use Rattle.cx_base.specs.Role.{kind_text, role}
+use Rattle.cx_base.specs.Sets.{is_rising}
 use Rattle.cx_script.specs.declared.fault.LineFault.{LineFault}
 use Rattle.cx_script.specs.declared.fault.LineFault.TheVariants.{Number, Role, Grid, Key}
 use Rattle.cx_base.specs.Cluster.{count_of}
@@ -59,7 +60,7 @@ index_word c kind word =
 
 -- ROLE: any role but a client
 abbrev pub server_kinds : List Kind
-server_kinds = Batcher ∷ Leader ∷ Proxy ∷ Acceptor ∷ Matchmaker ∷ Replica ∷ Unbatcher ∷ Reader ∷ []
+server_kinds = Batcher ∷ Leader ∷ Proxy ∷ Acceptor ∷ Matchmaker ∷ Replica ∷ Unbatcher ∷ Reader ∷ Replacer ∷ []
 
 abbrev pub server_kind : List ℕ → Option Kind
 server_kind text = find (λ kind. bytes_eq text (kind_text kind)) server_kinds
@@ -91,3 +92,10 @@ grid_of rows cols ids = if is_none (grid_fault rows cols ids) then Some (make_gr
 
 abbrev pub members_word : Cluster → ℕ → ℕ → List ℕ → Result Shape LineFault
 members_word c rows cols word = ok_or (option_and_then (grid_of rows cols) (ids_of c.acceptors (slice_split (λ b. b == 44) word))) Grid
+
+-- a,b,..: a set of matchmakers of the cluster, 2f + 1 ids that rise
+abbrev pub set_in : Cluster → List ℕ → Option (List ℕ)
+set_in c ids = if (length ids == 2 * c.f + 1) && is_rising ids then Some ids else None
+
+abbrev pub set_word : Cluster → List ℕ → Result (List ℕ) LineFault
+set_word c word = ok_or (option_and_then (set_in c) (ids_of c.pool (slice_split (λ b. b == 44) word))) Number

@@ -19,6 +19,7 @@ asker (Session client seq floor replica key) = Some (client, seq)
 asker (Deliver number cut) = None
 asker (Tick role) = None
 asker (event.Order leader order cut) = None
+asker (event.Replace replacer set cut) = None
 asker (Snap replica cut) = None
 asker (Crash role) = None
 asker (Restart role) = None
@@ -103,6 +104,7 @@ tells_no_floor (Session client seq floor replica key) = floor + 1 == seq
 tells_no_floor (Deliver number cut) = true
 tells_no_floor (Tick role) = true
 tells_no_floor (event.Order leader order cut) = true
+tells_no_floor (event.Replace replacer set cut) = true
 tells_no_floor (Snap replica cut) = true
 tells_no_floor (Crash role) = true
 tells_no_floor (Restart role) = true

@@ -1,7 +1,7 @@
 //! The event of a line.
 
 ghost use Rattle.std.specs.Prelude.{◌≡◌};
-ghost use Rattle.cx_script.specs.Grammar.{write_event, read_event, session_event, deliver_event, round_of, collect_event, snap_event, server_of, event_of, line_event};
+ghost use Rattle.cx_script.specs.Grammar.{write_event, read_event, session_event, deliver_event, round_of, collect_event, snap_event, replace_event, server_of, event_of, line_event};
 
 use crate::fault::LineFault;
 use crate::place::is;
@@ -109,6 +109,16 @@ fn snap_event(cluster: &Cluster, mut words: Words) -> Result<Event, LineFault>
     Ok(Event::Snap { replica, cut })
 }
 
+#[tactic(auto, unfolding(crate::specs::Grammar::replace_event))]
+fn replace_event(cluster: &Cluster, mut words: Words) -> Result<Event, LineFault>
+    ensures { result ≡ replace_event cluster.now words.entry }
+{
+    let replacer = words.index(cluster, Kind::Replacer)?;
+    let set = words.set(cluster)?;
+    let cut = words.cut()?;
+    Ok(Event::Replace { replacer, set, cut })
+}
+
 #[tactic(auto, unfolding(crate::specs::Grammar::server_of))]
 fn server(cluster: &Cluster, mut words: Words) -> Result<RoleId, LineFault>
     ensures { result ≡ server_of cluster.now words.entry }
@@ -144,6 +154,8 @@ fn event(cluster: &Cluster, verb: &[u8], words: Words) -> Result<Event, LineFaul
         collect_event(cluster, words)
     } else if is(verb, "snap") {
         snap_event(cluster, words)
+    } else if is(verb, "replace") {
+        replace_event(cluster, words)
     } else if is(verb, "crash") {
         Ok(Event::Crash(server(cluster, words)?))
     } else if is(verb, "restart") {
@@ -165,11 +177,12 @@ fn event(cluster: &Cluster, verb: &[u8], words: Words) -> Result<Event, LineFaul
 /// - `lead leader:L RxC A,B,..` and `change leader:L RxC A,B,..`, the same with `torn` or `kept`
 /// - `collect leader:L`
 /// - `snap replica:P`, the same with `torn` or `kept`
+/// - `replace replacer:X A,B,..`, the same with `torn` or `kept`
 /// - `tick ROLE`, `crash ROLE` and `restart ROLE`, any role but a client
 ///
 /// Numbers are decimal digits, of 64 bits at most. SEQ is a request's number, at least 1, or its number and its floor, as in
 /// `5/3`: the floor is below the number, and at most 64 below it. A number alone has the number before it for a floor. K is a
-/// key and T a text; a grid has R rows and C columns. Every name lies in the cluster. A line of more than 1,024 bytes is too
+/// key and T a text; a grid has R rows and C columns; a set of matchmakers has 2f + 1 of them, its ids strictly rising. Every name lies in the cluster. A line of more than 1,024 bytes is too
 /// long, also a comment; else the first word from the left that its place doesn't take names the fault. Sides of a grid that no
 /// members fill are refused before the members are looked at.
 #[tactic(auto, unfolding(crate::specs::Grammar::line_event))]

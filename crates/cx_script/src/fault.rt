@@ -9,7 +9,8 @@ pub enum LineFault {
     /// The line has more than 1,024 bytes.
     #[error("line above 1,024 bytes")]
     Long,
-    /// No number of decimal digits, or one outside its range, which for a floor depends on the request's number.
+    /// No number of decimal digits, or one outside its range, which for a floor depends on the request's number. In the place of
+    /// a set of matchmakers also other than 2f + 1 ids of the cluster's that rise.
     #[error("no number, or out of range")]
     Number,
     /// No role's text, another kind of role than the place has, or a role outside the cluster.

@@ -22,6 +22,8 @@ pub fn gen_cluster() -> Cluster
         clients: 4,
         batch: 2,
         base_port: None,
+        pool: 3,
+        replacers: 0,
     }
 }
 

@@ -32,8 +32,8 @@ pub fn sides_word(word: &[u8]) -> Result<(u8, u8), LineFault>
     }
 }
 
-// The members, all below a count, or None where one isn't, or there are too many for a grid.
-fn ids(count: u16, word: &[u8]) -> Option<ArrayVec<u16, MEMBERS>>
+/// The ids that a word spells, all below a count, or None where one isn't, or there are more than a grid has members.
+pub fn ids(count: u16, word: &[u8]) -> Option<ArrayVec<u16, MEMBERS>>
     ensures { MatchOption result
         (IfSome (ids_of count (slice_split (λ b. b == 44) word.now)) (λ ids. 16 < length ids))
         (λ ids. ids_of count (slice_split (λ b. b == 44) word.now) ≡ Some ids.items) }

@@ -15,6 +15,7 @@ mod law;
 mod lines;
 mod place;
 mod requests;
+mod set;
 mod split;
 mod unended;
 mod words;

@@ -100,7 +100,7 @@ pub fn index_word(cluster: &Cluster, kind: Kind, word: &[u8]) -> Result<u16, Lin
 }
 
 /// The kinds of roles that may stop, restart and tick: all but clients.
-const SERVERS: [Kind; 8] = [
+const SERVERS: [Kind; 9] = [
     Kind::Batcher,
     Kind::Leader,
     Kind::Proxy,
@@ -109,6 +109,7 @@ const SERVERS: [Kind; 8] = [
     Kind::Replica,
     Kind::Unbatcher,
     Kind::Reader,
+    Kind::Replacer,
 ];
 
 fn server_kind(name: &[u8]) -> Option<Kind>

@@ -3,14 +3,15 @@
 ghost use Rattle.std.specs.Prelude.{◌≡◌, ◌∷◌, [], MatchResult};
 ghost use Rattle.cx_script.specs.declared.fault.LineFault.TheVariants.{Word};
 ghost use Rattle.cx_script.specs.Grammar.{next, grid_at, op_at, ended, cut_at};
-ghost use Rattle.cx_script.specs.Places.{seq_word, number_word, key_word, text_word, index_word, server_word};
+ghost use Rattle.cx_script.specs.Places.{seq_word, number_word, key_word, text_word, index_word, server_word, set_word};
 ghost use Rattle.cx_script.specs.Reading.{Reads};
 
 use crate::fault::LineFault;
 use crate::grid::{members_word, sides_word};
 use crate::place::{index_word, is, key_word, number_word, seq_word, server_word, text_word};
+use crate::set::set_word;
 use crate::split::first_word;
-use cx_base::{Cluster, Cut, Grid, Key, Kind, Op, RoleId, Text};
+use cx_base::{Cluster, Cut, Grid, Key, Kind, Op, RoleId, Set, Text};
 use std::marker::Model;
 
 /// The words of a line that are not read yet.
@@ -96,6 +97,13 @@ impl<'a> Words<'a> {
     {
         let (rows, cols) = sides_word(self.next()?)?;
         members_word(cluster, rows, cols, self.next()?)
+    }
+
+    /// A set of matchmakers.
+    pub fn set(&mut self, cluster: &Cluster) -> Result<Set, LineFault>
+        ensures { Reads result self.new (next (set_word cluster.now) self.old) }
+    {
+        set_word(cluster, self.next()?)
     }
 
     /// What to do: `put K T`, `del K` or `app K T`.

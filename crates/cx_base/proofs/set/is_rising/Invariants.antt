@@ -1,0 +1,6 @@
+use Rattle.std.proofs.Common.{◌≡◌, drop}
+use Rattle.cx_base.specs.Sets.{is_rising}
+use Rattle.cx_base.proofs.set.is_rising.Given as goal
+
+abbrev pub invariant-loop-place : goal.invariant-loop-place
+invariant-loop-place l = is_rising (drop l.place l.ids) ≡ is_rising l.ids
