@@ -226,8 +226,8 @@ def shorter(data, k):
     return data[:10] + (k - 12).to_bytes(2, "big") + data[12:k]
 
 
-def datagram_entry(message, sender):
-    d = Datagram(RoleId(sender, index()), RoleId(message.tos[0], index()), message)
+def datagram_entry(message, sender, getter=None):
+    d = Datagram(RoleId(sender, index()), RoleId(getter or message.tos[0], index()), message)
     data = wire.encode(d)
     assert wire.decode(data) == d
     for k in range(len(data)):
@@ -312,16 +312,49 @@ def turns():
         yield record_entry(rec)
 
 
+def some_set(size=None):
+    """Ids of matchmakers, rising."""
+    return tuple(sorted(pick.sample([*range(12), 63, 255, 256, U16], size or pick.choice([1, 3, 5, 7]))))
+
+
+def replacing():
+    """The datagrams by which matchmakers are replaced, of the kinds 30 to 37, four of each, and the records of the tags 12 to 15, four of each."""
+    widest = tuple(U16 - n for n in range(6, -1, -1))
+    messages = [
+        *[M.StopA(r) for r in (Round(1, 0, 0), Round(U32, U16, U32), some_round(), some_round())],
+        M.StopB(Round(1, 0, 0), ZERO, (), ZERO, ()), M.StopB(some_round(), some_round(), entries(1), Round(U32, U16, U32), widest),
+        M.StopB(some_round(), ZERO, entries(17), ZERO, ()), M.StopB(some_round(), some_round(), entries(2), Round(1, 0, 0), (0,)),
+        *[M.StopNack(r, some_round()) for r in (Round(1, 0, 0), Round(U32, U16, U32), some_round(), some_round())],
+        *[M.NextA(some_round(), s) for s in (some_set(1), widest, some_set(3), ())],
+        *[M.NextB(r) for r in (Round(1, 0, 0), Round(U32, U16, U32), some_round(), some_round())],
+        M.BootA((1,), ZERO, ()), M.BootA(widest, some_round(), entries(1)), M.BootA(some_set(5), some_round(), entries(17)), M.BootA((), ZERO, entries(2)),
+        *[M.BootB(s) for s in ((0,), widest, some_set(3), ())],
+    ]
+    for message in messages:
+        yield datagram_entry(message, message.froms[0])
+    for i, s in enumerate(((1,), widest, some_set(3), ())):
+        message = M.Sets(s)
+        yield datagram_entry(message, message.froms[0], message.tos[i % len(message.tos)])
+    for rec in [
+        *[R.Ballot(r) for r in (Round(1, 0, 0), Round(U32, U16, U32), some_round(), some_round())],
+        *[R.Stop(r) for r in (Round(1, 0, 0), Round(U32, U16, U32), some_round(), some_round())],
+        *[R.Next(some_round(), s) for s in (some_set(1), widest, some_set(5), ())],
+        R.Boot((1,), ZERO, ()), R.Boot(widest, some_round(), entries(17)), R.Boot(some_set(3), some_round(), entries(1)), R.Boot((), ZERO, entries(2)),
+    ]:
+        yield record_entry(rec)
+
+
 print("""\
 //! Bytes of datagrams and records, as another implementation of the format writes them: tools/vectors.py prints this file.
 
 /// Datagrams of the kinds 1 to 29, eight of each, then records of the first seven tags, six of each, then ten datagrams and two
 /// records whose commands tell floors, then records of the tags 8 to 11, six of each, then eight datagrams of the last kind, 38,
-/// and then six records of the last tag, 16, in hexadecimal. A semicolon ends an entry. A mark `_` stands where a basic field of
-/// the body begins, as the other implementation says where it meets a cut.
+/// then six records of the last tag, 16, and then datagrams of the kinds 30 to 37 and records of the tags 12 to 15, four of each,
+/// in hexadecimal. A semicolon ends an entry. A mark `_` stands where a basic field of the body begins, as the other
+/// implementation says where it meets a cut.
 pub const ENTRIES: &str = "\
 """)
-for entry in [*datagrams(), *records(), *floors(), *renewed(), *sessions(), *turns()]:
+for entry in [*datagrams(), *records(), *floors(), *renewed(), *sessions(), *turns(), *replacing()]:
     entry += ";"
     for i in range(0, len(entry), WIDTH):
         print(entry[i:i + WIDTH])

@@ -6,7 +6,7 @@ use Rattle.std.proofs.lemmas.List.{append-nil, nil_from_length, length-append}
 use Rattle.std.specs.List.{list_any, list_all}
 use Rattle.cx_base.specs.Role.{code_of, kind_of}
 use Rattle.cx_base.specs.declared.role.Kind.{Kind}
-use Rattle.cx_base.specs.declared.role.Kind.TheVariants.{Client, Batcher, Leader, Proxy, Acceptor, Matchmaker, Replica, Unbatcher, Reader}
+use Rattle.cx_base.specs.declared.role.Kind.TheVariants.{Client, Batcher, Leader, Proxy, Acceptor, Matchmaker, Replica, Unbatcher, Reader, Replacer}
 use Rattle.cx_wire.specs.Format.{Miss, u8, u16, ◌▷◌, by_tag}
 use Rattle.cx_wire.proofs.Laws.{IsBytes, IsExact, u8-exact, u16-exact, ▷-exact, shaped-exact, by_tag-takes, both, ok_is, tag_fits}
 use Rattle.cx_msg.specs.Messages.{body_shape, body_with, cases_with, tells_floors, version_of}
@@ -14,7 +14,7 @@ use Rattle.cx_msg.specs.Letter.{Letter, is_kind, senders, receivers, is_listed, 
 use Rattle.cx_msg.specs.Decoding.{finished, after_header, with_header, decoded}
 use Rattle.cx_msg.specs.Decodes.{Decodes}
 use Rattle.cx_msg.specs.declared.message.Msg.{Msg}
-use Rattle.cx_msg.specs.declared.message.Msg.TheVariants.{Leads, MatchA, MatchNack, Phase1A, Nack, Phase2B, Chosen, ChosenIn, Held, Fetch, Inform, Informed, GarbageA, GarbageB, ReadReq, MatchRead, MatchReadAck, PreRead, PreReadAck, Read, Phase2A, Submit, Batch, MatchB, Phase1B, Propose, Results, Answer, ReadAnswer, SessRead}
+use Rattle.cx_msg.specs.declared.message.Msg.TheVariants.{Leads, MatchA, MatchNack, Phase1A, Nack, Phase2B, Chosen, ChosenIn, Held, Fetch, Inform, Informed, GarbageA, GarbageB, ReadReq, MatchRead, MatchReadAck, PreRead, PreReadAck, Read, Phase2A, Submit, Batch, MatchB, Phase1B, Propose, Results, Answer, ReadAnswer, SessRead, StopA, StopB, StopNack, NextA, NextB, BootA, BootB, Sets}
 use Rattle.cx_msg.specs.declared.header.Header.{Header}
 use Rattle.cx_msg.specs.declared.fault.WireFault.{WireFault}
 use Rattle.cx_msg.specs.declared.fault.WireFault.TheVariants as faults
@@ -57,7 +57,7 @@ either false b h = inr h
 
 -- ---- roles
 
-code_back : (c : ℕ) → 1 ≤ c → c ≤ 9 → code_of (kind_of c) ≡ c
+code_back : (c : ℕ) → 1 ≤ c → c ≤ 10 → code_of (kind_of c) ≡ c
 code_back zero low high = absurd (omega arith)
 code_back (suc zero) low high = refl
 code_back (suc (suc zero)) low high = refl
@@ -68,7 +68,8 @@ code_back (suc (suc (suc (suc (suc (suc zero)))))) low high = refl
 code_back (suc (suc (suc (suc (suc (suc (suc zero))))))) low high = refl
 code_back (suc (suc (suc (suc (suc (suc (suc (suc zero)))))))) low high = refl
 code_back (suc (suc (suc (suc (suc (suc (suc (suc (suc zero))))))))) low high = refl
-code_back (suc (suc (suc (suc (suc (suc (suc (suc (suc (suc c)))))))))) low high = absurd (omega arith)
+code_back (suc (suc (suc (suc (suc (suc (suc (suc (suc (suc zero)))))))))) low high = refl
+code_back (suc (suc (suc (suc (suc (suc (suc (suc (suc (suc (suc c))))))))))) low high = absurd (omega arith)
 
 kind_back : (k : Kind) → kind_of (code_of k) ≡ k
 kind_back Client = refl
@@ -80,21 +81,22 @@ kind_back Matchmaker = refl
 kind_back Replica = refl
 kind_back Unbatcher = refl
 kind_back Reader = refl
+kind_back Replacer = refl
 
 are_codes : List (ℕ × ℕ) → Bool
-are_codes ps = list_all (λ (p : ℕ × ℕ). not (ltb p.1 1) && not (ltb 9 p.1)) ps
+are_codes ps = list_all (λ (p : ℕ × ℕ). not (ltb p.1 1) && not (ltb 10 p.1)) ps
 
-in_range : (ps : List (ℕ × ℕ)) (kind code : ℕ) → are_codes ps ≡ true → list_any (λ (p : ℕ × ℕ). eqb p.0 kind && eqb p.1 code) ps ≡ true → (1 ≤ code) × (code ≤ 9)
+in_range : (ps : List (ℕ × ℕ)) (kind code : ℕ) → are_codes ps ≡ true → list_any (λ (p : ℕ × ℕ). eqb p.0 kind && eqb p.1 code) ps ≡ true → (1 ≤ code) × (code ≤ 10)
 unfolding are_codes
 in_range [] kind code codes h = absurd cc
 in_range (p ∷ ps) kind code codes h =
-    let c = both (not (ltb p.1 1) && not (ltb 9 p.1)) (list_all (λ (q : ℕ × ℕ). not (ltb q.1 1) && not (ltb 9 q.1)) ps) codes in
-    let d = both (not (ltb p.1 1)) (not (ltb 9 p.1)) c.0 in
+    let c = both (not (ltb p.1 1) && not (ltb 10 p.1)) (list_all (λ (q : ℕ × ℕ). not (ltb q.1 1) && not (ltb 10 q.1)) ps) codes in
+    let d = both (not (ltb p.1 1)) (not (ltb 10 p.1)) c.0 in
     elim (either (eqb p.0 kind && eqb p.1 code) (list_any (λ (q : ℕ × ℕ). eqb q.0 kind && eqb q.1 code) ps) h) [
       | inl here ↦
           let e = eqb-true _ _ (both (eqb p.0 kind) (eqb p.1 code) here).1 in
           let low : 1 ≤ p.1 = ltb-false _ _ (fails (ltb p.1 1) d.0) in
-          let high : p.1 ≤ 9 = ltb-false _ _ (fails (ltb 9 p.1) d.1) in
+          let high : p.1 ≤ 10 = ltb-false _ _ (fails (ltb 10 p.1) d.1) in
           (omega arith, omega arith)
       | inr there ↦ in_range ps kind code c.1 there
     ]
@@ -238,6 +240,14 @@ has_kind (Propose r g s cw v) = refl
 has_kind (Results s as') = refl
 has_kind (Answer q n r) = refl
 has_kind (ReadAnswer q n t) = refl
+has_kind (StopA a) = refl
+has_kind (StopB r w es a s) = refl
+has_kind (StopNack a b) = refl
+has_kind (NextA a b) = refl
+has_kind (NextB a) = refl
+has_kind (BootA s w es) = refl
+has_kind (BootB a) = refl
+has_kind (Sets a) = refl
 has_kind (SessRead q n key) = refl
 
 same_datagram : (d : Letter) → datagram_of (header_of d) d.msg ≡ d
@@ -247,11 +257,7 @@ same_datagram d =
     ap with_from (kind_back d.from.kind) ∙ ap with_to (kind_back d.to.kind)
 
 small_kind : (kind : ℕ) → is_kind kind ≡ true → kind < 256
-small_kind kind h =
-    elim (either (nat_le 1 kind && nat_le kind 29) (eqb kind 38) h) [
-      | inl few ↦ (let le : kind ≤ 29 = leb-true _ _ (both (nat_le 1 kind) (nat_le kind 29) few).1 in omega arith)
-      | inr one ↦ (let e = eqb-true _ _ one in omega arith)
-    ]
+small_kind kind h = let le : kind ≤ 38 = leb-true _ _ (both (nat_le 1 kind) (nat_le kind 38) h).1 in omega arith
 
 pub small_tag : (m : Msg) → (body_shape m).tag < 256
 small_tag m = small_kind (body_shape m).tag (has_kind m)
@@ -266,6 +272,7 @@ small_code Matchmaker = lit< tt
 small_code Replica = lit< tt
 small_code Unbatcher = lit< tt
 small_code Reader = lit< tt
+small_code Replacer = lit< tt
 
 short_fits : (n : ℕ) → n < 65536 → u16.fits n ≡ true
 unfolding u16

@@ -3,19 +3,19 @@ use Rattle.std.proofs.Common.{◌≡◌, ℕ, Bool, true, false, ◌&&◌, ◌||
 use Rattle.std.proofs.lemmas.Bool.{eqb-true}
 use Rattle.cx_base.specs.Role.{role, code_of, kind_of}
 use Rattle.cx_base.specs.declared.role.Kind.{Kind}
-use Rattle.cx_base.specs.declared.role.Kind.TheVariants.{Client, Batcher, Leader, Proxy, Acceptor, Matchmaker, Replica, Unbatcher, Reader}
+use Rattle.cx_base.specs.declared.role.Kind.TheVariants.{Client, Batcher, Leader, Proxy, Acceptor, Matchmaker, Replica, Unbatcher, Reader, Replacer}
 use Rattle.cx_base.specs.declared.role.RoleId.{RoleId}
 use Rattle.cx_wire.specs.Format.{u8, u16, u32, u64}
 use Rattle.cx_wire.proofs.Laws.{both}
-use Rattle.cx_field.specs.Fields.{slot, mark, at, seq, round, round0, grid, name, command, commands, value, reply, in_window, entries, votes, answers, found, reason, token, asking, values, pairs, notes}
-use Rattle.cx_msg.specs.Messages.{body_shape, answer, match_b, match_nack, match_read_ack, nack, phase1b, phase2a, pre_read, pre_read_ack, propose, read_answer, read_key, read_req, results, round_slot, sess_read, slot_value}
+use Rattle.cx_field.specs.Fields.{slot, mark, at, seq, round, round0, grid, name, command, commands, value, reply, in_window, entries, joined, set, accepted_set, votes, answers, found, reason, token, asking, values, pairs, notes}
+use Rattle.cx_msg.specs.Messages.{body_shape, answer, match_b, match_nack, match_read_ack, nack, phase1b, phase2a, pre_read, pre_read_ack, propose, read_answer, read_key, read_req, results, round_slot, sess_read, slot_value, stop_b}
 use Rattle.cx_msg.specs.Letter.{Letter, letter, senders, receivers, is_listed, fits}
 use Rattle.cx_msg.specs.LetterParts.{PartsFit}
 use Rattle.cx_msg.specs.Records.{fits as record_fits}
 use Rattle.cx_msg.specs.declared.kept.Record.{Record}
 use Rattle.cx_msg.specs.declared.kept.Record.TheVariants as kept
 use Rattle.cx_msg.specs.declared.message.Msg.{Msg}
-use Rattle.cx_msg.specs.declared.message.Msg.TheVariants.{Submit, Batch, Leads, MatchA, MatchB, MatchNack, Phase1A, Phase1B, Nack, Propose, Phase2A, Phase2B, Chosen, ChosenIn, Results, Answer, Held, Fetch, Inform, Informed, GarbageA, GarbageB, ReadReq, MatchRead, MatchReadAck, PreRead, PreReadAck, Read, ReadAnswer, SessRead}
+use Rattle.cx_msg.specs.declared.message.Msg.TheVariants.{Submit, Batch, Leads, MatchA, MatchB, MatchNack, Phase1A, Phase1B, Nack, Propose, Phase2A, Phase2B, Chosen, ChosenIn, Results, Answer, Held, Fetch, Inform, Informed, GarbageA, GarbageB, ReadReq, MatchRead, MatchReadAck, PreRead, PreReadAck, Read, ReadAnswer, SessRead, StopA, StopB, StopNack, NextA, NextB, BootA, BootB, Sets}
 
 same_kind : (k : Kind) → k ≡ kind_of (code_of k)
 same_kind Client = refl
@@ -27,6 +27,7 @@ same_kind Matchmaker = refl
 same_kind Replica = refl
 same_kind Unbatcher = refl
 same_kind Reader = refl
+same_kind Replacer = refl
 
 only_first : (b : Bool) → (b || false) ≡ true → b ≡ true
 only_first true h = refl
@@ -60,7 +61,7 @@ fitting d h =
 
 -- each part of a datagram that fits is in its range, and its roles are of its kind
 pub parts : (from to : RoleId) (m : Msg) → IsTrue (fits (letter from to m)) → PartsFit from to m
-unfolding command commands value votes match_b match_nack phase1b nack propose phase2a round_slot slot_value results answer read_req match_read_ack pre_read pre_read_ack read_key read_answer sess_read
+unfolding command commands value votes match_b match_nack phase1b nack propose phase2a round_slot slot_value results answer read_req match_read_ack pre_read pre_read_ack read_key read_answer stop_b sess_read
 parts from to (Submit c) h =
     let f = fitting (letter from to (Submit c)) h in
     (record { sent = listed_role from 1 f.from; received = listed_role to 2 f.to }, f.msg)
@@ -185,6 +186,38 @@ parts from to (ReadAnswer sq n text) h =
     let p = both (seq.fits sq) (mark.fits n && found.fits text) f.msg in
     let q = both (mark.fits n) (found.fits text) p.1 in
     (record { sent = listed_role from 7 f.from; received = listed_role to 1 f.to }, p.0, q.0, q.1)
+parts from to (StopA r) h =
+    let f = fitting (letter from to (StopA r)) h in
+    (record { sent = listed_role from 10 f.from; received = listed_role to 6 f.to }, f.msg)
+parts from to (StopB r w es a s) h =
+    let f = fitting (letter from to (StopB r w es a s)) h in
+    let p = both (round.fits r) (round0.fits w && (entries.fits es && (round0.fits a && (accepted_set a).fits s))) f.msg in
+    let q = both (round0.fits w) (entries.fits es && (round0.fits a && (accepted_set a).fits s)) p.1 in
+    let t = both (entries.fits es) (round0.fits a && (accepted_set a).fits s) q.1 in
+    let u = both (round0.fits a) ((accepted_set a).fits s) t.1 in
+    (record { sent = listed_role from 6 f.from; received = listed_role to 10 f.to }, p.0, q.0, t.0, u.0, u.1)
+parts from to (StopNack r other) h =
+    let f = fitting (letter from to (StopNack r other)) h in
+    let p = both (round.fits r) (round.fits other) f.msg in
+    (record { sent = listed_role from 6 f.from; received = listed_role to 10 f.to }, p.0, p.1)
+parts from to (NextA r s) h =
+    let f = fitting (letter from to (NextA r s)) h in
+    let p = both (round.fits r) (set.fits s) f.msg in
+    (record { sent = listed_role from 10 f.from; received = listed_role to 6 f.to }, p.0, p.1)
+parts from to (NextB r) h =
+    let f = fitting (letter from to (NextB r)) h in
+    (record { sent = listed_role from 6 f.from; received = listed_role to 10 f.to }, f.msg)
+parts from to (BootA s w es) h =
+    let f = fitting (letter from to (BootA s w es)) h in
+    let p = both (set.fits s) (round0.fits w && joined.fits es) f.msg in
+    let q = both (round0.fits w) (joined.fits es) p.1 in
+    (record { sent = listed_role from 10 f.from; received = listed_role to 6 f.to }, p.0, q.0, q.1)
+parts from to (BootB s) h =
+    let f = fitting (letter from to (BootB s)) h in
+    (record { sent = listed_role from 6 f.from; received = listed_role to 10 f.to }, f.msg)
+parts from to (Sets s) h =
+    let f = fitting (letter from to (Sets s)) h in
+    (listed_role from 10 f.from, f.msg)
 parts from to (SessRead sq n key) h =
     let f = fitting (letter from to (SessRead sq n key)) h in
     let p = both (seq.fits sq) (mark.fits n && (name 32).fits key) f.msg in
@@ -204,6 +237,10 @@ RecordPartsFit (kept.Base f h p c) = IsTrue (mark.fits f) × IsTrue (mark.fits h
 RecordPartsFit (kept.Pairs ps) = IsTrue (pairs.fits ps)
 RecordPartsFit (kept.Notes c f ns) = IsTrue (u16.fits c) × IsTrue (u64.fits f) × IsTrue (notes.fits ns)
 RecordPartsFit (kept.Tail vs) = IsTrue (values.fits vs)
+RecordPartsFit (kept.Ballot r) = IsTrue (round.fits r)
+RecordPartsFit (kept.Stop r) = IsTrue (round.fits r)
+RecordPartsFit (kept.Next r s) = IsTrue (round.fits r) × IsTrue (set.fits s)
+RecordPartsFit (kept.Boot s w es) = IsTrue (set.fits s) × IsTrue (round0.fits w) × IsTrue (joined.fits es)
 RecordPartsFit (kept.Turn n) = IsTrue (seq.fits n)
 
 pub record_parts : (r : Record) → IsTrue (record_fits r) → RecordPartsFit r
@@ -229,4 +266,11 @@ record_parts (kept.Notes c f ns) h =
     let q = both (u64.fits f) (notes.fits ns) t.1 in
     (t.0, q.0, q.1)
 record_parts (kept.Tail vs) h = h
+record_parts (kept.Ballot r) h = h
+record_parts (kept.Stop r) h = h
+record_parts (kept.Next r s) h = both (round.fits r) (set.fits s) h
+record_parts (kept.Boot s w es) h =
+    let p = both (set.fits s) (round0.fits w && joined.fits es) h in
+    let q = both (round0.fits w) (joined.fits es) p.1 in
+    (p.0, q.0, q.1)
 record_parts (kept.Turn n) h = h

@@ -1,17 +1,17 @@
 -- What decodes as a record is spelled so, and what is spelled decodes.
-use Rattle.std.proofs.Common.{◌≡◌, ℕ, ◌<◌, Bool, true, false, ◌&&◌, not, cond, List, [], ◌∷◌, ◌++◌, length, Result, Ok, Err, refl, sym, ap, ◌∙◌, lit<}
+use Rattle.std.proofs.Common.{◌≡◌, ℕ, ◌<◌, Bool, true, false, not, cond, List, [], ◌∷◌, ◌++◌, length, Result, Ok, Err, refl, sym, ap, ◌∙◌, lit<}
 use Rattle.std.specs.Prelude.{IfOk, IsTrue}
 use Rattle.std.proofs.lemmas.List.{append-nil}
 use Rattle.cx_wire.specs.Format.{Miss, u8, u16, u32, u64, ◌▷◌, by_tag}
 use Rattle.cx_wire.proofs.Laws.{IsBytes, IsExact, Takes-then, u8-exact, u16-exact, u32-exact, u64-exact, ▷-exact, case-sound, case-again, AllSound, ReadsAgain, by_tag-takes, tag_fits}
-use Rattle.cx_field.specs.Fields.{slot, mark, seq, round, grid, value, values, pairs, notes}
-use Rattle.cx_msg.specs.Records.{vote, round_mark, round_grid, base, client_notes, record_shape, record_cases, kept_record, fits, spelling, is_tag, ended, with_tag, recorded}
+use Rattle.cx_field.specs.Fields.{slot, mark, seq, round, round0, grid, value, values, pairs, notes, joined, set}
+use Rattle.cx_msg.specs.Records.{vote, round_mark, round_grid, base, client_notes, round_set, boot, record_shape, record_cases, kept_record, fits, spelling, is_tag, ended, with_tag, recorded}
 use Rattle.cx_msg.specs.Decodes.{Decodes}
 use Rattle.cx_msg.specs.declared.kept.Record.{Record}
 use Rattle.cx_msg.specs.declared.kept.Record.TheVariants as kept
 use Rattle.cx_msg.specs.declared.fault.WireFault.{WireFault}
 use Rattle.cx_msg.specs.declared.fault.WireFault.TheVariants as faults
-use Rattle.cx_field.proofs.FieldLaws.{slot-exact, mark-exact, seq-exact, round-exact, grid-exact, value-exact, values-exact, pairs-exact, notes-exact}
+use Rattle.cx_field.proofs.FieldLaws.{slot-exact, mark-exact, seq-exact, round-exact, round0-exact, grid-exact, value-exact, values-exact, pairs-exact, notes-exact, joined-exact, set-exact}
 
 vote-exact : IsExact vote
 vote-exact = ▷-exact round (slot ▷ (mark ▷ value)) round-exact (▷-exact slot (mark ▷ value) slot-exact (▷-exact mark value mark-exact value-exact))
@@ -27,6 +27,12 @@ base-exact = ▷-exact mark (mark ▷ (u32 ▷ u8)) mark-exact (▷-exact mark (
 
 client_notes-exact : IsExact client_notes
 client_notes-exact = ▷-exact u16 (u64 ▷ notes) u16-exact (▷-exact u64 notes u64-exact notes-exact)
+
+pub round_set-exact : IsExact round_set
+round_set-exact = ▷-exact round set round-exact set-exact
+
+pub boot-exact : IsExact boot
+boot-exact = ▷-exact set (round0 ▷ joined) set-exact (▷-exact round0 joined round0-exact joined-exact)
 
 pub records-sound : AllSound record_shape record_cases
 unfolding record_cases
@@ -52,7 +58,19 @@ records-sound = (
                     case-sound record_shape 10 client_notes (λ x. kept.Notes x.0 x.1.0 x.1.1) client_notes-exact (λ _. refl),
                     (
                       case-sound record_shape 11 values (λ x. kept.Tail x) values-exact (λ _. refl),
-                      (case-sound record_shape 16 seq (λ x. kept.Turn x) seq-exact (λ _. refl), tt),
+                      (
+                        case-sound record_shape 12 round (λ x. kept.Ballot x) round-exact (λ _. refl),
+                        (
+                          case-sound record_shape 13 round (λ x. kept.Stop x) round-exact (λ _. refl),
+                          (
+                            case-sound record_shape 14 round_set (λ x. kept.Next x.0 x.1) round_set-exact (λ _. refl),
+                            (
+                              case-sound record_shape 15 boot (λ x. kept.Boot x.0 x.1.0 x.1.1) boot-exact (λ _. refl),
+                              (case-sound record_shape 16 seq (λ x. kept.Turn x) seq-exact (λ _. refl), tt),
+                            ),
+                          ),
+                        ),
+                      ),
                     ),
                   ),
                 ),
@@ -78,6 +96,10 @@ record-again (kept.Base f h p c) left rest fits = case-again {A = Record} 8 base
 record-again (kept.Pairs ps) left rest fits = case-again {A = Record} 9 pairs (λ x. kept.Pairs x) ps rest pairs-exact fits
 record-again (kept.Notes c f ns) left rest fits = case-again {A = Record} 10 client_notes (λ x. kept.Notes x.0 x.1.0 x.1.1) (c, (f, ns)) rest client_notes-exact fits
 record-again (kept.Tail vs) left rest fits = case-again {A = Record} 11 values (λ x. kept.Tail x) vs rest values-exact fits
+record-again (kept.Ballot r) left rest fits = case-again {A = Record} 12 round (λ x. kept.Ballot x) r rest round-exact fits
+record-again (kept.Stop r) left rest fits = case-again {A = Record} 13 round (λ x. kept.Stop x) r rest round-exact fits
+record-again (kept.Next r s) left rest fits = case-again {A = Record} 14 round_set (λ x. kept.Next x.0 x.1) (r, s) rest round_set-exact fits
+record-again (kept.Boot s w es) left rest fits = case-again {A = Record} 15 boot (λ x. kept.Boot x.0 x.1.0 x.1.1) (s, (w, es)) rest boot-exact fits
 record-again (kept.Turn n) left rest fits = case-again {A = Record} 16 seq (λ x. kept.Turn x) n rest seq-exact fits
 
 -- a record's tag is one
@@ -93,6 +115,10 @@ has_tag (kept.Base f h p c) = (refl, lit< tt)
 has_tag (kept.Pairs ps) = (refl, lit< tt)
 has_tag (kept.Notes c f ns) = (refl, lit< tt)
 has_tag (kept.Tail vs) = (refl, lit< tt)
+has_tag (kept.Ballot r) = (refl, lit< tt)
+has_tag (kept.Stop r) = (refl, lit< tt)
+has_tag (kept.Next r s) = (refl, lit< tt)
+has_tag (kept.Boot s w es) = (refl, lit< tt)
 has_tag (kept.Turn n) = (refl, lit< tt)
 
 past : (b : Bool) (e : WireFault) (r : Result Record WireFault) (x : Record) → cond (not b) (Err e) r ≡ Ok x → r ≡ Ok x

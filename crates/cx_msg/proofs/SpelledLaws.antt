@@ -7,7 +7,7 @@ use Rattle.std.proofs.lemmas.List.{append-nil}
 use Rattle.std.proofs.lemmas.Nat.{from_be_bytes-to_be_bytes_2}
 use Rattle.cx_base.specs.Role.{code_of, kind_of, role}
 use Rattle.cx_base.specs.declared.role.Kind.{Kind}
-use Rattle.cx_base.specs.declared.role.Kind.TheVariants.{Client, Batcher, Leader, Proxy, Acceptor, Matchmaker, Replica, Unbatcher, Reader}
+use Rattle.cx_base.specs.declared.role.Kind.TheVariants.{Client, Batcher, Leader, Proxy, Acceptor, Matchmaker, Replica, Unbatcher, Reader, Replacer}
 use Rattle.cx_base.specs.declared.role.RoleId.{RoleId}
 use Rattle.cx_wire.specs.Format.{Miss, bad, by_tag, cut, u8, u16}
 use Rattle.cx_field.specs.Reading.{Fails}
@@ -57,8 +57,9 @@ kind_again Matchmaker = refl
 kind_again Replica = refl
 kind_again Unbatcher = refl
 kind_again Reader = refl
+kind_again Replacer = refl
 
-code_low : (k : Kind) → code_of k % 256 ≤ 9
+code_low : (k : Kind) → code_of k % 256 ≤ 10
 code_low Client = lit≤ tt
 code_low Batcher = lit≤ tt
 code_low Leader = lit≤ tt
@@ -68,6 +69,7 @@ code_low Matchmaker = lit≤ tt
 code_low Replica = lit≤ tt
 code_low Unbatcher = lit≤ tt
 code_low Reader = lit≤ tt
+code_low Replacer = lit≤ tt
 
 role_again : (r : RoleId) → u16.fits r.index ≡ true → role (kind_of (code_of r.kind % 256)) (from_be_bytes w16 (to_be_bytes w16 r.index)) ≡ r
 unfolding u16
@@ -99,8 +101,8 @@ short_again d fit = record { in_range = subst (λ (x : Letter). IsTrue (fits x))
 -- what the code takes out of short bytes
 pub record Opened (bytes : List ℕ) : Type 0 where
   pub long : 7 ≤ length bytes
-  pub from : slice_index bytes 1 ≤ 9
-  pub to : slice_index bytes 4 ≤ 9
+  pub from : slice_index bytes 1 ≤ 10
+  pub to : slice_index bytes 4 ≤ 10
   pub is_spelled : IsSpelled (letter_of bytes) (slice_index bytes 0) (drop 7 bytes)
 
 open_short : (d : Letter) → fits d ≡ true → Opened (short d)

@@ -1,11 +1,12 @@
 -- Records of a journal as bytes.
-use Rattle.std.specs.Prelude.{◌≡◌, ℕ, ◌-◌, Bool, ◌&&◌, ◌||◌, ◌==◌, not, nat_le, nat_lt, if◌then◌else◌, List, [], ◌∷◌, length, Result, Ok, Err}
+use Rattle.std.specs.Prelude.{ℕ, ◌-◌, Bool, ◌&&◌, not, nat_le, nat_lt, if◌then◌else◌, List, [], ◌∷◌, length, Result, Ok, Err}
 use Rattle.cx_base.specs.Grid.{Shape as GridShape}
 use Rattle.cx_base.specs.declared.round.Round.{Round}
 use Rattle.cx_base.specs.declared.command.Value.{Value}
 use Rattle.cx_base.specs.declared.command.Note.{Note}
 use Rattle.cx_wire.specs.Format.{Format, Miss, u8, u16, u32, u64, ◌▷◌, by_tag, Shape, shape, Case, case, tagged}
-use Rattle.cx_field.specs.Fields.{slot, mark, seq, round, grid, value, values, pairs, notes}
+use Rattle.cx_field.specs.Fields.{slot, mark, seq, round, round0, grid, value, values, pairs, notes, joined, set}
+use Rattle.cx_field.specs.declared.parts.Entry.{Entry}
 use Rattle.cx_msg.specs.declared.kept.Record.{Record}
 use Rattle.cx_msg.specs.declared.kept.Record.TheVariants as kept
 use Rattle.cx_msg.specs.declared.fault.WireFault.{WireFault}
@@ -31,6 +32,14 @@ base = mark ▷ mark ▷ u32 ▷ u8
 abbrev pub client_notes : Format (ℕ × (ℕ × List Note))
 client_notes = u16 ▷ u64 ▷ notes
 
+-- a round and a set
+abbrev pub round_set : Format (Round × List ℕ)
+round_set = round ▷ set
+
+-- a set, a watermark and entries
+abbrev pub boot : Format (List ℕ × (Round × List Entry))
+boot = set ▷ round0 ▷ joined
+
 -- a record's tag and its fields
 abbrev pub record_shape : Record → Shape
 record_shape (kept.Promise r) = shape 1 round r
@@ -44,6 +53,10 @@ record_shape (kept.Base f h p c) = shape 8 base (f, (h, (p, c)))
 record_shape (kept.Pairs ps) = shape 9 pairs ps
 record_shape (kept.Notes c f ns) = shape 10 client_notes (c, (f, ns))
 record_shape (kept.Tail vs) = shape 11 values vs
+record_shape (kept.Ballot r) = shape 12 round r
+record_shape (kept.Stop r) = shape 13 round r
+record_shape (kept.Next r s) = shape 14 round_set (r, s)
+record_shape (kept.Boot s w es) = shape 15 boot (s, (w, es))
 record_shape (kept.Turn n) = shape 16 seq n
 
 -- how each tag's fields are read
@@ -60,6 +73,10 @@ record_cases =
     case 9 pairs (λ x. kept.Pairs x) ∷
     case 10 client_notes (λ x. kept.Notes x.0 x.1.0 x.1.1) ∷
     case 11 values (λ x. kept.Tail x) ∷
+    case 12 round (λ x. kept.Ballot x) ∷
+    case 13 round (λ x. kept.Stop x) ∷
+    case 14 round_set (λ x. kept.Next x.0 x.1) ∷
+    case 15 boot (λ x. kept.Boot x.0 x.1.0 x.1.1) ∷
     case 16 seq (λ x. kept.Turn x) ∷ []
 
 -- a record: its tag in one byte, and its fields
@@ -76,7 +93,7 @@ spelling r = kept_record.spell r
 
 -- whether a tag is one
 abbrev pub is_tag : ℕ → Bool
-is_tag tag = nat_le 1 tag && nat_le tag 11 || tag == 16
+is_tag tag = nat_le 1 tag && nat_le tag 16
 
 -- the record, once its fields are read, of this many bytes in all
 unfoldable pub ended : ℕ → ℕ → Result (Record × List ℕ) Miss → Result Record WireFault

@@ -11,9 +11,10 @@ ghost use Rattle.cx_field.specs.Reading.{Gives, Reads};
 use crate::message::Msg;
 use cx_base::WINDOW;
 use cx_field::{
-    ReadFault, Reader, answers_from, asking_from, at_from, command_from, commands_from,
-    entries_from, found_from, grid_from, mark_from, name_from, reason_from, reply_from, round_from,
-    round0_from, seq_from, slot_from, token_from, value_from, votes_from,
+    ReadFault, Reader, accepted_set_from, answers_from, asking_from, at_from, command_from,
+    commands_from, entries_from, found_from, grid_from, joined_from, mark_from, name_from,
+    reason_from, reply_from, round_from, round0_from, seq_from, set_from, slot_from, token_from,
+    value_from, votes_from,
 };
 use std::alloc::Global;
 
@@ -58,6 +59,14 @@ pub fn body_from(
         27 => pre_read_ack_from(reader),
         28 => read_from(reader),
         29 => read_answer_from(reader),
+        30 => stop_a_from(reader),
+        31 => stop_b_from(alloc, reader),
+        32 => stop_nack_from(reader),
+        33 => next_a_from(alloc, reader),
+        34 => next_b_from(reader),
+        35 => boot_a_from(alloc, reader),
+        36 => boot_b_from(alloc, reader),
+        37 => sets_from(alloc, reader),
         38 => sess_read_from(reader),
         _ => Err(ReadFault::Bad {
             left: reader.left(),
@@ -388,6 +397,87 @@ fn read_answer_from(reader: &mut Reader<'_>) -> Result<Msg, ReadFault>
     let mark = mark_from(reader)?;
     let found = found_from(reader)?;
     Ok(Msg::ReadAnswer { seq, mark, found })
+}
+
+fn stop_a_from(reader: &mut Reader<'_>) -> Result<Msg, ReadFault>
+    ensures { Gives (λ m. m) result ((wire.case 30 field.round (λ x. Msg.StopA x)).read reader.old) reader.new }
+{
+    let round = round_from(reader)?;
+    Ok(Msg::StopA { round })
+}
+
+#[tactic(auto, unfolding(crate::specs::Messages::stop_b))]
+fn stop_b_from(alloc: Global, reader: &mut Reader<'_>) -> Result<Msg, ReadFault>
+    ensures { Gives (λ m. m) result
+        ((wire.case 31 message.stop_b
+        (λ x. Msg.StopB x.0 x.1.0 x.1.1.0 x.1.1.1.0 x.1.1.1.1)).read reader.old) reader.new }
+{
+    let round = round_from(reader)?;
+    let watermark = round0_from(reader)?;
+    let entries = entries_from(alloc, reader)?;
+    let accepted = round0_from(reader)?;
+    let set = accepted_set_from(alloc, &accepted, reader)?;
+    Ok(Msg::StopB {
+        round,
+        watermark,
+        entries,
+        accepted,
+        set,
+    })
+}
+
+#[tactic(auto, unfolding(crate::specs::Messages::nack))]
+fn stop_nack_from(reader: &mut Reader<'_>) -> Result<Msg, ReadFault>
+    ensures { Gives (λ m. m) result
+        ((wire.case 32 message.nack (λ x. Msg.StopNack x.0 x.1)).read reader.old) reader.new }
+{
+    let round = round_from(reader)?;
+    let other = round_from(reader)?;
+    Ok(Msg::StopNack { round, other })
+}
+
+fn next_a_from(alloc: Global, reader: &mut Reader<'_>) -> Result<Msg, ReadFault>
+    ensures { Gives (λ m. m) result
+        ((wire.case 33 records.round_set (λ x. Msg.NextA x.0 x.1)).read reader.old) reader.new }
+{
+    let round = round_from(reader)?;
+    let set = set_from(alloc, reader)?;
+    Ok(Msg::NextA { round, set })
+}
+
+fn next_b_from(reader: &mut Reader<'_>) -> Result<Msg, ReadFault>
+    ensures { Gives (λ m. m) result ((wire.case 34 field.round (λ x. Msg.NextB x)).read reader.old) reader.new }
+{
+    let round = round_from(reader)?;
+    Ok(Msg::NextB { round })
+}
+
+fn boot_a_from(alloc: Global, reader: &mut Reader<'_>) -> Result<Msg, ReadFault>
+    ensures { Gives (λ m. m) result
+        ((wire.case 35 records.boot (λ x. Msg.BootA x.0 x.1.0 x.1.1)).read reader.old) reader.new }
+{
+    let set = set_from(alloc, reader)?;
+    let watermark = round0_from(reader)?;
+    let entries = joined_from(alloc, reader)?;
+    Ok(Msg::BootA {
+        set,
+        watermark,
+        entries,
+    })
+}
+
+fn boot_b_from(alloc: Global, reader: &mut Reader<'_>) -> Result<Msg, ReadFault>
+    ensures { Gives (λ m. m) result ((wire.case 36 field.set (λ x. Msg.BootB x)).read reader.old) reader.new }
+{
+    let set = set_from(alloc, reader)?;
+    Ok(Msg::BootB { set })
+}
+
+fn sets_from(alloc: Global, reader: &mut Reader<'_>) -> Result<Msg, ReadFault>
+    ensures { Gives (λ m. m) result ((wire.case 37 field.set (λ x. Msg.Sets x)).read reader.old) reader.new }
+{
+    let set = set_from(alloc, reader)?;
+    Ok(Msg::Sets { set })
 }
 
 #[tactic(auto, unfolding(crate::specs::Messages::sess_read))]

@@ -85,6 +85,28 @@ fn copy_list(msg: &Msg, alloc: Global) -> Result<Msg, NoMemory>
             watermark,
             entries: entries.copy(alloc)?,
         }),
+        Msg::StopB {
+            round,
+            watermark,
+            ref entries,
+            accepted,
+            set,
+        } => Ok(Msg::StopB {
+            round,
+            watermark,
+            entries: entries.copy(alloc)?,
+            accepted,
+            set,
+        }),
+        Msg::BootA {
+            set,
+            watermark,
+            ref entries,
+        } => Ok(Msg::BootA {
+            set,
+            watermark,
+            entries: entries.copy(alloc)?,
+        }),
         _ => unreachable!(),
     }
 }
@@ -133,6 +155,12 @@ fn copy_small(msg: &Msg) -> Msg
         },
         Msg::Read { token, mark, key } => Msg::Read { token, mark, key },
         Msg::ReadAnswer { seq, mark, found } => Msg::ReadAnswer { seq, mark, found },
+        Msg::StopA { round } => Msg::StopA { round },
+        Msg::StopNack { round, other } => Msg::StopNack { round, other },
+        Msg::NextA { round, set } => Msg::NextA { round, set },
+        Msg::NextB { round } => Msg::NextB { round },
+        Msg::BootB { set } => Msg::BootB { set },
+        Msg::Sets { set } => Msg::Sets { set },
         Msg::SessRead { seq, mark, key } => Msg::SessRead { seq, mark, key },
         _ => unreachable!(),
     }
@@ -148,7 +176,9 @@ impl Duplicate for Msg {
             | Msg::MatchB { .. }
             | Msg::Phase1B { .. }
             | Msg::Results { .. }
-            | Msg::MatchReadAck { .. } => copy_list(self, alloc),
+            | Msg::MatchReadAck { .. }
+            | Msg::StopB { .. }
+            | Msg::BootA { .. } => copy_list(self, alloc),
             _ => Ok(copy_small(self)),
         }
     }

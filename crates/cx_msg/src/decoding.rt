@@ -35,8 +35,8 @@ fn finish(
     header: &Header,
     reader: &mut Reader<'_>,
 ) -> Result<Parts, WireFault>
-    requires from { header.now.from ≤ 9 }
-    requires to { header.now.to ≤ 9 }
+    requires from { header.now.from ≤ 10 }
+    requires to { header.now.to ≤ 10 }
     ensures { DecodesParts result
         (finished all header.now
         (by_tag (cases_with (header.now.version == 2)) header.now.kind (length reader.old)
@@ -130,7 +130,7 @@ fn read(alloc: Global, bytes: &[u8]) -> Result<Parts, WireFault>
 }
 
 /// The datagram that the bytes spell, all of the bytes; or the first test that they fail, in this order: fewer than 12
-/// bytes (`Short`), the letters CX (`Magic`), the version, 1 or 2 (`Version`), the kind, 1 to 29 or 38 (`Kind`), fewer bytes after
+/// bytes (`Short`), the letters CX (`Magic`), the version, 1 or 2 (`Version`), the kind, 1 to 38 (`Kind`), fewer bytes after
 /// the header than it says (`Length`), or more (`Trailing`), the roles of the kind (`Field` at 4 or 7), the body's fields in
 /// their order (`Field` at the first byte of the first bad one), bytes after the last field (`Trailing`), and the version
 /// again, which is 2 exactly where a command tells its floor (`Version`): operations with a floor are fields of version 2

@@ -1,7 +1,7 @@
 //! Records that roles keep.
 
-use cx_base::{Duplicate, Grid, NoMemory, Round, Value};
-use cx_field::{LogValues, Notes, Pairs};
+use cx_base::{Duplicate, Grid, NoMemory, Round, Set, Value};
+use cx_field::{Entries, LogValues, Notes, Pairs};
 use std::alloc::Global;
 
 /// What a role keeps. A stored record's fields are in their ranges, which whoever stores it owes: rounds are real ones,
@@ -64,6 +64,25 @@ pub enum Record {
     /// Values from the first slot on, which were executed before.
     Tail {
         values: LogValues,
+    },
+    /// A replacer begins a ballot.
+    Ballot {
+        round: Round,
+    },
+    /// A matchmaker stops, and promises a ballot.
+    Stop {
+        round: Round,
+    },
+    /// A matchmaker accepts the next set in a ballot.
+    Next {
+        round: Round,
+        set: Set,
+    },
+    /// A matchmaker begins with this log, as a member of this set.
+    Boot {
+        set: Set,
+        watermark: Round,
+        entries: Entries,
     },
     /// A reader uses its next turn, which is 1 or more: it asks under it for the reads that wait.
     Turn {
@@ -130,6 +149,21 @@ impl Duplicate for Record {
             }),
             Record::Tail { values } => Ok(Record::Tail {
                 values: values.copy(alloc)?,
+            }),
+            Record::Ballot { round } => Ok(Record::Ballot { round: *round }),
+            Record::Stop { round } => Ok(Record::Stop { round: *round }),
+            Record::Next { round, set } => Ok(Record::Next {
+                round: *round,
+                set: *set,
+            }),
+            Record::Boot {
+                set,
+                watermark,
+                entries,
+            } => Ok(Record::Boot {
+                set: *set,
+                watermark: *watermark,
+                entries: entries.copy(alloc)?,
             }),
             Record::Turn { turn } => Ok(Record::Turn { turn: *turn }),
         }

@@ -1,4 +1,4 @@
-//! The datagrams that roles send, but for those of reads, each with the ranges of its parts, which its sender owes. None
+//! The datagrams that roles send, but for those of reads and of sets of matchmakers, each with the ranges of its parts, which its sender owes. None
 //! takes memory.
 
 ghost use Rattle.std.specs.Prelude.{◌≡◌, IsTrue};

@@ -23,6 +23,7 @@ mod put_bodies;
 mod read_letters;
 mod records;
 mod roles;
+mod set_letters;
 mod spelled;
 
 pub use broken::break_of_part;
@@ -43,4 +44,8 @@ pub use read_letters::{
     match_read, match_read_ack, pre_read, pre_read_ack, read, read_answer, read_req, sess_read,
 };
 pub use records::{record_from, record_into};
+pub use set_letters::{
+    boot_a, boot_b, next_a, next_b, sets_to_leader, sets_to_reader, sets_to_replacer, stop_a,
+    stop_b, stop_nack,
+};
 pub use spelled::{Spelled, short_into};

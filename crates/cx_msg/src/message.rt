@@ -5,7 +5,7 @@ ghost use Rattle.cx_msg.specs.Names.{name_of_message};
 
 use crate::names::name_of_kind;
 use crate::put_bodies::kind_of;
-use cx_base::{Command, Commands, Grid, Key, Reply, Round, Text, Value};
+use cx_base::{Command, Commands, Grid, Key, Reply, Round, Set, Text, Value};
 use cx_field::{Answers, Asking, Entries, NackReason, Token, Votes};
 
 /// What a datagram says. Rounds are real ones, but for a watermark, which may be none; slots are below 2^40; `cw` and
@@ -162,6 +162,46 @@ pub enum Msg {
         seq: u64,
         mark: u64,
         found: Option<Text>,
+    },
+    /// Asks a matchmaker to stop, under this ballot.
+    StopA {
+        round: Round,
+    },
+    /// It has stopped; what it recorded, and which set it accepted as the next one in which ballot.
+    StopB {
+        round: Round,
+        watermark: Round,
+        entries: Entries,
+        accepted: Round,
+        set: Set,
+    },
+    /// A greater ballot is promised.
+    StopNack {
+        round: Round,
+        other: Round,
+    },
+    /// Asks a matchmaker to accept the next set.
+    NextA {
+        round: Round,
+        set: Set,
+    },
+    /// The next set is accepted.
+    NextB {
+        round: Round,
+    },
+    /// Asks a matchmaker to begin with this log, as a member of this set.
+    BootA {
+        set: Set,
+        watermark: Round,
+        entries: Entries,
+    },
+    /// It has begun as a member of this set.
+    BootB {
+        set: Set,
+    },
+    /// Tells the set of matchmakers.
+    Sets {
+        set: Set,
     },
     /// A client's session read: asks a replica for a key's text, once it holds `mark` slots, which the client has heard of.
     SessRead {

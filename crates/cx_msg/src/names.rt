@@ -3,7 +3,7 @@
 ghost use Rattle.std.specs.Prelude.{◌≡◌};
 ghost use Rattle.cx_msg.specs.Names.{name_of_kind};
 
-/// The name in texts of a kind of message, whose number is from 1 to 29, or 38.
+/// The name in texts of a kind of message, whose number is from 1 to 38.
 #[tactic(auto, unfolding(crate::specs::Names::name_of_kind))]
 pub fn name_of_kind(kind: u8) -> &'static str
     ensures { result.now ≡ name_of_kind kind }
@@ -38,6 +38,14 @@ pub fn name_of_kind(kind: u8) -> &'static str
         27 => "PreReadAck",
         28 => "Read",
         29 => "ReadAnswer",
+        30 => "StopA",
+        31 => "StopB",
+        32 => "StopNack",
+        33 => "NextA",
+        34 => "NextB",
+        35 => "BootA",
+        36 => "BootB",
+        37 => "Sets",
         _ => "SessRead",
     }
 }

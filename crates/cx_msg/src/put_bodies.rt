@@ -1,16 +1,17 @@
 //! The bodies of messages, appended to bytes.
 
 ghost use Rattle.std.specs.Prelude.{◌≡◌, ◌≤◌, ◌+◌, ◌++◌, true, length, OnOk};
+ghost use Rattle.cx_field.specs.Fields as field;
 ghost use Rattle.cx_msg.specs.Messages as message;
 ghost use Rattle.cx_msg.specs.Records as records;
-ghost use Rattle.cx_wire.specs.Format.{Appends};
+ghost use Rattle.cx_wire.specs.Format.{Appends, then_by};
 
 use crate::message::Msg;
-use cx_base::{Grid, Key, NoMemory, Reply, Round, Text, Value};
+use cx_base::{Grid, Key, NoMemory, Reply, Round, Set, Text, Value};
 use cx_field::{
     Answers, Asking, Entries, NackReason, Token, Votes, put_answers, put_asking, put_at,
     put_command, put_commands, put_entries, put_found, put_grid, put_mark, put_name, put_reason,
-    put_reply, put_round, put_seq, put_slot, put_token, put_value, put_votes,
+    put_reply, put_round, put_seq, put_set, put_slot, put_token, put_value, put_votes,
 };
 use cx_wire::put_u16;
 
@@ -48,6 +49,14 @@ pub fn kind_of(msg: &Msg) -> u8
         Msg::PreReadAck { .. } => 27,
         Msg::Read { .. } => 28,
         Msg::ReadAnswer { .. } => 29,
+        Msg::StopA { .. } => 30,
+        Msg::StopB { .. } => 31,
+        Msg::StopNack { .. } => 32,
+        Msg::NextA { .. } => 33,
+        Msg::NextB { .. } => 34,
+        Msg::BootA { .. } => 35,
+        Msg::BootB { .. } => 36,
+        Msg::Sets { .. } => 37,
         Msg::SessRead { .. } => 38,
     }
 }
@@ -81,7 +90,7 @@ fn put_match_b(
     watermark: &Round,
     entries: &Entries,
 ) -> Result<(), NoMemory>
-    ensures { OnOk result (Appends message.match_b (round.now, (watermark.now, entries.now)) 769
+    ensures { OnOk result (Appends message.match_b (round.now, (watermark.now, entries.now)) 11241
         out.old.items out.new.items) }
 {
     put_round(out, round)?;
@@ -198,7 +207,7 @@ fn put_match_read_ack(
     watermark: &Round,
     entries: &Entries,
 ) -> Result<(), NoMemory>
-    ensures { OnOk result (Appends message.match_read_ack (asking.now, (watermark.now, entries.now)) 769
+    ensures { OnOk result (Appends message.match_read_ack (asking.now, (watermark.now, entries.now)) 11241
         out.old.items out.new.items) }
 {
     put_asking(out, asking)?;
@@ -252,6 +261,55 @@ fn put_read_answer(
     put_found(out, found)
 }
 
+fn put_accepted(out: &mut Vec<u8>, accepted: &Round, set: &Set) -> Result<(), NoMemory>
+    ensures { OnOk result (Appends (then_by field.round0 field.accepted_set) (accepted.now, set.now) 25
+        out.old.items out.new.items) }
+{
+    put_round(out, accepted)?;
+    put_set(out, set)
+}
+
+#[tactic(auto, unfolding(crate::specs::Messages::stop_b))]
+fn put_stop_b(
+    out: &mut Vec<u8>,
+    round: &Round,
+    watermark: &Round,
+    entries: &Entries,
+    accepted: &Round,
+    set: &Set,
+) -> Result<(), NoMemory>
+    ensures { OnOk result (Appends message.stop_b
+        (round.now, (watermark.now, (entries.now, (accepted.now, set.now)))) 11266 out.old.items
+        out.new.items) }
+{
+    put_round(out, round)?;
+    put_round(out, watermark)?;
+    put_entries(out, entries)?;
+    put_accepted(out, accepted, set)
+}
+
+fn put_round_set(out: &mut Vec<u8>, round: &Round, set: &Set) -> Result<(), NoMemory>
+    ensures { OnOk result (Appends records.round_set (round.now, set.now) 25 out.old.items out.new.items) }
+{
+    put_round(out, round)?;
+    put_set(out, set)
+}
+
+/// Appends a set, a watermark and entries.
+pub fn put_boot(
+    out: &mut Vec<u8>,
+    set: &Set,
+    watermark: &Round,
+    entries: &Entries,
+) -> Result<(), NoMemory>
+    ensures { OnOk result (Appends records.boot (set.now, (watermark.now, entries.now)) 11246
+        out.old.items out.new.items) }
+{
+    put_set(out, set)?;
+    put_round(out, watermark)?;
+    put_entries(out, entries)
+}
+
 #[tactic(auto, unfolding(crate::specs::Messages::sess_read))]
 fn put_sess_read(out: &mut Vec<u8>, seq: u64, mark: u64, key: &Key) -> Result<(), NoMemory>
     ensures { OnOk result (Appends message.sess_read (seq, (mark, key.now)) 49 out.old.items out.new.items) }
@@ -270,9 +328,11 @@ pub fn put_body(out: &mut Vec<u8>, msg: &Msg) -> Result<(), NoMemory>
     match msg {
         Msg::Submit { command } => put_command(out, command),
         Msg::Batch { commands } => put_commands(out, commands),
-        Msg::Leads { round } | Msg::Phase1A { round } | Msg::GarbageB { round } => {
-            put_round(out, round)
-        }
+        Msg::Leads { round }
+        | Msg::Phase1A { round }
+        | Msg::GarbageB { round }
+        | Msg::StopA { round }
+        | Msg::NextB { round } => put_round(out, round),
         Msg::MatchA { round, grid } | Msg::GarbageA { round, grid } => {
             put_round_grid(out, round, grid)
         }
@@ -326,6 +386,21 @@ pub fn put_body(out: &mut Vec<u8>, msg: &Msg) -> Result<(), NoMemory>
         } => put_pre_read_ack(out, asking, watermark, *mark),
         Msg::Read { token, mark, key } => put_read_key(out, token, *mark, key),
         Msg::ReadAnswer { seq, mark, found } => put_read_answer(out, *seq, *mark, found),
+        Msg::StopB {
+            round,
+            watermark,
+            entries,
+            accepted,
+            set,
+        } => put_stop_b(out, round, watermark, entries, accepted, set),
+        Msg::StopNack { round, other } => put_nack(out, round, other),
+        Msg::NextA { round, set } => put_round_set(out, round, set),
+        Msg::BootA {
+            set,
+            watermark,
+            entries,
+        } => put_boot(out, set, watermark, entries),
+        Msg::BootB { set } | Msg::Sets { set } => put_set(out, set),
         Msg::SessRead { seq, mark, key } => put_sess_read(out, *seq, *mark, key),
     }
 }

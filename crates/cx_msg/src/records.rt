@@ -11,11 +11,12 @@ ghost use Rattle.cx_msg.specs.declared.kept.Record.{Record as Kept};
 
 use crate::fault::WireFault;
 use crate::kept::Record;
+use crate::put_bodies::put_boot;
 use cx_base::{NoMemory, Round, Value};
 use cx_field::{
-    Notes, ReadFault, Reader, grid_from, mark_from, notes_from, pairs_from, put_grid, put_mark,
-    put_notes, put_pairs, put_round, put_seq, put_slot, put_value, put_values, round_from,
-    seq_from, slot_from, value_from, values_from,
+    Notes, ReadFault, Reader, grid_from, joined_from, mark_from, notes_from, pairs_from, put_grid,
+    put_mark, put_notes, put_pairs, put_round, put_seq, put_set, put_slot, put_value, put_values,
+    round_from, round0_from, seq_from, set_from, slot_from, value_from, values_from,
 };
 use cx_wire::{put_u8, put_u16, put_u32, put_u64};
 use std::alloc::Global;
@@ -24,7 +25,7 @@ use std::alloc::Global;
 pub(crate) fn is_tag(tag: u8) -> bool
     ensures { result ≡ records.is_tag tag }
 {
-    tag >= 1 && tag <= 11 || tag == 16
+    tag >= 1 && tag <= 16
 }
 
 #[tactic(auto, unfolding(crate::specs::Records::record_cases, cx_field::specs::Fields::value))]
@@ -102,6 +103,27 @@ pub(crate) fn fields_from(
         11 => Ok(Record::Tail {
             values: values_from(alloc, reader)?,
         }),
+        12 => Ok(Record::Ballot {
+            round: round_from(reader)?,
+        }),
+        13 => Ok(Record::Stop {
+            round: round_from(reader)?,
+        }),
+        14 => {
+            let round = round_from(reader)?;
+            let set = set_from(alloc, reader)?;
+            Ok(Record::Next { round, set })
+        }
+        15 => {
+            let set = set_from(alloc, reader)?;
+            let watermark = round0_from(reader)?;
+            let entries = joined_from(alloc, reader)?;
+            Ok(Record::Boot {
+                set,
+                watermark,
+                entries,
+            })
+        }
         16 => Ok(Record::Turn {
             turn: seq_from(reader)?,
         }),
@@ -147,7 +169,7 @@ fn read(alloc: Global, bytes: &[u8]) -> Result<Record, WireFault>
 }
 
 /// The record that the bytes spell, all of the bytes; or the first test that they fail, in this order: no byte (`Short`), the
-/// tag, 1 to 11 or 16 (`Kind`), the fields in their order (`Field` at the first byte of the first bad one), and bytes after the
+/// tag, 1 to 16 (`Kind`), the fields in their order (`Field` at the first byte of the first bad one), and bytes after the
 /// last field (`Trailing`). The format is this project's own; it has no version, and commands may tell their floors.
 pub fn record_from(alloc: Global, bytes: &[u8]) -> Result<Record, WireFault>
     // What is read is spelled so, and has a spelling.
@@ -272,6 +294,27 @@ fn put_record(out: &mut Vec<u8>, kept: &Record) -> Result<(), NoMemory>
         Record::Tail { values } => {
             put_u8(out, 11)?;
             put_values(out, values)
+        }
+        Record::Ballot { round } => {
+            put_u8(out, 12)?;
+            put_round(out, round)
+        }
+        Record::Stop { round } => {
+            put_u8(out, 13)?;
+            put_round(out, round)
+        }
+        Record::Next { round, set } => {
+            put_u8(out, 14)?;
+            put_round(out, round)?;
+            put_set(out, set)
+        }
+        Record::Boot {
+            set,
+            watermark,
+            entries,
+        } => {
+            put_u8(out, 15)?;
+            put_boot(out, set, watermark, entries)
         }
         Record::Turn { turn } => {
             put_u8(out, 16)?;

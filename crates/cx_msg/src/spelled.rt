@@ -38,7 +38,7 @@ impl<'a> Model for Spelled<'a> {
 // The role in the three bytes from a place on.
 fn role_at(bytes: &[u8], at: usize) -> RoleId
     requires room { at + 3 ≤ length bytes.now }
-    requires code { slice_index bytes.now at ≤ 9 }
+    requires code { slice_index bytes.now at ≤ 10 }
     ensures { result ≡ role_at at bytes.now }
 {
     RoleId {

@@ -14,7 +14,7 @@ pub use Rattle.cx_base.specs.declared.command.Command.{Command}
 pub use Rattle.cx_base.specs.declared.command.Placed.{Placed}
 pub use Rattle.cx_base.specs.declared.command.Value.{Value}
 pub use Rattle.cx_base.specs.declared.role.Kind.{Kind}
-pub use Rattle.cx_base.specs.declared.role.Kind.TheVariants.{Acceptor, Leader, Matchmaker, Reader}
+pub use Rattle.cx_base.specs.declared.role.Kind.TheVariants.{Acceptor, Leader, Matchmaker, Reader, Replacer}
 pub use Rattle.cx_base.specs.declared.role.Kind.TheVariants as kind
 pub use Rattle.cx_base.specs.declared.role.RoleId.{RoleId}
 pub use Rattle.cx_base.specs.declared.round.Round.{Round}
@@ -28,6 +28,7 @@ pub use Rattle.cx_keeper.specs.Keeper.{all_fit}
 pub use Rattle.cx_model.specs.Matched.{entries_told, greatest_watermark, is_counted, is_member_of, later_round}
 pub use Rattle.cx_model.specs.Matched.{live_entries, members_in, members_of, rows_whole}
 pub use Rattle.cx_model.specs.Names.{names, names_body, names_entry, names_grid, names_role, names_round, names_value}
+pub use Rattle.cx_model.specs.Names.{names_ballot, names_set}
 pub use Rattle.cx_model.specs.Outcome.{Outcome, answered, by_test, either_way, replied}
 pub use Rattle.cx_model.specs.Rules.{IsFit, Running, folded_from, opened, outcome_of, refused_from}
 pub use Rattle.cx_model.specs.declared.states.Acked.{Acked}

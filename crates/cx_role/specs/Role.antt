@@ -64,6 +64,8 @@ takes_no_memory why.Done = true
 takes_no_memory why.Idle = true
 takes_no_memory why.Waiting = true
 takes_no_memory why.End = true
+takes_no_memory why.New = true
+takes_no_memory why.Stopped = true
 takes_no_memory w = false
 
 -- What a step does: it is the row, or leaves everything as it was when out of memory, which a row that takes none never is; or its append

@@ -16,6 +16,9 @@ mod role;
 pub use cx_keeper::KeepFault as StepFault;
 pub use keeping::keep;
 pub use law::own_records_open;
-pub use names::{is_for, names_grid, names_role, names_round, names_value};
+pub use names::{
+    is_for, names_ballot, names_entries, names_grid, names_role, names_round, names_set,
+    names_value,
+};
 pub use outbox::Outbox;
 pub use role::{Role, WakeFault};

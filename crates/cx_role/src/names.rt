@@ -5,11 +5,11 @@ ghost use Rattle.std.specs.List.{list_all};
 ghost use Rattle.cx_base.specs.declared.command.Answered.{Answered};
 ghost use Rattle.cx_base.specs.declared.command.Command.{Command};
 ghost use Rattle.cx_base.specs.Role.{same_role};
-ghost use Rattle.cx_model.specs.Names.{names_role, names_round, names_grid, names_command, names_value, names_entry, names_vote, names_answer, names_asking, names_token, names_body, names};
+ghost use Rattle.cx_model.specs.Names.{names_role, names_round, names_grid, names_command, names_value, names_entry, names_vote, names_answer, names_asking, names_token, names_ballot, names_set, names_next, names_body, names};
 ghost use Rattle.cx_field.specs.declared.parts.Entry.{Entry};
 ghost use Rattle.cx_field.specs.declared.parts.Vote.{Vote};
 
-use cx_base::{Answered, Cluster, Command, Grid, RoleId, Round, Value, count_of};
+use cx_base::{Answered, Cluster, Command, Grid, RoleId, Round, Set, Value, count_of};
 use cx_field::{Asking, Entry, Token, Vote};
 use cx_msg::{Datagram, Msg};
 
@@ -64,7 +64,8 @@ fn names_entry(cluster: &Cluster, entry: &Entry) -> bool
     names_round(cluster, entry.round) && names_grid(cluster, &entry.grid)
 }
 
-fn names_entries(cluster: &Cluster, entries: &[Entry]) -> bool
+/// Whether the rounds of all entries, and their grids, are in the cluster. It takes no memory.
+pub fn names_entries(cluster: &Cluster, entries: &[Entry]) -> bool
     ensures { result ≡ list_all (λ (e : Entry). names_entry cluster.now e) entries.now }
 {
     entries.iter().all(|entry| names_entry(cluster, entry))
@@ -98,6 +99,37 @@ fn names_asking(cluster: &Cluster, asking: Asking) -> bool
     ensures { result ≡ names_asking cluster.now asking }
 {
     asking.reader < cluster.readers
+}
+
+/// Whether the replacer that a ballot names is in the cluster. It takes no memory.
+pub fn names_ballot(cluster: &Cluster, ballot: Round) -> bool
+    ensures { result ≡ names_ballot cluster.now ballot }
+{
+    ballot.id < cluster.replacers
+}
+
+fn are_matchmakers(pool: u16, ids: &[u16]) -> bool
+    ensures { result ≡ list_all (λ id. nat_lt id pool) ids.now }
+{
+    ids.iter().all(|id| *id < pool)
+}
+
+/// Whether a set has 2f + 1 members, each a matchmaker of the cluster. It takes no memory.
+pub fn names_set(cluster: &Cluster, set: &Set) -> bool
+    ensures { result ≡ names_set cluster.now set.now }
+{
+    let ids = set.ids();
+    ids.len() == 2 * usize::from(cluster.f) + 1 && are_matchmakers(cluster.pool, ids)
+}
+
+// Whether a next set that was accepted is one of the cluster's, or there is none.
+fn names_next(cluster: &Cluster, set: &Set) -> bool
+    ensures { result ≡ names_next cluster.now set.now }
+{
+    match set.ids() {
+        [] => true,
+        [_, ..] => names_set(cluster, set),
+    }
 }
 
 fn names_body(cluster: &Cluster, msg: &Msg) -> bool
@@ -168,6 +200,34 @@ fn names_body(cluster: &Cluster, msg: &Msg) -> bool
             watermark,
             ..
         } => { names_asking(cluster, *asking) && names_round(cluster, *watermark) }
+        Msg::StopA { round } | Msg::NextB { round } => names_ballot(cluster, *round),
+        Msg::StopB {
+            round,
+            watermark,
+            entries,
+            accepted,
+            set,
+        } => {
+            names_ballot(cluster, *round)
+                && names_round(cluster, *watermark)
+                && names_entries(cluster, entries.as_slice())
+                && names_ballot(cluster, *accepted)
+                && names_next(cluster, set)
+        }
+        Msg::StopNack { round, other } => {
+            names_ballot(cluster, *round) && names_ballot(cluster, *other)
+        }
+        Msg::NextA { round, set } => names_ballot(cluster, *round) && names_set(cluster, set),
+        Msg::BootA {
+            set,
+            watermark,
+            entries,
+        } => {
+            names_set(cluster, set)
+                && names_round(cluster, *watermark)
+                && names_entries(cluster, entries.as_slice())
+        }
+        Msg::BootB { set } | Msg::Sets { set } => names_set(cluster, set),
     }
 }
 

@@ -44,7 +44,7 @@ impl From<AllocError> for WakeFault {
 
 /// A kind of role: it takes one datagram, order or tick at a time, makes at most one append, and then changes its state and
 /// sends. Memory is taken first, so that out of memory everything is as it was. The rows that are of no more use
-/// (`takes_no_memory`: a stranger, what is old or past, and the like) take none.
+/// (`takes_no_memory`: a stranger, what is old or past, a matchmaker that is in no set or has stopped, and the like) take none.
 pub trait Role: Sized {
     /// The part of its state that its records leave.
     ghost Durable: { Type 0 };
@@ -96,7 +96,7 @@ pub trait Role: Sized {
             result (state self.new) keeper.old keeper.new out.new.list }
         ensures fits { MayKeep rules (state self.old) (outcome_of rules (state self.old) (input.Take datagram.now)) };
 
-    /// One order, by the same law; only leaders have rows for orders.
+    /// One order, by the same law; only leaders and replacers have rows for orders.
     fn order<K: Keeper>(
         &mut self,
         keeper: &mut K,

@@ -101,7 +101,7 @@ const REFUSED: [(WireFault, &str); 12] = [
 ];
 
 // Records, and what refuses them.
-const RECORDS: [(&str, Option<WireFault>); 12] = [
+const RECORDS: [(&str, Option<WireFault>); 10] = [
     // Turn 1, and the last one.
     ("100000000000000001", None),
     ("10ffffffffffffffff", None),
@@ -119,8 +119,6 @@ const RECORDS: [(&str, Option<WireFault>); 12] = [
     ("10000000000000000100", Some(WireFault::Trailing { at: 9 })),
     // Tags that are none.
     ("000000000000000001", Some(WireFault::Kind(0))),
-    ("0c0000000000000001", Some(WireFault::Kind(12))),
-    ("0f0000000000000001", Some(WireFault::Kind(15))),
     ("110000000000000001", Some(WireFault::Kind(17))),
     ("200000000000000001", Some(WireFault::Kind(32))),
     ("900000000000000001", Some(WireFault::Kind(144))),

@@ -13,6 +13,8 @@ mod message_tests;
 #[cfg(test)]
 mod session_tests;
 #[cfg(test)]
+mod set_tests;
+#[cfg(test)]
 mod vectors;
 #[cfg(test)]
 mod version_tests;

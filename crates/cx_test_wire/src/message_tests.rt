@@ -181,6 +181,6 @@ fn another_implementation(rt: HostRuntime) -> Result<(), Fail> {
         assert!(rt; changes_are_refused(alloc, &bytes)?, "entry {count}");
         count = count.saturating_add(1);
     }
-    assert_eq!(rt; count, 324);
+    assert_eq!(rt; count, 372);
     Ok(())
 }

@@ -96,7 +96,7 @@ const REFUSED: [(WireFault, &str); 10] = [
 ];
 
 // Kinds that are none, in place of 38.
-const NO_KINDS: [u8; 11] = [0, 30, 31, 32, 33, 34, 35, 36, 37, 39, 255];
+const NO_KINDS: [u8; 4] = [0, 39, 63, 255];
 
 #[test]
 fn session_reads(rt: HostRuntime) -> Result<(), Fail> {

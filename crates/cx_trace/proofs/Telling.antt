@@ -3,7 +3,7 @@ use Rattle.std.proofs.Common.{◌≡◌, ℕ, false, [], refl}
 use Rattle.cx_msg.specs.Letter.{Letter}
 use Rattle.cx_msg.specs.Names.{name_of_kind, name_of_message}
 use Rattle.cx_msg.specs.declared.message.Msg.{Msg}
-use Rattle.cx_msg.specs.declared.message.Msg.TheVariants.{Submit, Batch, Leads, MatchA, MatchB, MatchNack, Phase1A, Phase1B, Nack, Propose, Phase2A, Phase2B, Chosen, ChosenIn, Results, Answer, Held, Fetch, Inform, Informed, GarbageA, GarbageB, ReadReq, MatchRead, MatchReadAck, PreRead, PreReadAck, Read, SessRead, ReadAnswer}
+use Rattle.cx_msg.specs.declared.message.Msg.TheVariants.{Submit, Batch, Leads, MatchA, MatchB, MatchNack, Phase1A, Phase1B, Nack, Propose, Phase2A, Phase2B, Chosen, ChosenIn, Results, Answer, Held, Fetch, Inform, Informed, GarbageA, GarbageB, ReadReq, MatchRead, MatchReadAck, PreRead, PreReadAck, Read, SessRead, ReadAnswer, StopA, StopB, StopNack, NextA, NextB, BootA, BootB, Sets}
 use Rattle.cx_trace.specs.Trace.{tells, told_of, told_text}
 
 -- a message of another kind tells nothing
@@ -37,6 +37,14 @@ nothing_told client (MatchReadAck a b c) h = refl
 nothing_told client (PreRead a b) h = refl
 nothing_told client (PreReadAck a b c) h = refl
 nothing_told client (Read a b c) h = refl
+nothing_told client (StopA a) h = refl
+nothing_told client (StopB a b c d e) h = refl
+nothing_told client (StopNack a b) h = refl
+nothing_told client (NextA a b) h = refl
+nothing_told client (NextB a) h = refl
+nothing_told client (BootA a b c) h = refl
+nothing_told client (BootB a) h = refl
+nothing_told client (Sets a) h = refl
 nothing_told client (SessRead a b c) h = refl
 nothing_told client (ReadAnswer a b c) h = cc
 

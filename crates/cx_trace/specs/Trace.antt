@@ -6,13 +6,13 @@ use Rattle.cx_base.specs.Why.{why_text}
 use Rattle.cx_base.specs.declared.event.Event.{Event}
 use Rattle.cx_base.specs.declared.event.Event.TheVariants as event
 use Rattle.cx_base.specs.declared.event.Order.{Order}
-use Rattle.cx_base.specs.declared.event.Order.TheVariants.{Lead, Change, Collect}
+use Rattle.cx_base.specs.declared.event.Order.TheVariants.{Lead, Change, Collect, Replace}
 use Rattle.cx_base.specs.declared.role.RoleId.{RoleId}
-use Rattle.cx_base.specs.declared.role.Kind.TheVariants.{Client, Leader, Replica}
+use Rattle.cx_base.specs.declared.role.Kind.TheVariants.{Client, Leader, Replica, Replacer}
 use Rattle.cx_msg.specs.Letter.{Letter, body}
 use Rattle.cx_msg.specs.Names.{name_of_message}
 use Rattle.cx_msg.specs.declared.message.Msg.{Msg}
-use Rattle.cx_msg.specs.declared.message.Msg.TheVariants.{Submit, Batch, Leads, MatchA, MatchB, MatchNack, Phase1A, Phase1B, Nack, Propose, Phase2A, Phase2B, Chosen, ChosenIn, Results, Answer, Held, Fetch, Inform, Informed, GarbageA, GarbageB, ReadReq, MatchRead, MatchReadAck, PreRead, PreReadAck, Read, SessRead, ReadAnswer}
+use Rattle.cx_msg.specs.declared.message.Msg.TheVariants.{Submit, Batch, Leads, MatchA, MatchB, MatchNack, Phase1A, Phase1B, Nack, Propose, Phase2A, Phase2B, Chosen, ChosenIn, Results, Answer, Held, Fetch, Inform, Informed, GarbageA, GarbageB, ReadReq, MatchRead, MatchReadAck, PreRead, PreReadAck, Read, SessRead, ReadAnswer, StopA, StopB, StopNack, NextA, NextB, BootA, BootB, Sets}
 use Rattle.cx_trace.specs.Put.{hex}
 use Rattle.cx_trace.specs.Reply.{reply_text, found_text}
 use Rattle.cx_trace.specs.declared.effect.Effect.{Effect}
@@ -33,6 +33,7 @@ abbrev pub order_text : Order → List ℕ
 order_text (Lead grid) = codes "lead "
 order_text (Change grid) = codes "change "
 order_text Collect = codes "collect "
+order_text (Replace set) = codes "replace "
 
 -- whom a datagram reached, if it was sent before
 abbrev pub reached_text : Option RoleId → List ℕ
@@ -47,6 +48,7 @@ happening_text (event.Session client seq floor replica key) who = codes "session
 happening_text (event.Deliver number cut) who = codes "deliver " ++ decimal number ++ reached_text who
 happening_text (event.Tick r) who = codes "tick " ++ role_text r
 happening_text (event.Order leader order cut) who = order_text order ++ role_text (role Leader leader)
+happening_text (event.Replace replacer set cut) who = codes "replace " ++ role_text (role Replacer replacer)
 happening_text (event.Snap replica cut) who = codes "snap " ++ role_text (role Replica replica)
 happening_text (event.Crash r) who = codes "crash " ++ role_text r
 happening_text (event.Restart r) who = codes "restart " ++ role_text r
@@ -97,6 +99,14 @@ told_text client (MatchReadAck a b c) = []
 told_text client (PreRead a b) = []
 told_text client (PreReadAck a b c) = []
 told_text client (Read a b c) = []
+told_text client (StopA a) = []
+told_text client (StopB a b c d e) = []
+told_text client (StopNack a b) = []
+told_text client (NextA a b) = []
+told_text client (NextB a) = []
+told_text client (BootA a b c) = []
+told_text client (BootB a) = []
+told_text client (Sets a) = []
 told_text client (SessRead a b c) = []
 
 -- what a datagram tells the client that gets it

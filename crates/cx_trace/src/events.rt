@@ -15,6 +15,7 @@ fn put_order(text: &mut Vec<u8>, order: &Order) -> Result<(), NoMemory>
         Order::Lead(_) => put(text, b"lead "),
         Order::Change(_) => put(text, b"change "),
         Order::Collect => put(text, b"collect "),
+        Order::Replace(_) => put(text, b"replace "),
     }
 }
 
@@ -70,6 +71,10 @@ fn put_happening(text: &mut Vec<u8>, event: &Event, who: Option<RoleId>) -> Resu
         Event::Order { leader, order, .. } => {
             put_order(text, order)?;
             put_role_at(text, Kind::Leader, u64::from(*leader))
+        }
+        Event::Replace { replacer, .. } => {
+            put(text, b"replace ")?;
+            put_role_at(text, Kind::Replacer, u64::from(*replacer))
         }
         Event::Snap { replica, .. } => {
             put(text, b"snap ")?;
