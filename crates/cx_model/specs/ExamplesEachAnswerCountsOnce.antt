@@ -20,10 +20,13 @@ abbrev pub cluster : Cluster
 cluster =
     record one_of_each {
       f = 1;
+      pool = 3;
       leaders = 2;
       acceptors = 4;
       replicas = 2;
       f_fits = lit≤ tt;
+      some_pool = lit≤ tt;
+      pool_fits = lit≤ tt;
       some_replicas = lit≤ tt;
       some_leader = lit≤ tt;
       leaders_fit = lit≤ tt;

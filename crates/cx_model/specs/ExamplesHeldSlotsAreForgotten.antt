@@ -20,8 +20,11 @@ abbrev pub cluster : Cluster
 cluster =
     record one_of_each {
       f = 1;
+      pool = 3;
       replicas = 2;
       f_fits = lit≤ tt;
+      some_pool = lit≤ tt;
+      pool_fits = lit≤ tt;
       some_replicas = lit≤ tt;
       replicas_fit = lit≤ tt;
     }

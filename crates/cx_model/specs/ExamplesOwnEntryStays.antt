@@ -20,9 +20,12 @@ abbrev pub cluster : Cluster
 cluster =
     record one_of_each {
       f = 1;
+      pool = 3;
       acceptors = 3;
       replicas = 2;
       f_fits = lit≤ tt;
+      some_pool = lit≤ tt;
+      pool_fits = lit≤ tt;
       some_replicas = lit≤ tt;
       some_acceptor = lit≤ tt;
       acceptors_fit = lit≤ tt;

@@ -1,6 +1,6 @@
 -- The facts from which the hard property follows, as they hold at the end of each event of each run: the published ones, in words that stay
 -- true once they are. Nothing of them is proved here. The laws keep them, with what must be added so that a step keeps them.
-use Rattle.std.specs.Prelude.{◌≡◌, ℕ, ◌+◌, ◌<◌, ◌≤◌, Bool, true, false, not, ◌||◌, ◌⊎◌, filter, List, ◌++◌, length, slice_get, Option, None, Some}
+use Rattle.std.specs.Prelude.{◌≡◌, ℕ, ◌+◌, ◌<◌, ◌≤◌, Bool, true, false, not, ◌&&◌, ◌||◌, ◌⊎◌, filter, List, ◌++◌, length, slice_get, Option, None, Some}
 use Rattle.std.specs.List.{list_any}
 use Rattle.cx_base.specs.declared.cluster.Cluster.{Cluster}
 use Rattle.cx_base.specs.declared.command.Command.{Command}
@@ -27,6 +27,7 @@ use Rattle.cx_msg.specs.declared.message.Msg.{Msg}
 use Rattle.cx_msg.specs.declared.message.Msg.TheVariants as msg
 use Rattle.cx_model.specs.declared.states.Acked.{Acked}
 use Rattle.cx_model.specs.declared.states.Deferred.{Deferred}
+use Rattle.cx_model.specs.declared.states.Halt.{Halt}
 use Rattle.cx_model.specs.declared.states.MatchAnswer.{MatchAnswer}
 use Rattle.cx_model.specs.declared.states.Pending.{Pending}
 use Rattle.cx_model.specs.declared.states.Promised.{Promised}
@@ -36,12 +37,13 @@ use Rattle.cx_model.specs.Chosen.{is_chosen, is_chosen_in}
 use Rattle.cx_model.specs.Collection.{is_collecting, is_informing}
 use Rattle.cx_model.specs.History.{Finish, finished, was_asked}
 use Rattle.cx_model.specs.Leader.{LeaderVolatile, leader_rules, round_of, is_leading}
-use Rattle.cx_model.specs.Matched.{matchmakers, greatest_watermark}
-use Rattle.cx_model.specs.Matchmaker.{MatchmakerDurable, matchmaker_rules}
+use Rattle.cx_model.specs.Matched.{first_set, greatest_watermark}
+use Rattle.cx_model.specs.Matchmaker.{MatchmakerDurable, matchmaker_rules, entry, has_round, is_booted, is_stopped}
 use Rattle.cx_model.specs.Member.{Member}
 use Rattle.cx_model.specs.Promises.{HasKept, HasTurn, IsConfig, IsUnder, holders, watermark_in}
 use Rattle.cx_model.specs.Proxy.{ProxyVolatile}
 use Rattle.cx_model.specs.Reader.{Asked, Batch, ReaderVolatile, asking, asking_of}
+use Rattle.cx_model.specs.Replacer.{ReplacerVolatile, replacer_rules, is_stopping, is_deciding, is_booting}
 use Rattle.cx_model.specs.Replica.{ReplicaVolatile}
 use Rattle.cx_model.specs.World.{World, change, run, durable_part, records_of, log_of}
 
@@ -57,34 +59,66 @@ matchmaker_of history m = durable_part matchmaker_rules (role kind.Matchmaker m)
 abbrev pub round_in : List KeptRecord → RoleId → Round
 round_in history leader = round_of (durable_part leader_rules leader history).own
 
+-- the last ballot of a replacer
+abbrev pub ballot_in : List KeptRecord → RoleId → Round
+ballot_in history replacer = (durable_part replacer_rules replacer history).own
+
 abbrev pub HasVoted : List KeptRecord → RoleId → Round → ℕ → Value → Type 0
 HasVoted history who i s v = (cw : ℕ) × HasKept history who (kept.Vote i s cw v)
 
-abbrev pub HasMatched : List KeptRecord → RoleId → Round → Type 0
-HasMatched history who i = (g : Shape) × HasKept history who (kept.Match i g)
+-- a matchmaker has this round with this grid: it recorded it, or began with it
+abbrev pub HasRound : List KeptRecord → RoleId → Round → Shape → Type 0
+HasRound history who i g =
+    HasKept history who (kept.Match i g)
+    ⊎ ((s : List ℕ) × (w : Round) × (es : List Entry) × HasKept history who (kept.Boot s w es) × Member (entry i g) es)
 
-abbrev pub is_match_of : Round → Record → Bool
-is_match_of i (kept.Match j g) = same_round j i
-is_match_of i other = false
+-- a matchmaker retired the rounds below this one, which has this grid: it forgot them, or began without them
+abbrev pub HasRetired : List KeptRecord → RoleId → Round → Shape → Type 0
+HasRetired history who w g =
+    HasKept history who (kept.Garbage w g)
+    ⊎ ((s : List ℕ) × (es : List Entry) × HasKept history who (kept.Boot s w es) × Member (entry w g) es)
 
--- whether a matchmaker recorded this round
-abbrev pub has_matched : List KeptRecord → ℕ → Round → Bool
-has_matched history m i = list_any (λ r. is_match_of i r) (records_of (role kind.Matchmaker m) history)
+-- whether by this record a matchmaker has this round
+abbrev pub is_round_in : Round → Record → Bool
+is_round_in i (kept.Match j g) = same_round j i
+is_round_in i (kept.Boot s w es) = has_round i es
+is_round_in i other = false
+
+-- whether a matchmaker has this round
+abbrev pub has_recorded : List KeptRecord → ℕ → Round → Bool
+has_recorded history m i = list_any (λ r. is_round_in i r) (records_of (role kind.Matchmaker m) history)
 
 -- whether a matchmaker will not record this round any more; the limit of 16 entries is left aside, since room comes back
 abbrev pub is_closed : MatchmakerDurable → Round → Bool
 is_closed d i = is_before i d.watermark || list_any (λ (e : Entry). not (is_before e.round i)) d.entries
 
--- how many matchmakers recorded this round; and how many did or still may
-abbrev pub recorders : Cluster → List KeptRecord → Round → ℕ
-recorders c history i = length (filter (λ m. has_matched history m i) (matchmakers c))
+-- how many matchmakers of a set have this round
+abbrev pub recorders : List KeptRecord → List ℕ → Round → ℕ
+recorders history s i = length (filter (λ m. has_recorded history m i) s)
 
-abbrev pub may_recorders : Cluster → List KeptRecord → Round → ℕ
-may_recorders c history i = length (filter (λ m. has_matched history m i || not (is_closed (matchmaker_of history m) i)) (matchmakers c))
+-- a set of matchmakers: the first, or one that a matchmaker began in
+abbrev pub IsSet : Cluster → List KeptRecord → List ℕ → Type 0
+IsSet c history s = (s ≡ first_set c) ⊎ ((who : RoleId) × (w : Round) × (es : List Entry) × HasKept history who (kept.Boot s w es))
 
--- a round is open: f + 1 matchmakers recorded it or still may
+-- whether a matchmaker took a round: it recorded it, or began with it as the greatest one
+abbrev pub is_taking_of : Round → Record → Bool
+is_taking_of i (kept.Match j g) = same_round j i
+is_taking_of i (kept.Boot s w es) = has_round i es && not (list_any (λ (e : Entry). is_before i e.round) es)
+is_taking_of i other = false
+
+abbrev pub has_taken : List KeptRecord → ℕ → Round → Bool
+has_taken history m i = list_any (λ r. is_taking_of i r) (records_of (role kind.Matchmaker m) history)
+
+-- whether it may still record it: one that is in no set, or stopped, may not
+abbrev pub can_record : Cluster → RoleId → MatchmakerDurable → Round → Bool
+can_record c me d i = is_booted c me d && not (is_stopped d) && not (is_closed d i)
+
+abbrev pub may_record : Cluster → List KeptRecord → ℕ → Round → Bool
+may_record c history m i = has_taken history m i || can_record c (role kind.Matchmaker m) (matchmaker_of history m) i
+
+-- a round is open: f + 1 matchmakers of one set took it, or may still record it
 abbrev pub IsOpen : Cluster → List KeptRecord → Round → Type 0
-IsOpen c history i = c.f + 1 ≤ may_recorders c history i
+IsOpen c history i = (s : List ℕ) × IsSet c history s × (c.f + 1 ≤ length (filter (λ m. may_record c history m i) s))
 
 -- words on datagrams, and on both
 
@@ -164,6 +198,13 @@ pub record ReaderWasTold (sent : List Letter) (me : RoleId) (v : ReaderVolatile)
       → Member (letter (role kind.Client r.read.client) me (msg.ReadReq r.read.seq r.replica r.key)) sent
   pub batch : (b : Batch) → v.running ≡ Some b → BatchWasTold sent me b
 
+-- what a replacer counts came in datagrams of its own ballot, or of the set that it lets begin
+pub record ReplacerWasTold (sent : List Letter) (me : RoleId) (b : Round) (v : ReplacerVolatile) : Type 0 where
+  pub halts : (h : Halt) → is_stopping v.mode ≡ true → Member h v.halts
+      → Member (letter (role kind.Matchmaker h.answer.matchmaker) me (msg.StopB b h.answer.watermark h.answer.entries h.accepted h.next)) sent
+  pub accepted : (m : ℕ) → is_deciding v.mode ≡ true → Member m v.counted → Member (letter (role kind.Matchmaker m) me (msg.NextB b)) sent
+  pub begun : (m : ℕ) → is_booting v.mode ≡ true → Member m v.counted → Member (letter (role kind.Matchmaker m) me (msg.BootB v.next)) sent
+
 -- Rounds: each is kept once, by the leader that it names, with one grid, and carries one value for each slot.
 pub record RoundFacts (w : World) : Type 0 where
   pub owner : (who : RoleId) (i : Round) (g : Shape) → HasKept w.kept who (kept.Round i g) → who ≡ role kind.Leader i.id
@@ -181,21 +222,27 @@ pub record RoundFacts (w : World) : Type 0 where
   pub batchers : (b : ℕ) (v : BatcherVolatile) → slice_get w.roles.batchers b ≡ Some (Some v) → BatcherWasTold w.sent (role kind.Batcher b) v
   pub replicas : (p : ℕ) (v : ReplicaVolatile) → slice_get w.roles.replicas p ≡ Some (Some v) → ReplicaWasTold w.sent (role kind.Replica p) v
   pub readers : (r : ℕ) (v : ReaderVolatile) → slice_get w.roles.readers r ≡ Some (Some v) → ReaderWasTold w.sent (role kind.Reader r) v
+  pub replacers : (x : ℕ) (v : ReplacerVolatile) → slice_get w.roles.replacers x ≡ Some (Some v)
+      → ReplacerWasTold w.sent (role kind.Replacer x) (ballot_in w.kept (role kind.Replacer x)) v
 
--- Matching: what a leader leads is recorded by enough matchmakers, and their answers have every earlier round.
+-- a round that enough matchmakers of one set have
+abbrev pub IsRecorded : Cluster → List KeptRecord → Round → Type 0
+IsRecorded c history i = (s : List ℕ) × IsSet c history s × (c.f + 1 ≤ recorders history s i)
+
+-- Matching: what a leader leads is recorded by enough matchmakers of one set, and their answers have every earlier round.
 pub record MatchingFacts (c : Cluster) (es : List Event) : Type 0 where
-  pub led : (from to : RoleId) (i : Round) → Member (letter from to (msg.Leads i)) (run c es).sent → c.f + 1 ≤ recorders c (run c es).kept i
-  pub proposed : (i : Round) (s : ℕ) (v : Value) → IsProposed (run c es).sent i s v → c.f + 1 ≤ recorders c (run c es).kept i
-  -- the rounds that one matchmaker recorded were recorded in rising order
-  pub in_order : (who : RoleId) (m n : ℕ) (i j : Round) (g h : Shape)
-      → slice_get (records_of who (run c es).kept) m ≡ Some (kept.Match i g) → slice_get (records_of who (run c es).kept) n ≡ Some (kept.Match j h)
-      → m < n → is_before i j ≡ true
-  -- an answer from a matchmaker that hasn't recorded the round comes after the round was finished and began to retire others
+  pub led : (from to : RoleId) (i : Round) → Member (letter from to (msg.Leads i)) (run c es).sent → IsRecorded c (run c es).kept i
+  pub proposed : (i : Round) (s : ℕ) (v : Value) → IsProposed (run c es).sent i s v → IsRecorded c (run c es).kept i
+  -- the rounds that a matchmaker has by an earlier record are below those that it has by a later one
+  pub in_order : (who : RoleId) (m n : ℕ) (i j : Round) (r s : Record)
+      → slice_get (records_of who (run c es).kept) m ≡ Some r → slice_get (records_of who (run c es).kept) n ≡ Some s
+      → is_round_in i r ≡ true → is_round_in j s ≡ true → m < n → is_before i j ≡ true
+  -- an answer from a matchmaker that doesn't have the round comes after the round was finished and began to retire others
   pub answered : (from to : RoleId) (i w : Round) (entries : List Entry) → Member (letter from to (msg.MatchB i w entries)) (run c es).sent
-      → HasMatched (run c es).kept from i ⊎ (IsRetiring (run c es).sent i × ((cw : ℕ) × (end : ℕ) × IsFinished c es i cw end))
-  -- an answer has each earlier round that its sender recorded, or its watermark is above it
+      → ((g : Shape) × HasRound (run c es).kept from i g) ⊎ (IsRetiring (run c es).sent i × ((cw : ℕ) × (end : ℕ) × IsFinished c es i cw end))
+  -- an answer has each earlier round that its sender has, or its watermark is above it
   pub tells : (from to : RoleId) (i w : Round) (entries : List Entry) → Member (letter from to (msg.MatchB i w entries)) (run c es).sent
-      → (j : Round) (g : Shape) → is_before j i ≡ true → HasKept (run c es).kept from (kept.Match j g)
+      → (j : Round) (g : Shape) → is_before j i ≡ true → HasRound (run c es).kept from j g
       → Member {X = Entry} (record { round = j; grid = g }) entries ⊎ (is_before j w ≡ true)
   -- a real watermark has its entry, unless it is the answer's own round
   pub has_watermark : (from to : RoleId) (i w : Round) (entries : List Entry) → Member (letter from to (msg.MatchB i w entries)) (run c es).sent
@@ -203,7 +250,7 @@ pub record MatchingFacts (c : Cluster) (es : List Event) : Type 0 where
   -- what an answer to a reader says, when it is sent
   pub tells_readers : (e : Event) (from to : RoleId) (u : Asking) (w : Round) (entries : List Entry)
       → Member (letter from to (msg.MatchReadAck u w entries)) (change (run c es) e).sends
-      → (j : Round) (g : Shape) → HasKept (run c es).kept from (kept.Match j g)
+      → (j : Round) (g : Shape) → HasRound (run c es).kept from j g
       → Member {X = Entry} (record { round = j; grid = g }) entries ⊎ (is_before j w ≡ true)
   pub readers_watermark : (from to : RoleId) (u : Asking) (w : Round) (entries : List Entry) → Member (letter from to (msg.MatchReadAck u w entries)) (run c es).sent
       → (w ≡ no_round) ⊎ ((g : Shape) × Member {X = Entry} (record { round = w; grid = g }) entries)
@@ -231,10 +278,11 @@ pub record IsCollected (c : Cluster) (es : List Event) (w : Round) (g : Shape) :
   pub informed : (a : ℕ) → Member a (column_of g column) → IsInformed (run c es).sent (role kind.Acceptor a) w mark
   pub chosen : (s : ℕ) → mark ≤ s → s < end → (v : Value) × (is_chosen_in (run c es).kept w g s v ≡ true)
 
--- Collection: a matchmaker forgets rounds only for one that was collected, and whoever was informed says so to every later round.
+-- Collection: a matchmaker forgets rounds, or begins without them, only for one that was collected, and whoever was informed says so to every
+-- later round.
 pub record CollectionFacts (c : Cluster) (es : List Event) : Type 0 where
-  pub collected : (who : RoleId) (w : Round) (g : Shape) → HasKept (run c es).kept who (kept.Garbage w g) → IsCollected c es w g
-  pub asked : (who : RoleId) (w : Round) (g : Shape) → HasKept (run c es).kept who (kept.Garbage w g) → IsRetiring (run c es).sent w
+  pub collected : (who : RoleId) (w : Round) (g : Shape) → HasRetired (run c es).kept who w g → IsCollected c es w g
+  pub asked : (who : RoleId) (w : Round) (g : Shape) → HasRetired (run c es).kept who w g → IsRetiring (run c es).sent w
   pub informed : (a : ℕ) (to : RoleId) (i : Round) (cw : ℕ) → Member (letter (role kind.Acceptor a) to (msg.Informed i cw)) (run c es).sent
       → (is_before (acceptor_of (run c es).kept a).promise i ≡ false) × (cw ≤ (acceptor_of (run c es).kept a).cw)
   pub tells_later : (a : ℕ) (to other : RoleId) (i k : Round) (cw told : ℕ) (votes : List Vote)

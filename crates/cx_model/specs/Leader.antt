@@ -6,11 +6,12 @@ use Rattle.cx_base.specs.declared.command.Command.{Command}
 use Rattle.cx_base.specs.declared.command.Placed.{Placed}
 use Rattle.cx_base.specs.declared.command.Value.TheVariants.{Batch}
 use Rattle.cx_base.specs.declared.event.Order.{Order as OrderOf}
-use Rattle.cx_base.specs.declared.event.Order.TheVariants.{Lead, Change, Collect}
+use Rattle.cx_base.specs.declared.event.Order.TheVariants.{Lead, Change, Collect, Replace}
 use Rattle.cx_base.specs.declared.role.RoleId.{RoleId}
 use Rattle.cx_base.specs.declared.role.Kind.TheVariants.{Acceptor, Batcher, Leader, Matchmaker, Proxy}
 use Rattle.cx_base.specs.declared.round.Round.{Round}
 use Rattle.cx_base.specs.declared.why.Why.TheVariants as why
+use Rattle.cx_base.specs.Sets.{is_above}
 use Rattle.cx_base.specs.Grid.{Shape, is_in}
 use Rattle.cx_base.specs.Lists.{below, numbers}
 use Rattle.cx_base.specs.Role.{same_role, role}
@@ -32,7 +33,7 @@ use Rattle.cx_model.specs.declared.states.Mode.TheVariants.{Idle, Matching, Phas
 use Rattle.cx_model.specs.declared.states.Plan.{Plan}
 use Rattle.cx_model.specs.declared.states.Promised.{Promised}
 use Rattle.cx_model.specs.Collection.{Collection, not_collecting, collection_from, with_informed, with_forgotten, is_off, is_informing, is_collecting, is_retired}
-use Rattle.cx_model.specs.Matched.{enough, matchmakers, later_round, is_counted, live_entries, is_member_of, members_of, members_in, rows_whole}
+use Rattle.cx_model.specs.Matched.{enough, first_set, later_round, is_counted, live_entries, is_member_of, members_of, members_in, rows_whole}
 use Rattle.cx_model.specs.Names.{names, names_round, names_grid}
 use Rattle.cx_model.specs.Outcome.{Outcome, answered, replied}
 use Rattle.cx_model.specs.Plan.{promised_by, has_promised, plan, placed_from}
@@ -42,7 +43,8 @@ use Rattle.cx_model.specs.Rules.{Rules}
 pub record LeaderDurable : Type 0 where
   pub own : Option Entry
 
--- What it is doing; the greatest round that it heard of; the greatest number of slots that each replica reported; the
+-- What it is doing; the greatest round that it heard of; the set of matchmakers that it knows; the greatest number of slots that
+-- each replica reported; the
 -- matchmakers' and the acceptors' answers that it counted; the chosen watermark and the next free slot; the slot before which it
 -- proposed when it began to lead; the values that it proposed from the watermark on, by slot, in its round or, while it goes on
 -- to another grid, in the round before; which of these slots it knows to be chosen in its round; and how far it is in retiring
@@ -50,6 +52,7 @@ pub record LeaderDurable : Type 0 where
 pub record LeaderVolatile : Type 0 where
   pub mode : Mode
   pub seen : Round
+  pub set : List ℕ
   pub held : List ℕ
   pub told : List MatchAnswer
   pub promises : List Promised
@@ -118,7 +121,7 @@ begin_in c me v g (Some i) =
       why = why.Started;
       kept = Some (kept.Round i g);
       volatile = record v { mode = Matching; told = []; promises = []; collection = not_collecting };
-      sends = map (match_a_to me i g) (matchmakers c);
+      sends = map (match_a_to me i g) v.set;
     }
 
 -- the order to lead: a round above all that it has seen
@@ -171,7 +174,7 @@ match_counted c me (Some own) v =
 -- a matchmaker answers
 abbrev pub match_b_row : Cluster → RoleId → LeaderDurable → LeaderVolatile → RoleId → Round → Round → List Entry → Outcome LeaderVolatile
 match_b_row c me d v from i w es =
-    if not (is_matching v.mode && is_own d i) then answered why.Old v
+    if not (is_matching v.mode && is_own d i && is_in from.index v.set) then answered why.Old v
     else if is_counted from.index v.told then answered why.Same v
     else match_counted c me d.own (record v { told = v.told ++ record { matchmaker = from.index; watermark = w; entries = es } ∷ [] })
 
@@ -205,9 +208,9 @@ has_no_room nack.Collected = false
 has_no_room nack.Later = false
 
 -- a matchmaker doesn't record the round, and reports a greater one; where it has no room the leader goes on
-abbrev pub match_nack_row : LeaderDurable → LeaderVolatile → Round → NackReason → Round → Outcome LeaderVolatile
-match_nack_row d v i reason other =
-    if is_idle v.mode || not (is_own d i) then answered why.Old (with_seen other v)
+abbrev pub match_nack_row : LeaderDurable → LeaderVolatile → RoleId → Round → NackReason → Round → Outcome LeaderVolatile
+match_nack_row d v from i reason other =
+    if is_idle v.mode || not (is_own d i) || not (is_in from.index v.set) then answered why.Old (with_seen other v)
     else if has_no_room reason then answered why.Full (with_seen other v)
     else answered why.Nacked (record (with_seen other v) { mode = Idle })
 
@@ -288,7 +291,7 @@ collect_row c me d v = if is_leading v.mode then collect_in c me v d.own else an
 abbrev pub informed_counted : Cluster → RoleId → Entry → LeaderVolatile → Collection → Outcome LeaderVolatile
 informed_counted c me own v k =
     if is_collecting k.stage
-    then replied why.Collecting (record v { collection = k }) (map (garbage_a_to me own) (matchmakers c))
+    then replied why.Collecting (record v { collection = k }) (map (garbage_a_to me own) v.set)
     else answered why.Counted (record v { collection = k })
 
 abbrev pub informed_in : Cluster → RoleId → LeaderVolatile → RoleId → Option Entry → Outcome LeaderVolatile
@@ -310,13 +313,26 @@ forgotten_counted v k = answered (if is_retired k.stage then why.Retired else wh
 -- a matchmaker has forgotten the earlier rounds
 abbrev pub garbage_b_row : Cluster → LeaderDurable → LeaderVolatile → RoleId → Round → Outcome LeaderVolatile
 garbage_b_row c d v from i =
-    if not (is_leading v.mode && is_own d i && is_collecting v.collection.stage) then answered why.Old v
+    if not (is_leading v.mode && is_own d i && is_collecting v.collection.stage && is_in from.index v.set) then answered why.Old v
     else if is_in from.index v.collection.counted then answered why.Same v
     else forgotten_counted v (with_forgotten (enough c) from.index v.collection)
 
+-- the members of the new set are asked the same; what was counted of the earlier set goes
+abbrev pub set_learnt : RoleId → LeaderVolatile → Mode → Option Entry → Outcome LeaderVolatile
+set_learnt me v Matching (Some own) = replied why.Learnt (record v { told = [] }) (map (match_a_to me own.round own.grid) v.set)
+set_learnt me v Leading (Some own) =
+    if is_collecting v.collection.stage
+    then replied why.Learnt (record v { collection = record v.collection { counted = [] } }) (map (garbage_a_to me own) v.set)
+    else answered why.Learnt v
+set_learnt me v other own = answered why.Learnt v
+
+-- a replacer sends a set that took over
+abbrev pub sets_row : RoleId → LeaderDurable → LeaderVolatile → List ℕ → Outcome LeaderVolatile
+sets_row me d v s = if is_above s v.set then set_learnt me (record v { set = s }) v.mode d.own else answered why.Old v
+
 abbrev pub leader_takes : Cluster → RoleId → LeaderDurable → LeaderVolatile → RoleId → Msg → Outcome LeaderVolatile
 leader_takes c me d v from (msg.MatchB i w es) = match_b_row c me d v from i w es
-leader_takes c me d v from (msg.MatchNack i reason other) = match_nack_row d v i reason other
+leader_takes c me d v from (msg.MatchNack i reason other) = match_nack_row d v from i reason other
 leader_takes c me d v from (msg.Phase1B i cw votes) = phase1b_row c me d v from i cw votes
 leader_takes c me d v from (msg.Nack i promise) = nack_row d v i promise
 leader_takes c me d v from (msg.Batch commands) = batch_row c me d v commands
@@ -324,6 +340,7 @@ leader_takes c me d v from (msg.ChosenIn i s) = chosen_in_row d v i s
 leader_takes c me d v from (msg.Held n) = held_row c v from n
 leader_takes c me d v from (msg.Informed i cw) = informed_row c me d v from i cw
 leader_takes c me d v from (msg.GarbageB i) = garbage_b_row c d v from i
+leader_takes c me d v from (msg.Sets s) = sets_row me d v s
 leader_takes c me d v from other = answered why.Stranger v
 
 -- the values whose slots aren't known to be chosen
@@ -334,26 +351,27 @@ abbrev pub open_values : LeaderVolatile → List Placed
 open_values v = without_known v.chosen v.proposed
 
 -- what the present stage of retiring asks again
-abbrev pub stage_sends : Cluster → RoleId → Entry → Collection → List Letter
-stage_sends c me own k =
+abbrev pub stage_sends : Cluster → RoleId → Entry → List ℕ → Collection → List Letter
+stage_sends c me own set k =
     if is_informing k.stage then map (inform_to me own.round k.mark) (members_in c own.grid)
-    else if is_collecting k.stage then map (garbage_a_to me own) (matchmakers c)
+    else if is_collecting k.stage then map (garbage_a_to me own) set
     else []
 
 -- what is waited for is asked again
 abbrev pub tick_in : Cluster → RoleId → LeaderVolatile → Mode → Option Entry → Outcome LeaderVolatile
 tick_in c me v mode None = answered why.Idle v
 tick_in c me v Idle (Some own) = answered why.Idle v
-tick_in c me v Matching (Some own) = replied why.Resent v (map (match_a_to me own.round own.grid) (matchmakers c))
+tick_in c me v Matching (Some own) = replied why.Resent v (map (match_a_to me own.round own.grid) v.set)
 tick_in c me v Phase1 (Some own) = replied why.Resent v (map (phase1a_to me own.round) (members_of c (live_entries v.told)))
 tick_in c me v Leading (Some own) =
     replied why.Resent v
-    (map (propose_to c me own v.cw) (open_values v) ++ map (leads_to me own.round) (below c.batchers) ++ stage_sends c me own v.collection)
+    (map (propose_to c me own v.cw) (open_values v) ++ map (leads_to me own.round) (below c.batchers) ++ stage_sends c me own v.set v.collection)
 
 abbrev pub order_row : Cluster → RoleId → LeaderDurable → LeaderVolatile → OrderOf → Outcome LeaderVolatile
 order_row c me d v (Lead g) = lead_row c me d v g
 order_row c me d v (Change g) = change_row c me d v g
 order_row c me d v Collect = collect_row c me d v
+order_row c me d v (Replace s) = answered why.Stranger v
 
 abbrev pub leader_row : Cluster → RoleId → LeaderDurable → LeaderVolatile → Input → Outcome LeaderVolatile
 leader_row c me d v (Take letter) =
@@ -379,6 +397,7 @@ idle_leader c =
     record {
       mode = Idle;
       seen = no_round;
+      set = first_set c;
       held = map (λ r. 0) (below c.replicas);
       told = [];
       promises = [];

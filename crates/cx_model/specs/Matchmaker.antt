@@ -1,14 +1,16 @@
--- The matchmaker's rows: it records which grid each round uses (JSys 2021).
-use Rattle.std.specs.Prelude.{◌-◌, Bool, false, not, ◌&&◌, nat_lt, nat_le, filter, if◌then◌else◌, List, [], ◌∷◌, ◌++◌, length, slice_get, Some, true, None}
+-- The matchmaker's rows: it records which grid each round uses, and is replaced as a member of a set (JSys 2021; the rows of being replaced are
+-- this project's own).
+use Rattle.std.specs.Prelude.{ℕ, ◌+◌, ◌*◌, ◌-◌, bytes_eq, Bool, true, false, not, ◌&&◌, nat_lt, nat_le, filter, if◌then◌else◌, List, [], ◌∷◌, ◌++◌, length, slice_get, Option, None, Some}
 use Rattle.std.specs.List.{list_all, list_any}
 use Rattle.std.specs.Option.{option_map_or}
 use Rattle.cx_base.specs.declared.cluster.Cluster.{Cluster}
 use Rattle.cx_base.specs.declared.role.Kind.TheVariants.{Matchmaker}
 use Rattle.cx_base.specs.declared.role.RoleId.{RoleId}
 use Rattle.cx_base.specs.declared.round.Round.{Round}
-use Rattle.cx_base.specs.declared.why.Why.TheVariants.{Asked, Collected, Full, Idle, Later, Matched, Raised, Same, Stranger}
-use Rattle.cx_base.specs.Grid.{Shape}
+use Rattle.cx_base.specs.declared.why.Why.TheVariants.{Accepted, Asked, Booted, Collected, Full, Halted, Idle, Later, Matched, Nack, New, Old, Raised, Same, Stopped, Stranger, Unasked}
+use Rattle.cx_base.specs.Grid.{Shape, is_in}
 use Rattle.cx_base.specs.Role.{same_role}
+use Rattle.cx_base.specs.Lists.{below}
 use Rattle.cx_base.specs.Round.{is_before, same_round, no_round}
 use Rattle.cx_msg.specs.Letter.{Letter, letter}
 use Rattle.cx_msg.specs.declared.input.Input.{Input}
@@ -21,14 +23,37 @@ use Rattle.cx_msg.specs.declared.message.Msg.{Msg}
 use Rattle.cx_msg.specs.declared.message.Msg.TheVariants as msg
 use Rattle.cx_msg.specs.declared.kept.Record.{Record}
 use Rattle.cx_msg.specs.declared.kept.Record.TheVariants as kept
-use Rattle.cx_model.specs.Names.{names, names_round, names_grid}
+use Rattle.cx_model.specs.Names.{names, names_round, names_grid, names_entry, names_ballot, names_set}
 use Rattle.cx_model.specs.Outcome.{Outcome, answered, replied}
 use Rattle.cx_model.specs.Rules.{Rules}
 
--- the round below which rounds are retired, and the rounds that were recorded, rising, with their grids
+-- The round below which rounds are retired, and the rounds that were recorded, rising, with their grids; the set with which it began, if it
+-- began in one that followed another; the greatest ballot that it promised, which it stopped under, and the ballot in which it accepted a next
+-- set last, with that set.
 pub record MatchmakerDurable : Type 0 where
   pub watermark : Round
   pub entries : List Entry
+  pub booted : Option (List ℕ)
+  pub ballot : Round
+  pub accepted : Round
+  pub next : List ℕ
+
+-- it has stopped: a ballot is a real round
+abbrev pub is_stopped : MatchmakerDurable → Bool
+is_stopped d = is_before no_round d.ballot
+
+-- the set that it is a member of: it began in it, or it is one of the first
+abbrev pub set_of : Cluster → RoleId → Option (List ℕ) → Option (List ℕ)
+set_of c me (Some s) = Some s
+set_of c me None = if nat_lt me.index (2 * c.f + 1) then Some (below (2 * c.f + 1)) else None
+
+abbrev pub has_set : Option (List ℕ) → Bool
+has_set None = false
+has_set (Some s) = true
+
+-- it is a member of a set
+abbrev pub is_booted : Cluster → RoleId → MatchmakerDurable → Bool
+is_booted c me d = has_set (set_of c me d.booted)
 
 abbrev pub entry : Round → Shape → Entry
 entry i g = record { round = i; grid = g }
@@ -54,14 +79,24 @@ with_own i g es = if has_round i es then es else entry i g ∷ es
 
 abbrev pub matchmaker_after : MatchmakerDurable → Record → MatchmakerDurable
 matchmaker_after d (kept.Match i g) = record d { entries = d.entries ++ entry i g ∷ [] }
-matchmaker_after d (kept.Garbage i g) = record { watermark = i; entries = with_own i g (entries_from i d.entries) }
+matchmaker_after d (kept.Garbage i g) = record d { watermark = i; entries = with_own i g (entries_from i d.entries) }
+matchmaker_after d (kept.Stop b) = record d { ballot = b }
+matchmaker_after d (kept.Next b s) = record d { ballot = b; accepted = b; next = s }
+matchmaker_after d (kept.Boot s w es) = record d { booted = Some s; watermark = w; entries = es }
 matchmaker_after d other = d
 
 -- whether the matchmaker could have appended this record; it records at most 16 rounds
 abbrev pub matchmaker_fits : Cluster → RoleId → MatchmakerDurable → Record → Bool
 matchmaker_fits c me d (kept.Match i g) =
-    names_round c i && names_grid c g && not (is_before i d.watermark) && list_all (λ (e : Entry). is_before e.round i) d.entries && nat_lt (length d.entries) 16
-matchmaker_fits c me d (kept.Garbage i g) = names_round c i && names_grid c g && is_before d.watermark i
+    is_booted c me d && not (is_stopped d) && names_round c i && names_grid c g && not (is_before i d.watermark)
+    && list_all (λ (e : Entry). is_before e.round i) d.entries && nat_lt (length d.entries) 16
+matchmaker_fits c me d (kept.Garbage i g) =
+    is_booted c me d && not (is_stopped d) && names_round c i && names_grid c g && is_before d.watermark i
+matchmaker_fits c me d (kept.Stop b) = is_booted c me d && names_ballot c b && is_before d.ballot b
+matchmaker_fits c me d (kept.Next b s) =
+    is_booted c me d && names_ballot c b && names_set c s && not (is_before b d.ballot) && not (same_round b d.accepted)
+matchmaker_fits c me d (kept.Boot s w es) =
+    not (is_booted c me d) && is_in me.index s && names_set c s && names_round c w && list_all (λ (e : Entry). names_entry c e) es
 matchmaker_fits c me d other = false
 
 abbrev pub match_b_to : RoleId → RoleId → Round → MatchmakerDurable → Letter
@@ -93,15 +128,61 @@ garbage_a_row me d from i g =
 abbrev pub match_read_row : RoleId → MatchmakerDurable → RoleId → Asking → Outcome (Unit {0})
 match_read_row me d from u = replied Asked tt (letter me from (msg.MatchReadAck u d.watermark d.entries) ∷ [])
 
-abbrev pub matchmaker_takes : RoleId → MatchmakerDurable → RoleId → Msg → Outcome (Unit {0})
-matchmaker_takes me d from (msg.MatchA i g) = match_a_row me d from i g
-matchmaker_takes me d from (msg.GarbageA i g) = garbage_a_row me d from i g
-matchmaker_takes me d from (msg.MatchRead u) = match_read_row me d from u
-matchmaker_takes me d from other = answered Stranger tt
+-- ---- being replaced: in its set it answers ballots as an acceptor of one decree does, and the first ballot stops it
+
+abbrev pub stop_b_to : RoleId → RoleId → Round → MatchmakerDurable → Letter
+stop_b_to me replacer b d = letter me replacer (msg.StopB b d.watermark d.entries d.accepted d.next)
+
+abbrev pub stop_nack_to : RoleId → RoleId → Round → MatchmakerDurable → Letter
+stop_nack_to me replacer b d = letter me replacer (msg.StopNack b d.ballot)
+
+-- a replacer asks it to stop
+abbrev pub stop_a_row : RoleId → MatchmakerDurable → RoleId → Round → Outcome (Unit {0})
+stop_a_row me d from b =
+    if is_before b d.ballot then replied Nack tt (stop_nack_to me from b d ∷ [])
+    else if same_round b d.ballot then replied Same tt (stop_b_to me from b d ∷ [])
+    else record { why = Halted; kept = Some (kept.Stop b); volatile = tt; sends = stop_b_to me from b d ∷ [] }
+
+abbrev pub next_b_to : RoleId → RoleId → Round → Letter
+next_b_to me replacer b = letter me replacer (msg.NextB b)
+
+-- a replacer asks it to accept the next set
+abbrev pub next_a_row : RoleId → MatchmakerDurable → RoleId → Round → List ℕ → Outcome (Unit {0})
+next_a_row me d from b s =
+    if is_before b d.ballot then replied Nack tt (stop_nack_to me from b d ∷ [])
+    else if same_round b d.accepted then replied Same tt (next_b_to me from b ∷ [])
+    else record { why = Accepted; kept = Some (kept.Next b s); volatile = tt; sends = next_b_to me from b ∷ [] }
+
+abbrev pub boot_b_to : RoleId → RoleId → List ℕ → Letter
+boot_b_to me replacer s = letter me replacer (msg.BootB s)
+
+abbrev pub boot_in : RoleId → RoleId → List ℕ → Round → List Entry → Option (List ℕ) → Outcome (Unit {0})
+boot_in me from s w es (Some t) = if bytes_eq s t then replied Same tt (boot_b_to me from s ∷ []) else answered Old tt
+boot_in me from s w es None = record { why = Booted; kept = Some (kept.Boot s w es); volatile = tt; sends = boot_b_to me from s ∷ [] }
+
+-- a replacer asks it to begin in a set that was decided
+abbrev pub boot_a_row : Cluster → RoleId → MatchmakerDurable → RoleId → List ℕ → Round → List Entry → Outcome (Unit {0})
+boot_a_row c me d from s w es = if is_in me.index s then boot_in me from s w es (set_of c me d.booted) else answered Unasked tt
+
+-- what only a member of a set does, and what only one that hasn't stopped does
+abbrev pub in_set : Cluster → RoleId → MatchmakerDurable → Outcome (Unit {0}) → Outcome (Unit {0})
+in_set c me d o = if is_booted c me d then o else answered New tt
+
+abbrev pub at_work : Cluster → RoleId → MatchmakerDurable → Outcome (Unit {0}) → Outcome (Unit {0})
+at_work c me d o = in_set c me d (if is_stopped d then answered Stopped tt else o)
+
+abbrev pub matchmaker_takes : Cluster → RoleId → MatchmakerDurable → RoleId → Msg → Outcome (Unit {0})
+matchmaker_takes c me d from (msg.MatchA i g) = at_work c me d (match_a_row me d from i g)
+matchmaker_takes c me d from (msg.GarbageA i g) = at_work c me d (garbage_a_row me d from i g)
+matchmaker_takes c me d from (msg.MatchRead u) = at_work c me d (match_read_row me d from u)
+matchmaker_takes c me d from (msg.StopA b) = in_set c me d (stop_a_row me d from b)
+matchmaker_takes c me d from (msg.NextA b s) = in_set c me d (next_a_row me d from b s)
+matchmaker_takes c me d from (msg.BootA s w es) = boot_a_row c me d from s w es
+matchmaker_takes c me d from other = answered Stranger tt
 
 abbrev pub matchmaker_row : Cluster → RoleId → MatchmakerDurable → Unit {0} → Input → Outcome (Unit {0})
 matchmaker_row c me d v (Take letter) =
-    if same_role letter.to me && names c letter then matchmaker_takes me d letter.from letter.msg else answered Stranger tt
+    if same_role letter.to me && names c letter then matchmaker_takes c me d letter.from letter.msg else answered Stranger tt
 matchmaker_row c me d v Tick = answered Idle tt
 matchmaker_row c me d v (Order order) = answered Stranger tt
 
@@ -109,7 +190,7 @@ matchmaker_row c me d v (Order order) = answered Stranger tt
 abbrev pub matchmaker_rules : Rules MatchmakerDurable (Unit {0})
 matchmaker_rules = record {
   kind = Matchmaker;
-  empty = record { watermark = no_round; entries = [] };
+  empty = record { watermark = no_round; entries = []; booted = None; ballot = no_round; accepted = no_round; next = [] };
   after = matchmaker_after;
   fits = matchmaker_fits;
   whole = λ d. true;

@@ -1,5 +1,5 @@
 -- Which names of a datagram or a record lie in the cluster.
-use Rattle.std.specs.Prelude.{Bool, true, ◌&&◌, nat_lt}
+use Rattle.std.specs.Prelude.{ℕ, ◌+◌, ◌*◌, ◌==◌, Bool, true, ◌&&◌, nat_lt, List, [], ◌∷◌, length}
 use Rattle.std.specs.List.{list_all}
 use Rattle.cx_base.specs.declared.cluster.Cluster.{Cluster}
 use Rattle.cx_base.specs.declared.command.Answered.{Answered}
@@ -10,6 +10,7 @@ use Rattle.cx_base.specs.declared.round.Round.{Round}
 use Rattle.cx_base.specs.Cluster.{count_of}
 use Rattle.cx_base.specs.Fold.{commands_of}
 use Rattle.cx_base.specs.Grid.{Shape}
+use Rattle.cx_base.specs.Sets.{is_rising}
 use Rattle.cx_msg.specs.Letter.{Letter}
 use Rattle.cx_field.specs.declared.parts.Asking.{Asking}
 use Rattle.cx_field.specs.declared.parts.Entry.{Entry}
@@ -43,6 +44,14 @@ names_vote c v = names_round c v.round && names_value c v.value
 abbrev pub names_answer : Cluster → Answered → Bool
 names_answer c a = nat_lt a.client c.clients
 
+-- a ballot names its replacer
+abbrev pub names_ballot : Cluster → Round → Bool
+names_ballot c b = nat_lt b.id c.replacers
+
+-- a set of matchmakers has 2f + 1 of them
+abbrev pub names_set : Cluster → List ℕ → Bool
+names_set c s = (length s == 2 * c.f + 1) && is_rising s && list_all (λ m. nat_lt m c.pool) s
+
 abbrev pub names_token : Cluster → Token → Bool
 names_token c t = nat_lt t.client c.clients
 
@@ -50,7 +59,12 @@ names_token c t = nat_lt t.client c.clients
 abbrev pub names_asking : Cluster → Asking → Bool
 names_asking c u = nat_lt u.reader c.readers
 
--- each name in what a datagram says: leaders of rounds, members of grids, clients, readers, replicas
+-- a next set that was accepted, or none
+abbrev pub names_next : Cluster → List ℕ → Bool
+names_next c [] = true
+names_next c (m ∷ ms) = names_set c (m ∷ ms)
+
+-- each name in what a datagram says: leaders of rounds, replacers of ballots, members of grids and sets, clients, readers, replicas
 abbrev pub names_body : Cluster → Msg → Bool
 names_body c (msg.Submit command) = names_command c command
 names_body c (msg.Batch commands) = list_all (λ (k : Command). names_command c k) commands
@@ -81,8 +95,16 @@ names_body c (msg.PreRead u w) = names_asking c u && names_round c w
 names_body c (msg.PreReadAck u w n) = names_asking c u && names_round c w
 names_body c (msg.Read t n key) = names_token c t
 names_body c (msg.ReadAnswer seq n text) = true
+names_body c (msg.StopA b) = names_ballot c b
+names_body c (msg.StopB b w es a s) = names_ballot c b && names_round c w && list_all (λ (e : Entry). names_entry c e) es && names_ballot c a && names_next c s
+names_body c (msg.StopNack b a) = names_ballot c b && names_ballot c a
+names_body c (msg.NextA b s) = names_ballot c b && names_set c s
+names_body c (msg.NextB b) = names_ballot c b
+names_body c (msg.BootA s w es) = names_set c s && names_round c w && list_all (λ (e : Entry). names_entry c e) es
+names_body c (msg.BootB s) = names_set c s
+names_body c (msg.Sets s) = names_set c s
 names_body c (msg.SessRead seq n key) = true
 
--- every role, leader, member, client, reader and replica that a datagram names lies in the cluster
+-- every role, leader, replacer, member, client, reader and replica that a datagram names lies in the cluster
 abbrev pub names : Cluster → Letter → Bool
 names c d = names_role c d.from && names_role c d.to && names_body c d.msg

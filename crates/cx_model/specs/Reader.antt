@@ -8,10 +8,12 @@ use Rattle.cx_base.specs.declared.role.RoleId.{RoleId}
 use Rattle.cx_base.specs.declared.role.Kind.TheVariants.{Acceptor, Matchmaker, Reader, Replica}
 use Rattle.cx_base.specs.declared.round.Round.{Round}
 use Rattle.cx_base.specs.declared.why.Why.{Why}
-use Rattle.cx_base.specs.declared.why.Why.TheVariants.{Again, Counted, End, Full, Idle, Old, Queued, Resent, Same, Sent, Started, Stranger, Unasked}
+use Rattle.cx_base.specs.declared.why.Why.TheVariants.{Again, Counted, End, Full, Idle, Learnt, Old, Queued, Resent, Same, Sent, Started, Stranger, Unasked}
 use Rattle.cx_base.specs.declared.why.Why.TheVariants as why
+use Rattle.cx_base.specs.Grid.{is_in}
 use Rattle.cx_base.specs.Role.{same_role, role}
 use Rattle.cx_base.specs.Round.{same_round}
+use Rattle.cx_base.specs.Sets.{is_above}
 use Rattle.cx_msg.specs.Letter.{Letter, letter}
 use Rattle.cx_msg.specs.declared.input.Input.{Input}
 use Rattle.cx_msg.specs.declared.input.Input.TheVariants.{Take, Tick, Order}
@@ -22,7 +24,7 @@ use Rattle.cx_msg.specs.declared.message.Msg.{Msg}
 use Rattle.cx_msg.specs.declared.message.Msg.TheVariants as msg
 use Rattle.cx_model.specs.declared.states.Acked.{Acked}
 use Rattle.cx_model.specs.declared.states.MatchAnswer.{MatchAnswer}
-use Rattle.cx_model.specs.Matched.{enough, matchmakers, is_counted, greatest_watermark, live_entries, is_member_of, members_of, rows_whole}
+use Rattle.cx_model.specs.Matched.{enough, first_set, is_counted, greatest_watermark, live_entries, is_member_of, members_of, rows_whole}
 use Rattle.cx_model.specs.Names.{names}
 use Rattle.cx_model.specs.Outcome.{Outcome, answered, replied}
 use Rattle.cx_model.specs.Request.{same_read}
@@ -50,10 +52,11 @@ pub record Batch : Type 0 where
   pub told : List MatchAnswer
   pub acks : List Acked
 
--- the reads that wait for the next batch, in the order in which they came
+-- the reads that wait for the next batch, in the order in which they came; and the set of matchmakers that it knows
 pub record ReaderVolatile : Type 0 where
   pub waiting : List Asked
   pub running : Option Batch
+  pub set : List ℕ
 
 abbrev pub token : ℕ → ℕ → Token
 token client seq = record { client = client; seq = seq }
@@ -108,8 +111,8 @@ same_asking u other = (u.reader == other.reader) && (u.turn == other.turn)
 abbrev pub match_read_to : RoleId → Asking → ℕ → Letter
 match_read_to me u m = letter me (role Matchmaker m) (msg.MatchRead u)
 
-abbrev pub ask_matchmakers : Cluster → RoleId → ℕ → List Letter
-ask_matchmakers c me turn = map (match_read_to me (asking_of me turn)) (matchmakers c)
+abbrev pub ask_matchmakers : RoleId → List ℕ → ℕ → List Letter
+ask_matchmakers me set turn = map (match_read_to me (asking_of me turn)) set
 
 abbrev pub pre_read_to : RoleId → Batch → ℕ → Letter
 pre_read_to me b a = letter me (role Acceptor a) (msg.PreRead (asking_of me b.turn) (greatest_watermark b.told))
@@ -129,40 +132,40 @@ ask_replicas me b n = map (read_to me n) b.reads
 abbrev pub new_batch : ℕ → List Asked → Batch
 new_batch turn reads = record { turn = turn; reads = reads; told = []; acks = [] }
 
--- A batch of these reads begins behind what is sent first: its turn is kept, and all matchmakers are asked.
-abbrev pub begin : Cluster → RoleId → ReaderDurable → Why → List Letter → List Asked → Outcome ReaderVolatile
-begin c me d w first reads =
+-- A batch of these reads begins behind what is sent first: its turn is kept, and all matchmakers of the known set are asked.
+abbrev pub begin : RoleId → ReaderDurable → ReaderVolatile → Why → List Letter → List Asked → Outcome ReaderVolatile
+begin me d v w first reads =
     record {
       why = w;
       kept = Some (kept.Turn (d.turn + 1));
-      volatile = record { waiting = []; running = Some (new_batch (d.turn + 1) reads) };
-      sends = first ++ ask_matchmakers c me (d.turn + 1);
+      volatile = record v { waiting = []; running = Some (new_batch (d.turn + 1) reads) };
+      sends = first ++ ask_matchmakers me v.set (d.turn + 1);
     }
 
 -- where there is no turn any more, nothing changes
-abbrev pub begin_if : Cluster → RoleId → ReaderDurable → ReaderVolatile → Why → List Asked → Outcome ReaderVolatile
-begin_if c me d v w reads = if d.turn == last_turn then answered End v else begin c me d w [] reads
+abbrev pub begin_if : RoleId → ReaderDurable → ReaderVolatile → Why → List Asked → Outcome ReaderVolatile
+begin_if me d v w reads = if d.turn == last_turn then answered End v else begin me d v w [] reads
 
-abbrev pub request_over : Cluster → RoleId → ReaderDurable → ReaderVolatile → Asked → Option Batch → Outcome ReaderVolatile
-request_over c me d v one None =
-    if nat_le 64 (length v.waiting) then answered Full v else begin_if c me d v Started (v.waiting ++ one ∷ [])
-request_over c me d v one (Some b) =
-    if is_first one.read b.reads then begin_if c me d v Again (with_asked one b.reads ++ v.waiting)
+abbrev pub request_over : RoleId → ReaderDurable → ReaderVolatile → Asked → Option Batch → Outcome ReaderVolatile
+request_over me d v one None =
+    if nat_le 64 (length v.waiting) then answered Full v else begin_if me d v Started (v.waiting ++ one ∷ [])
+request_over me d v one (Some b) =
+    if is_first one.read b.reads then begin_if me d v Again (with_asked one b.reads ++ v.waiting)
     else if is_among one.read b.reads then answered Same v
     else if nat_le 64 (length v.waiting + length b.reads) then answered Full v
     else answered Queued (record v { waiting = v.waiting ++ one ∷ [] })
 
 -- A client asks for a key. A read that waits waits on, with what it asks now; the first of the running batch begins that anew, with all that wait.
-abbrev pub request_row : Cluster → RoleId → ReaderDurable → ReaderVolatile → Asked → Outcome ReaderVolatile
-request_row c me d v one =
+abbrev pub request_row : RoleId → ReaderDurable → ReaderVolatile → Asked → Outcome ReaderVolatile
+request_row me d v one =
     if is_among one.read v.waiting then answered Again (record v { waiting = with_asked one v.waiting })
-    else request_over c me d v one v.running
+    else request_over me d v one v.running
 
 -- The replicas are asked, and the batch has ended; where reads wait, the next one begins, at the last turn none.
-abbrev pub finish : Cluster → RoleId → ReaderDurable → ReaderVolatile → Batch → ℕ → Outcome ReaderVolatile
-finish c me d v b n =
+abbrev pub finish : RoleId → ReaderDurable → ReaderVolatile → Batch → ℕ → Outcome ReaderVolatile
+finish me d v b n =
     if nat_lt 0 (length v.waiting) && not (d.turn == last_turn)
-    then begin c me d Sent (ask_replicas me b n) v.waiting
+    then begin me d v Sent (ask_replicas me b n) v.waiting
     else replied Sent (record v { running = None }) (ask_replicas me b n)
 
 abbrev pub with_batch : ReaderVolatile → Batch → ReaderVolatile
@@ -170,7 +173,7 @@ with_batch v b = record v { running = Some b }
 
 -- enough matchmakers have answered; where no grid is live nothing was ever voted for
 abbrev pub matched : Cluster → RoleId → ReaderDurable → ReaderVolatile → Batch → List Entry → Outcome ReaderVolatile
-matched c me d v b [] = finish c me d v b 0
+matched c me d v b [] = finish me d v b 0
 matched c me d v b (e ∷ es) = replied why.Asking (with_batch v b) (map (pre_read_to me b) (members_of c (e ∷ es)))
 
 abbrev pub match_ack_counted : Cluster → RoleId → ReaderDurable → ReaderVolatile → Batch → Outcome ReaderVolatile
@@ -185,13 +188,13 @@ is_of_batch me b u = same_asking u (asking_of me b.turn)
 abbrev pub match_ack_row : Cluster → RoleId → ReaderDurable → ReaderVolatile → RoleId → Asking → Round → List Entry → Option Batch → Outcome ReaderVolatile
 match_ack_row c me d v from u w es None = answered Unasked v
 match_ack_row c me d v from u w es (Some b) =
-    if not (is_of_batch me b u && not (is_matched c b)) then answered Unasked v
+    if not (is_of_batch me b u && not (is_matched c b) && is_in from.index v.set) then answered Unasked v
     else if is_counted from.index b.told then answered Same v
     else match_ack_counted c me d v (record b { told = b.told ++ record { matchmaker = from.index; watermark = w; entries = es } ∷ [] })
 
 abbrev pub pre_read_counted : Cluster → RoleId → ReaderDurable → ReaderVolatile → Batch → Outcome ReaderVolatile
 pre_read_counted c me d v b =
-    if rows_whole (live_entries b.told) (acked_by b.acks) then finish c me d v b (greatest_mark b.acks)
+    if rows_whole (live_entries b.told) (acked_by b.acks) then finish me d v b (greatest_mark b.acks)
     else answered Counted (with_batch v b)
 
 -- an acceptor of a live grid answers, with the watermark that it was asked with
@@ -206,12 +209,24 @@ pre_read_ack_row c me d v from u w n (Some b) =
 -- a tick asks again: the matchmakers in the first stage, the acceptors in the second
 abbrev pub reader_tick : Cluster → RoleId → ReaderVolatile → Option Batch → Outcome ReaderVolatile
 reader_tick c me v None = answered Idle v
-reader_tick c me v (Some b) = replied Resent v (if is_matched c b then ask_acceptors c me b else ask_matchmakers c me b.turn)
+reader_tick c me v (Some b) = replied Resent v (if is_matched c b then ask_acceptors c me b else ask_matchmakers me v.set b.turn)
+
+-- the matchmakers of the known set are asked anew, where they haven't all answered; what was counted of them goes
+abbrev pub asked_anew : Cluster → RoleId → ReaderVolatile → Option Batch → Outcome ReaderVolatile
+asked_anew c me v None = answered Learnt v
+asked_anew c me v (Some b) =
+    if is_matched c b then answered Learnt v
+    else replied Learnt (with_batch v (record b { told = [] })) (ask_matchmakers me v.set b.turn)
+
+-- a replacer sends a set that took over; reads wait on
+abbrev pub sets_row : Cluster → RoleId → ReaderVolatile → List ℕ → Outcome ReaderVolatile
+sets_row c me v s = if is_above s v.set then asked_anew c me (record v { set = s }) v.running else answered Old v
 
 abbrev pub reader_takes : Cluster → RoleId → ReaderDurable → ReaderVolatile → RoleId → Msg → Outcome ReaderVolatile
-reader_takes c me d v from (msg.ReadReq seq replica key) = request_row c me d v (asked_for (token from.index seq) replica key)
+reader_takes c me d v from (msg.ReadReq seq replica key) = request_row me d v (asked_for (token from.index seq) replica key)
 reader_takes c me d v from (msg.MatchReadAck u w es) = match_ack_row c me d v from u w es v.running
 reader_takes c me d v from (msg.PreReadAck u w n) = pre_read_ack_row c me d v from u w n v.running
+reader_takes c me d v from (msg.Sets s) = sets_row c me v s
 reader_takes c me d v from other = answered Stranger v
 
 abbrev pub reader_row : Cluster → RoleId → ReaderDurable → ReaderVolatile → Input → Outcome ReaderVolatile
@@ -237,7 +252,7 @@ reader_rules = record {
   after = reader_after;
   fits = reader_fits;
   whole = λ d. true;
-  fresh = λ c. record { waiting = []; running = None };
+  fresh = λ c. record { waiting = []; running = None; set = first_set c };
   row = reader_row;
   snap = λ c me d v. None;
   renewed = λ d first. [];

@@ -5,6 +5,7 @@
 //! a program that was written apart. So a wrong row is refused here, before anything else rests on it.
 #![tactic(auto, unfolding(crate::specs::World::step, crate::specs::Replica::pieces_of))]
 
+ghost use Rattle.cx_model.specs.ExamplesAcceptedSetIsDecided.{AcceptedSetIsDecided};
 ghost use Rattle.cx_model.specs.ExamplesAnswersOfOtherRounds.{AnswersOfOtherRounds};
 ghost use Rattle.cx_model.specs.ExamplesChangeAsksNobody.{ChangeAsksNobody};
 ghost use Rattle.cx_model.specs.ExamplesChangeIsForgotten.{ChangeIsForgotten};
@@ -26,11 +27,13 @@ ghost use Rattle.cx_model.specs.ExamplesLaterRound.{LaterRound};
 ghost use Rattle.cx_model.specs.ExamplesLimits.{Limits};
 ghost use Rattle.cx_model.specs.ExamplesLowerNumberActs.{LowerNumberActs};
 ghost use Rattle.cx_model.specs.ExamplesLowerRoundIsRefused.{LowerRoundIsRefused};
+ghost use Rattle.cx_model.specs.ExamplesMatchmakersAreReplaced.{MatchmakersAreReplaced};
 ghost use Rattle.cx_model.specs.ExamplesOldAnswerIsNotCounted.{OldAnswerIsNotCounted};
 ghost use Rattle.cx_model.specs.ExamplesOlderRoundIsRefused.{OlderRoundIsRefused};
 ghost use Rattle.cx_model.specs.ExamplesOnePut.{OnePut};
 ghost use Rattle.cx_model.specs.ExamplesOvertakenCommand.{OvertakenCommand};
 ghost use Rattle.cx_model.specs.ExamplesOwnEntryStays.{OwnEntryStays};
+ghost use Rattle.cx_model.specs.ExamplesReadAsksTheNextSet.{ReadAsksTheNextSet};
 ghost use Rattle.cx_model.specs.ExamplesReaderForgets.{ReaderForgets};
 ghost use Rattle.cx_model.specs.ExamplesRefusedChange.{RefusedChange};
 ghost use Rattle.cx_model.specs.ExamplesRepeatTellsItsFloor.{RepeatTellsItsFloor};
@@ -42,6 +45,7 @@ ghost use Rattle.cx_model.specs.ExamplesSession.{Session};
 ghost use Rattle.cx_model.specs.ExamplesSnapshotOfOne.{SnapshotOfOne};
 ghost use Rattle.cx_model.specs.ExamplesSnapshotWaits.{SnapshotWaits};
 ghost use Rattle.cx_model.specs.ExamplesStaleRequests.{StaleRequests};
+ghost use Rattle.cx_model.specs.ExamplesStoppedLogsAreJoined.{StoppedLogsAreJoined};
 ghost use Rattle.cx_model.specs.ExamplesTornAppend.{TornAppend};
 ghost use Rattle.cx_model.specs.ExamplesValuesInSlotOrder.{ValuesInSlotOrder};
 
@@ -258,6 +262,30 @@ pub fn change_settles_anew()
 /// only lead anew, in a round that asks the acceptors.
 pub fn refused_change()
     ensures { RefusedChange }
+{}
+
+/// The one matchmaker is stopped, the next is decided with its vote, and begins with what it recorded. The stopped one
+/// records no round any more; the leader learns of the new one, asks it, and hears of the earlier round.
+pub fn matchmakers_are_replaced()
+    ensures { MatchmakersAreReplaced }
+{}
+
+/// Two replacers have a next set decided among the same matchmakers. The first one is refused, begins anew and hears of two
+/// accepted sets. It asks for the one of the later ballot, which is decided already, and not for the one that it was ordered.
+pub fn accepted_set_is_decided()
+    ensures { AcceptedSetIsDecided }
+{}
+
+/// Two matchmakers with different logs stop, one of which retired earlier rounds. The next set begins with their joined log.
+/// A leader that is matching and one that is retiring ask the next set, and count its answers alone.
+pub fn stopped_logs_are_joined()
+    ensures { StoppedLogsAreJoined }
+{}
+
+/// A reader hears of the next set while a read waits for the matchmakers: it asks that set's members in the same turn, and
+/// counts no answer of the earlier set any more.
+pub fn read_asks_the_next_set()
+    ensures { ReadAsksTheNextSet }
 {}
 
 /// A leader and a replica have a window of 32 slots, a matchmaker records 16 rounds, and the numbers of rounds end.

@@ -9,4 +9,6 @@
 pub mod examples;
 mod states;
 
-pub use states::{Acked, Deferred, MatchAnswer, Mode, Pending, Plan, Promised, Stage};
+pub use states::{
+    Acked, Deferred, Halt, MatchAnswer, Mode, Pending, Plan, Promised, Replacing, Stage,
+};
