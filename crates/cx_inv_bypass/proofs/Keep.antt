@@ -14,7 +14,7 @@ use Rattle.cx_model.specs.Outcome.{Outcome}
 use Rattle.cx_model.specs.Request.{request}
 use Rattle.cx_model.specs.World.{run}
 use Rattle.cx_inv_run.specs.Laws.{Lands, Laws, anything}
-use Rattle.cx_inv_run.specs.States.{State, Down, Plain, BatcherIn, LeaderIn, ProxyIn, ReplicaIn, ReaderIn, plain, fresh_state, set_state, snap_by, with_record, durable_of, HoldsIn}
+use Rattle.cx_inv_run.specs.States.{State, Down, Plain, BatcherIn, LeaderIn, ProxyIn, ReplicaIn, ReaderIn, ReplacerIn, plain, fresh_state, set_state, snap_by, with_record, durable_of, HoldsIn}
 use Rattle.cx_inv_run.proofs.Histories.{by_role, durable_own, durable_other, durable_else, set_running}
 use Rattle.cx_inv_run.proofs.Steps.{always}
 use Rattle.cx_inv_bypass.specs.Full.{FullIn, FullState, Full}
@@ -29,6 +29,7 @@ sent_more history sent ds me (BatcherIn v) h = tt
 sent_more history sent ds me (ProxyIn v) h = tt
 sent_more history sent ds me (ReplicaIn v) h = tt
 sent_more history sent ds me (ReaderIn v) h = tt
+sent_more history sent ds me (ReplacerIn v) h = tt
 
 -- another role's record
 kept_more : (history : List KeptRecord) (sent : List Letter) (me a : RoleId) (r : Option Record) (s : State) → same_role a me ≡ false
@@ -42,6 +43,7 @@ kept_more history sent me a (Some r) (BatcherIn v) e h = tt
 kept_more history sent me a (Some r) (ProxyIn v) e h = tt
 kept_more history sent me a (Some r) (ReplicaIn v) e h = tt
 kept_more history sent me a (Some r) (ReaderIn v) e h = tt
+kept_more history sent me a (Some r) (ReplacerIn v) e h = tt
 
 -- a renewal of another role's list
 snap_more : (history : List KeptRecord) (sent : List Letter) (me a : RoleId) (first : ℕ) (s : State) → same_role a me ≡ false
@@ -54,6 +56,7 @@ snap_more history sent me a first (BatcherIn v) e h = tt
 snap_more history sent me a first (ProxyIn v) e h = tt
 snap_more history sent me a first (ReplicaIn v) e h = tt
 snap_more history sent me a first (ReaderIn v) e h = tt
+snap_more history sent me a first (ReplacerIn v) e h = tt
 
 fresh_full : (history : List KeptRecord) (sent : List Letter) (c : Cluster) (me : RoleId) (k : Kind) → FullState history sent me (fresh_state c k)
 fresh_full history sent c me kind.Client = tt
@@ -65,6 +68,7 @@ fresh_full history sent c me kind.Matchmaker = tt
 fresh_full history sent c me kind.Replica = tt
 fresh_full history sent c me kind.Unbatcher = tt
 fresh_full history sent c me kind.Reader = tt
+fresh_full history sent c me kind.Replacer = tt
 
 module _ (history : List KeptRecord) (sent : List Letter) (states : RoleId → State) (h : Full history sent states) where
   -- a role's step, with what it leaves of its own
@@ -122,6 +126,7 @@ full_laws c = record {
       (subst (λ (s : State). FullState (snap_by me first ∷ kept) sent me s) (sym is) tt) (λ a f. snap_more kept sent me a first (states a) f (h a));
   unbatcher = λ kept sent states u i known h is given. lands_full kept sent states h (role kind.Unbatcher u) plain _ tt;
   reader = λ kept sent states r v i known h is given. lands_full kept sent states h (role kind.Reader r) ReaderIn _ tt;
+  replacer = λ kept sent states x v i known h is given. lands_full kept sent states h (role kind.Replacer x) ReplacerIn _ tt;
 }
 
 -- at every moment of every run

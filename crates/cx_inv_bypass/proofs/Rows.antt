@@ -10,7 +10,7 @@ use Rattle.cx_base.specs.declared.command.Placed.{Placed}
 use Rattle.cx_base.specs.declared.command.Value.{Value}
 use Rattle.cx_base.specs.declared.command.Value.TheVariants.{Batch}
 use Rattle.cx_base.specs.declared.event.Order.{Order as OrderOf}
-use Rattle.cx_base.specs.declared.event.Order.TheVariants.{Lead, Change, Collect}
+use Rattle.cx_base.specs.declared.event.Order.TheVariants.{Lead, Change, Collect, Replace}
 use Rattle.cx_base.specs.declared.role.RoleId.{RoleId}
 use Rattle.cx_base.specs.declared.round.Round.{Round}
 use Rattle.cx_base.specs.declared.why.Why.{Why}
@@ -19,6 +19,7 @@ use Rattle.cx_base.specs.Grid.{Shape, is_in}
 use Rattle.cx_base.specs.Lists.{below, numbers}
 use Rattle.cx_base.specs.Role.{same_role}
 use Rattle.cx_base.specs.Round.{lead_after, change_after}
+use Rattle.cx_base.specs.Sets.{is_above}
 use Rattle.cx_field.specs.declared.parts.Entry.{Entry}
 use Rattle.cx_msg.specs.Letter.{Letter}
 use Rattle.cx_msg.specs.declared.input.Input.{Input}
@@ -30,7 +31,7 @@ use Rattle.cx_model.specs.declared.states.Mode.{Mode}
 use Rattle.cx_model.specs.declared.states.Mode.TheVariants.{Idle, Matching, Phase1, Leading}
 use Rattle.cx_model.specs.Collection.{Collection, with_informed, with_forgotten, is_off, is_informing, is_collecting, is_retired}
 use Rattle.cx_model.specs.Facts.{IsProposed}
-use Rattle.cx_model.specs.Leader.{LeaderDurable, LeaderVolatile, leader_after, round_of, is_own, is_changed, is_idle, is_matching, is_promising, is_leading, leads_to, propose_to, begin_in, finish, bypass, matched_by, match_counted, promise_counted, propose_in, held_by, collect_in, informed_in, forgotten_counted, is_past_window, is_settled, leader_takes, tick_in, order_row, leader_row, has_no_room}
+use Rattle.cx_model.specs.Leader.{LeaderDurable, LeaderVolatile, leader_after, round_of, is_own, is_changed, is_idle, is_matching, is_promising, is_leading, leads_to, propose_to, begin_in, finish, bypass, matched_by, match_counted, promise_counted, propose_in, held_by, collect_in, informed_in, forgotten_counted, set_learnt, is_past_window, is_settled, leader_takes, tick_in, order_row, leader_row, has_no_room}
 use Rattle.cx_model.specs.Matched.{enough, is_counted, live_entries, is_member_of, rows_whole}
 use Rattle.cx_model.specs.Member.{Member}
 use Rattle.cx_model.specs.Names.{names, names_grid}
@@ -251,6 +252,17 @@ module _ (c : Cluster) (me : RoleId) (sent : List Letter) (d : LeaderDurable) (v
       other true = refl
       other false = refl
 
+  -- it learns of another set of matchmakers
+
+  learnt_full : (s : List ℕ) (mode : Mode) (o : Option Entry) → Good (set_learnt me (record v { set = s }) mode o)
+  learnt_full s Matching (Some own) = says why.Learnt _ _ refl h
+  learnt_full s Leading (Some own) =
+      either_way Good (is_collecting v.collection.stage) _ _ (says why.Learnt _ _ refl h) (says why.Learnt _ [] refl h)
+  learnt_full s Idle o = says why.Learnt _ [] refl h
+  learnt_full s Phase1 o = says why.Learnt _ [] refl h
+  learnt_full s Matching None = says why.Learnt _ [] refl h
+  learnt_full s Leading None = says why.Learnt _ [] refl h
+
   -- a new round
 
   begin_full : (g : Shape) (next : Option Round)
@@ -271,14 +283,16 @@ module _ (c : Cluster) (me : RoleId) (sent : List Letter) (d : LeaderDurable) (v
       (by_test Good (not (is_leading v.mode)) _ _ (λ t. same why.Idle refl)
       (λ f. begin_full g (change_after (round_of d.own)) (λ i e t. (round_of d.own, e, while_leading (not-false _ f)))))
   order_full Collect = either_way Good (is_leading v.mode) _ _ (collect_full d.own) (same why.Idle refl)
+  order_full (Replace s) = same why.Stranger refl
 
   takes_full : (from : RoleId) (m : Msg) → Good (leader_takes c me d v from m)
   takes_full from (msg.MatchB i w es) =
-      by_test Good (not (is_matching v.mode && is_own d i)) _ _ (λ t. same why.Old refl)
-      (λ f. either_way Good (is_counted from.index v.told) _ _ (same why.Same refl)
-      (match_counted_full d.own refl (and_parts (is_matching v.mode) (is_own d i) (not-false _ f)).0 _ refl refl refl refl))
+      by_test Good (not (is_matching v.mode && is_own d i && is_in from.index v.set)) _ _ (λ t. same why.Old refl)
+      (λ f. (let of_round = (and_parts (is_matching v.mode && is_own d i) (is_in from.index v.set) (not-false _ f)).0 in
+      either_way Good (is_counted from.index v.told) _ _ (same why.Same refl)
+      (match_counted_full d.own refl (and_parts (is_matching v.mode) (is_own d i) of_round).0 _ refl refl refl refl)))
   takes_full from (msg.MatchNack i reason other) =
-      either_way Good (is_idle v.mode || not (is_own d i)) _ _ (says why.Old _ [] refl h)
+      either_way Good (is_idle v.mode || not (is_own d i) || not (is_in from.index v.set)) _ _ (says why.Old _ [] refl h)
       (either_way Good (has_no_room reason) _ _ (says why.Full _ [] refl h) (tt, other_word refl))
   takes_full from (msg.Phase1B i cw votes) =
       either_way Good (not (is_promising v.mode && is_own d i)) _ _ (same why.Old refl)
@@ -298,9 +312,10 @@ module _ (c : Cluster) (me : RoleId) (sent : List Letter) (d : LeaderDurable) (v
       either_way Good (not (is_leading v.mode && is_own d i && is_informing v.collection.stage && nat_le v.collection.mark cw)) _ _
       (same why.Old refl) (informed_full from d.own)
   takes_full from (msg.GarbageB i) =
-      either_way Good (not (is_leading v.mode && is_own d i && is_collecting v.collection.stage)) _ _ (same why.Old refl)
+      either_way Good (not (is_leading v.mode && is_own d i && is_collecting v.collection.stage && is_in from.index v.set)) _ _ (same why.Old refl)
       (either_way Good (is_in from.index v.collection.counted) _ _ (same why.Same refl)
       (forgotten_full (with_forgotten (enough c) from.index v.collection)))
+  takes_full from (msg.Sets s) = either_way Good (is_above s v.set) _ _ (learnt_full s v.mode d.own) (same why.Old refl)
   takes_full from other = same why.Stranger refl
 
   tick_full : (mode : Mode) (o : Option Entry) → Good (tick_in c me v mode o)

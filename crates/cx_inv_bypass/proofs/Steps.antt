@@ -10,6 +10,7 @@ use Rattle.cx_base.specs.declared.event.Cut.{Cut}
 use Rattle.cx_base.specs.declared.event.Cut.TheVariants.{Whole, Torn, Kept}
 use Rattle.cx_base.specs.declared.event.Event.{Event}
 use Rattle.cx_base.specs.declared.event.Event.TheVariants as event
+use Rattle.cx_base.specs.declared.event.Order.TheVariants.{Replace}
 use Rattle.cx_base.specs.declared.role.Kind.{Kind}
 use Rattle.cx_base.specs.declared.role.Kind.TheVariants as kind
 use Rattle.cx_base.specs.declared.role.RoleId.{RoleId}
@@ -215,6 +216,7 @@ module _ (c : Cluster) (w : World) (is_c : w.cluster ≡ c) (full : HoldsIn Full
     act_did act a kind.Replica is at word = absurd (no_leader a kind.Replica (λ p. cc) is at)
     act_did act a kind.Unbatcher is at word = absurd (no_leader a kind.Unbatcher (λ p. cc) is at)
     act_did act a kind.Reader is at word = absurd (no_leader a kind.Reader (λ p. cc) is at)
+    act_did act a kind.Replacer is at word = absurd (no_leader a kind.Replacer (λ p. cc) is at)
 
     at_did : (act : Act) (a : RoleId) → DidSo (act_at w act a)
     at_did act a = subst (λ (x : Cluster). DidSo (act_of x w.roles w.kept act a a.kind)) (sym is_c) (act_did act a a.kind refl)
@@ -237,6 +239,7 @@ module _ (c : Cluster) (w : World) (is_c : w.cluster ≡ c) (full : HoldsIn Full
     event_did (event.Deliver n cut) = come_did cut (slice_get w.sent n)
     event_did (event.Tick r) = at_did (Give input.Tick Whole) r
     event_did (event.Order l order cut) = at_did (Give (input.Order order) cut) (role kind.Leader l)
+    event_did (event.Replace x s cut) = at_did (Give (input.Order (Replace s)) cut) (role kind.Replacer x)
     event_did (event.Crash r) = at_did Stop r
     event_did (event.Snap replica cut) = at_did (Snap cut) (role kind.Replica replica)
     event_did (event.Restart r) = at_did Wake r

@@ -22,12 +22,13 @@ use Rattle.cx_model.specs.Acceptor.{acceptor_rules}
 use Rattle.cx_model.specs.Leader.{leader_rules}
 use Rattle.cx_model.specs.Matchmaker.{matchmaker_rules}
 use Rattle.cx_model.specs.Reader.{reader_rules}
+use Rattle.cx_model.specs.Replacer.{replacer_rules}
 use Rattle.cx_model.specs.Request.{request}
 use Rattle.cx_model.specs.World.{run}
 use Rattle.cx_inv_run.specs.Laws.{Laws}
-use Rattle.cx_inv_run.specs.States.{State, Down, BatcherIn, LeaderIn, ProxyIn, ReplicaIn, ReaderIn, plain, fresh_state, durable_of, HoldsIn}
+use Rattle.cx_inv_run.specs.States.{State, Down, BatcherIn, LeaderIn, ProxyIn, ReplicaIn, ReaderIn, ReplacerIn, plain, fresh_state, durable_of, HoldsIn}
 use Rattle.cx_inv_run.proofs.Quorums.{length-below}
-use Rattle.cx_inv_run.proofs.Senders.{batcher_kinds, matchmaker_kinds, unbatcher_kinds, reader_kinds}
+use Rattle.cx_inv_run.proofs.Senders.{batcher_kinds, matchmaker_kinds, unbatcher_kinds, reader_kinds, replacer_kinds}
 use Rattle.cx_inv_vote.proofs.Agree.{kept_is_chosen}
 use Rattle.cx_inv_held.specs.Held.{LowState, LowFacts}
 use Rattle.cx_inv_held.specs.Laws.{WatermarksHold, KeptWatermarks, SafeSnapshots}
@@ -101,6 +102,9 @@ low_laws c = record {
       low_lands c kept sent states h (role kind.Unbatcher u) plain _ (calm_low c kept plain (role kind.Unbatcher u) _ tt tt (unbatcher_kinds c (role kind.Unbatcher u) refl i));
   reader = λ kept sent states r v i known h is given.
       low_lands c kept sent states h (role kind.Reader r) ReaderIn _ (calm_low c kept ReaderIn (role kind.Reader r) _ tt tt (reader_kinds c (role kind.Reader r) refl (durable_of reader_rules (role kind.Reader r) kept) v i));
+  replacer = λ kept sent states x v i known h is given.
+      low_lands c kept sent states h (role kind.Replacer x) ReplacerIn _
+      (calm_low c kept ReplacerIn (role kind.Replacer x) _ tt tt (replacer_kinds c (role kind.Replacer x) refl (durable_of replacer_rules (role kind.Replacer x) kept) v i));
 }
 
 -- the facts hold in every run

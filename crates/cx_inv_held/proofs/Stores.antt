@@ -36,16 +36,17 @@ use Rattle.cx_model.specs.Outcome.{Outcome, by_test, either_way}
 use Rattle.cx_model.specs.Promises.{appended, held_in}
 use Rattle.cx_model.specs.Reader.{reader_rules}
 use Rattle.cx_model.specs.Renewed.{IsOrdered, renewed_folds}
+use Rattle.cx_model.specs.Replacer.{replacer_rules}
 use Rattle.cx_model.specs.Replica.{IsTied, Machine, ReplicaDurable, ReplicaVolatile, before, chosen_row, fetch_found, fetch_row, fetched_by, held, notes_of, pieces, read_row, replica_after, replica_renewed, replica_row, replica_rules, replica_takes, snap_mark}
 use Rattle.cx_model.specs.Request.{same_read}
 use Rattle.cx_model.specs.Rules.{folded}
 use Rattle.cx_model.specs.World.{list_after, list_of, log_of, run}
 use Rattle.cx_inv_run.specs.Kinds.{IsKeeper, IsKept, OfKind}
 use Rattle.cx_inv_run.specs.Laws.{Lands, Laws}
-use Rattle.cx_inv_run.specs.States.{State, Down, BatcherIn, LeaderIn, ProxyIn, ReplicaIn, ReaderIn, plain, fresh_state, set_state, entry_by, snap_by, with_record, durable_of, log_in, Given, HoldsIn, Property}
+use Rattle.cx_inv_run.specs.States.{State, Down, BatcherIn, LeaderIn, ProxyIn, ReplicaIn, ReaderIn, ReplacerIn, plain, fresh_state, set_state, entry_by, snap_by, with_record, durable_of, log_in, Given, HoldsIn, Property}
 use Rattle.cx_inv_run.specs.Ties.{Ties}
 use Rattle.cx_inv_run.proofs.Histories.{by_role, durable_by_time, durable_else, durable_none, durable_other, durable_own, durable_snap, log_by_time, log_none, log_other, log_own, log_snap, set_running}
-use Rattle.cx_inv_run.proofs.Senders.{acceptor_kinds, batcher_kinds, leader_kinds, matchmaker_kinds, proxy_kinds, reader_kinds, replica_kinds, unbatcher_kinds}
+use Rattle.cx_inv_run.proofs.Senders.{acceptor_kinds, batcher_kinds, leader_kinds, matchmaker_kinds, proxy_kinds, reader_kinds, replacer_kinds, replica_kinds, unbatcher_kinds}
 use Rattle.cx_inv_run.proofs.Sends.{keeps_only, replica_keeps}
 use Rattle.cx_inv_run.proofs.Steps.{always}
 use Rattle.cx_inv_run.proofs.TieLaws.{by_replica, ties_hold}
@@ -354,6 +355,8 @@ stores_laws c = record {
       elsewhere c history sent states h (role kind.Unbatcher u) plain _ (unbatcher_kinds c (role kind.Unbatcher u) refl i) (λ p. refl) (λ p. tt);
   reader = λ history sent states r v i known h is given.
       elsewhere c history sent states h (role kind.Reader r) ReaderIn _ (reader_kinds c (role kind.Reader r) refl (durable_of reader_rules (role kind.Reader r) history) v i) (λ p. refl) (λ p. tt);
+  replacer = λ history sent states x v i known h is given.
+      elsewhere c history sent states h (role kind.Replacer x) ReplacerIn _ (replacer_kinds c (role kind.Replacer x) refl (durable_of replacer_rules (role kind.Replacer x) history) v i) (λ p. refl) (λ p. tt);
 }
 
 module _ (low_facts : (c : Cluster) (es : List Event) → HoldsIn (LowFacts c) (run c es)) where

@@ -1,15 +1,16 @@
--- What all rows share in what they say of the list; and the rows of acceptors, matchmakers, batchers and unbatchers.
+-- What all rows share in what they say of the list; the rows of acceptors, batchers and unbatchers; and that matchmakers and replacers say
+-- nothing of it.
 use Rattle.std.proofs.Common.{◌≡◌, ◌⊎◌, ℕ, Bool, List, [], ◌∷◌, ◌++◌, map, inl, inr, sym, subst, ⊎_elim, refl}
-use Rattle.std.specs.Prelude.{◌==◌, ◌&&◌, max, nat_lt, nat_le, length, if◌then◌else◌, Some}
-use Rattle.std.specs.List.{list_any}
+use Rattle.std.specs.Prelude.{◌==◌, ◌&&◌, max, nat_lt, nat_le, length, if◌then◌else◌, Option, Some}
 use Rattle.cx_base.specs.declared.cluster.Cluster.{Cluster}
 use Rattle.cx_base.specs.declared.command.Command.{Command}
+use Rattle.cx_base.specs.declared.role.Kind.{Kind}
+use Rattle.cx_base.specs.declared.role.Kind.TheVariants as kind
 use Rattle.cx_base.specs.declared.role.RoleId.{RoleId}
 use Rattle.cx_base.specs.declared.why.Why.{Why}
 use Rattle.cx_base.specs.Fold.{commands_of}
 use Rattle.cx_base.specs.Role.{same_role}
 use Rattle.cx_base.specs.Round.{is_before, same_round}
-use Rattle.cx_field.specs.declared.parts.Entry.{Entry}
 use Rattle.cx_field.specs.declared.parts.Vote.{Vote}
 use Rattle.cx_msg.specs.Letter.{Letter, letter}
 use Rattle.cx_msg.specs.declared.input.Input.{Input}
@@ -23,15 +24,15 @@ use Rattle.cx_msg.specs.declared.message.Msg.{Msg}
 use Rattle.cx_msg.specs.declared.message.Msg.TheVariants as msg
 use Rattle.cx_model.specs.Acceptor.{AcceptorDurable, acceptor_rules, acceptor_row, acceptor_takes, with_vote, votes_from, vote_at, is_of}
 use Rattle.cx_model.specs.Batcher.{BatcherVolatile, batcher_row, batcher_takes, send_batch}
-use Rattle.cx_model.specs.Matchmaker.{MatchmakerDurable, has_round, matchmaker_row, matchmaker_takes}
 use Rattle.cx_model.specs.Member.{Member}
 use Rattle.cx_model.specs.Names.{names}
 use Rattle.cx_model.specs.Outcome.{Outcome, answered, replied, either_way}
 use Rattle.cx_model.specs.Rules.{written_after}
 use Rattle.cx_model.specs.Unbatcher.{answer_to, unbatcher_row, unbatcher_takes}
-use Rattle.cx_inv_run.specs.States.{State, BatcherIn, plain, Given, entry_by, durable_of}
+use Rattle.cx_inv_run.specs.Kinds.{IsKept, IsSender, OfKind}
+use Rattle.cx_inv_run.specs.States.{State, BatcherIn, plain, Given, entry_by, durable_of, with_record}
 use Rattle.cx_inv_run.proofs.Members.{Member-both, Member-one, Member-map, Member-filter}
-use Rattle.cx_inv_list.specs.Told.{Requests, AreAsked, AreVotesAsked, ListSays, ListKeeps, InList, IsListed}
+use Rattle.cx_inv_list.specs.Told.{Requests, AreAsked, AreVotesAsked, ListSays, ListKeeps, InList, MayKeep, IsListed}
 
 -- what all rows share
 
@@ -72,6 +73,40 @@ pub heard : (q : Requests) (history : List KeptRecord) (sent : List Letter) → 
 heard q history sent says me (Take d) g = says d g.1
 heard q history sent says me Tick g = tt
 heard q history sent says me (Order order) g = tt
+
+-- a role whose kind neither keeps nor sends anything of the list
+
+abbrev pub IsCalm : Kind → Type 0
+IsCalm kind.Matchmaker = Unit {0}
+IsCalm kind.Replacer = Unit {0}
+IsCalm other = ⊥
+
+module _ (q : Requests) (k : Kind) (calm : IsCalm k) where
+  calm_says : (history : List KeptRecord) (from to : RoleId) (m : Msg) → IsSender k m → ListSays q history from to m
+  calm_says history from to (msg.Submit command) s = absurd (subst IsCalm s calm)
+  calm_says history from to (msg.Batch commands) s = absurd (subst IsCalm s calm)
+  calm_says history from to (msg.Phase1B i cw votes) s = absurd (subst IsCalm s calm)
+  calm_says history from to (msg.Propose i g s cw v) e = absurd (subst IsCalm e calm)
+  calm_says history from to (msg.Phase2A i s cw v) e = absurd (subst IsCalm e calm)
+  calm_says history from to (msg.Results at answers) s = absurd (subst IsCalm s calm)
+  calm_says history from to (msg.Answer seq at reply) s = absurd (subst IsCalm s calm)
+  calm_says history from to (msg.ReadReq seq replica key) s = absurd (subst IsCalm s calm)
+  calm_says history from to (msg.Read t n key) s = absurd (subst IsCalm s calm)
+  calm_says history from to (msg.SessRead seq n key) s = absurd (subst IsCalm s calm)
+  calm_says history from to (msg.ReadAnswer seq n found) s = absurd (subst IsCalm s calm)
+  calm_says history from to other s = tt
+
+  calm_keeps : (o : Option Record) → IsKept k o → MayKeep q o
+  calm_keeps (Some (kept.Vote i s cw v)) e = absurd (subst IsCalm e calm)
+  calm_keeps other s = tt
+
+pub calm_listed : (q : Requests) (history : List KeptRecord) {V : Type 0} (make : V → State) (me : RoleId) (o : Outcome V)
+    → IsCalm me.kind → InList q (make o.volatile) → OfKind me o → IsListed q history me make o
+calm_listed q history make me o calm state own = record {
+  state = state;
+  keeps = calm_keeps q me.kind calm o.kept own.keeps;
+  sends = λ d m. calm_says q me.kind calm (with_record me o.kept history) d.from d.to d.msg (own.sends d m).1;
+}
 
 -- an acceptor
 
@@ -130,22 +165,6 @@ module _ (q : Requests) (c : Cluster) (history : List KeptRecord) (me : RoleId) 
   acceptor_listed d h (Take l) says = listed_if (same_role l.to me && names c l) _ _ (acceptor_takes_listed d h l.from l.to l.msg says) (listed_answered plain _ tt tt)
   acceptor_listed d h Tick says = listed_answered plain _ tt tt
   acceptor_listed d h (Order order) says = listed_answered plain _ tt tt
-
-  -- a matchmaker
-
-  matchmaker_takes_listed : (d : MatchmakerDurable) (from : RoleId) (m : Msg) → IsListed q history me plain (matchmaker_takes me d from m)
-  matchmaker_takes_listed d from (msg.MatchA i g) =
-      listed_if (is_before i d.watermark) _ _ (plain_one _ _ _ tt)
-      (listed_if (list_any (λ (e : Entry). is_before i e.round) d.entries) _ _ (plain_one _ _ _ tt)
-      (listed_if (has_round i d.entries) _ _ (plain_one _ _ _ tt) (listed_if (nat_le 16 (length d.entries)) _ _ (plain_one _ _ _ tt) (keep_one _ _ _ _ tt tt))))
-  matchmaker_takes_listed d from (msg.GarbageA i g) = listed_if (is_before d.watermark i) _ _ (keep_one _ _ _ _ tt tt) (plain_one _ _ _ tt)
-  matchmaker_takes_listed d from (msg.MatchRead u) = plain_one _ _ _ tt
-  matchmaker_takes_listed d from other = listed_answered plain _ tt tt
-
-  pub matchmaker_listed : (d : MatchmakerDurable) (i : Input) → IsListed q history me plain (matchmaker_row c me d tt i)
-  matchmaker_listed d (Take l) = listed_if (same_role l.to me && names c l) _ _ (matchmaker_takes_listed d l.from l.msg) (listed_answered plain _ tt tt)
-  matchmaker_listed d Tick = listed_answered plain _ tt tt
-  matchmaker_listed d (Order order) = listed_answered plain _ tt tt
 
   -- a batcher
 

@@ -13,7 +13,9 @@ use Rattle.cx_base.specs.Fold.{fold, text_at}
 use Rattle.cx_base.specs.Lists.{below}
 use Rattle.cx_base.specs.Log.{ready_values}
 use Rattle.cx_base.specs.Role.{role, same_role}
+use Rattle.cx_base.specs.Grid.{is_in}
 use Rattle.cx_base.specs.Round.{same_round}
+use Rattle.cx_base.specs.Sets.{is_above}
 use Rattle.cx_field.specs.declared.parts.Asking.{Asking}
 use Rattle.cx_field.specs.declared.parts.Entry.{Entry}
 use Rattle.cx_msg.specs.Letter.{Letter}
@@ -25,7 +27,7 @@ use Rattle.cx_msg.specs.declared.message.Msg.{Msg}
 use Rattle.cx_msg.specs.declared.message.Msg.TheVariants as msg
 use Rattle.cx_model.specs.declared.states.Deferred.{Deferred}
 use Rattle.cx_model.specs.CommandList.{IsRight}
-use Rattle.cx_model.specs.Matched.{is_counted, greatest_watermark, is_member_of, members_of, matchmakers, live_entries, rows_whole}
+use Rattle.cx_model.specs.Matched.{is_counted, greatest_watermark, is_member_of, members_of, live_entries, rows_whole}
 use Rattle.cx_model.specs.Member.{Member}
 use Rattle.cx_model.specs.Names.{names}
 use Rattle.cx_model.specs.Outcome.{Outcome, either_way}
@@ -61,37 +63,37 @@ module _ (q : Requests) (c : Cluster) (history : List KeptRecord) (me : RoleId) 
       (λ r m. ⊎_elim (λ e. subst (λ (y : Asked). IsWanted y) (sym e) new) (λ k. h r (inr k)) m)
       (λ r m. ⊎_elim (λ e. h r (inl e)) (with_wanted one new rs (λ y k. h y (inr k)) r) m)
 
-  asks_listed : (longer : List KeptRecord) (turn : ℕ) → Sends q longer (reader.ask_matchmakers c me turn)
-  asks_listed longer turn = each_send q longer (reader.match_read_to me (reader.asking_of me turn)) (matchmakers c) (λ m k. tt)
+  asks_listed : (longer : List KeptRecord) (set : List ℕ) (turn : ℕ) → Sends q longer (reader.ask_matchmakers me set turn)
+  asks_listed longer set turn = each_send q longer (reader.match_read_to me (reader.asking_of me turn)) set (λ m k. tt)
 
   batch_listed : (longer : List KeptRecord) (b : Batch) (n : ℕ) → AreWanted q b.reads → Sends q longer (reader.ask_replicas me b n)
   batch_listed longer b n h = each_send q longer (reader.read_to me n) b.reads (λ r m. h r m)
 
   module _ (d : ReaderDurable) (v : ReaderVolatile) (waiting : AreWanted q v.waiting) where
     begin_listed : (w : Why) (first : List Letter) (rs : List Asked) → ((longer : List KeptRecord) → Sends q longer first) → AreWanted q rs
-        → ReaderListed (reader.begin c me d w first rs)
+        → ReaderListed (reader.begin me d v w first rs)
     begin_listed w first rs says h =
         let longer : List KeptRecord = entry_by me (kept.Turn (d.turn + 1)) ∷ history in
-        record { state = ((λ r m. absurd m), h); keeps = tt; sends = both_send q longer first (reader.ask_matchmakers c me (d.turn + 1)) (says longer) (asks_listed longer (d.turn + 1)) }
+        record { state = ((λ r m. absurd m), h); keeps = tt; sends = both_send q longer first (reader.ask_matchmakers me v.set (d.turn + 1)) (says longer) (asks_listed longer v.set (d.turn + 1)) }
 
-    begin_if_listed : BatchWanted q v.running → (w : Why) (rs : List Asked) → AreWanted q rs → ReaderListed (reader.begin_if c me d v w rs)
+    begin_if_listed : BatchWanted q v.running → (w : Why) (rs : List Asked) → AreWanted q rs → ReaderListed (reader.begin_if me d v w rs)
     begin_if_listed batch w rs h = listed_if (d.turn == reader.last_turn) _ _ (listed_answered ReaderIn _ _ (waiting, batch)) (begin_listed w [] rs (λ longer x m. absurd m) h)
 
-    request_listed : BatchWanted q v.running → (one : Asked) → IsWanted one → ReaderListed (reader.request_row c me d v one)
+    request_listed : BatchWanted q v.running → (one : Asked) → IsWanted one → ReaderListed (reader.request_row me d v one)
     request_listed batch one new =
         listed_if (reader.is_among one.read v.waiting) _ _ (listed_answered ReaderIn _ _ (with_wanted one new v.waiting waiting, batch)) (over v.running batch)
       where
         later : AreWanted q (v.waiting ++ one ∷ [])
         later = both_wanted v.waiting (one ∷ []) waiting (Member-one IsWanted one new)
 
-        over : (o : Option Batch) → BatchWanted q o → ReaderListed (reader.request_over c me d v one o)
+        over : (o : Option Batch) → BatchWanted q o → ReaderListed (reader.request_over me d v one o)
         over None h = listed_if (nat_le 64 (length v.waiting)) _ _ (listed_answered ReaderIn _ _ (waiting, batch)) (begin_if_listed batch _ _ later)
         over (Some b) h =
             listed_if (reader.is_first one.read b.reads) _ _ (begin_if_listed batch _ _ (both_wanted (reader.with_asked one b.reads) v.waiting (with_wanted one new b.reads h) waiting))
             (listed_if (reader.is_among one.read b.reads) _ _ (listed_answered ReaderIn _ _ (waiting, batch))
             (listed_if (nat_le 64 (length v.waiting + length b.reads)) _ _ (listed_answered ReaderIn _ _ (waiting, batch)) (listed_answered ReaderIn _ _ (later, batch))))
 
-    finish_listed : (b : Batch) → AreWanted q b.reads → (n : ℕ) → ReaderListed (reader.finish c me d v b n)
+    finish_listed : (b : Batch) → AreWanted q b.reads → (n : ℕ) → ReaderListed (reader.finish me d v b n)
     finish_listed b h n =
         listed_if (nat_lt 0 (length v.waiting) && not (d.turn == reader.last_turn)) _ _ (begin_listed _ (reader.ask_replicas me b n) v.waiting (λ longer. batch_listed longer b n h) waiting)
         (listed_replied ReaderIn _ _ _ (waiting, tt) (batch_listed history b n h))
@@ -105,7 +107,7 @@ module _ (q : Requests) (c : Cluster) (history : List KeptRecord) (me : RoleId) 
     match_ack_listed batch from u w es None h = listed_answered ReaderIn _ _ (waiting, batch)
     match_ack_listed batch from u w es (Some b) h =
         let one : Batch = record b { told = b.told ++ record { matchmaker = from.index; watermark = w; entries = es } ∷ [] } in
-        listed_if (not (reader.is_of_batch me b u && not (reader.is_matched c b))) _ _ (listed_answered ReaderIn _ _ (waiting, batch))
+        listed_if (not (reader.is_of_batch me b u && not (reader.is_matched c b) && is_in from.index v.set)) _ _ (listed_answered ReaderIn _ _ (waiting, batch))
         (listed_if (is_counted from.index b.told) _ _ (listed_answered ReaderIn _ _ (waiting, batch))
         (listed_if (reader.is_matched c one) _ _ (matched_listed one h (live_entries one.told)) (listed_answered ReaderIn _ _ (waiting, h))))
 
@@ -123,14 +125,20 @@ module _ (q : Requests) (c : Cluster) (history : List KeptRecord) (me : RoleId) 
     takes_listed batch from to (msg.ReadReq seq r key) says = request_listed batch (reader.asked_for (token from.index seq) r key) says
     takes_listed batch from to (msg.MatchReadAck u w es) says = match_ack_listed batch from u w es v.running batch
     takes_listed batch from to (msg.PreReadAck u w n) says = pre_read_listed batch from u w n v.running batch
+    takes_listed batch from to (msg.Sets s) says = listed_if (is_above s v.set) _ _ (anew_listed v.running batch) (listed_answered ReaderIn _ _ (waiting, batch))
+      where
+        anew_listed : (o : Option Batch) → BatchWanted q o → ReaderListed (reader.asked_anew c me (record v { set = s }) o)
+        anew_listed None h = listed_answered ReaderIn _ _ (waiting, batch)
+        anew_listed (Some b) h =
+            listed_if (reader.is_matched c b) _ _ (listed_answered ReaderIn _ _ (waiting, batch)) (listed_replied ReaderIn _ _ _ (waiting, h) (asks_listed history s b.turn))
     takes_listed batch from to other says = listed_answered ReaderIn _ _ (waiting, batch)
 
     tick_listed : BatchWanted q v.running → (o : Option Batch) → ReaderListed (reader.reader_tick c me v o)
     tick_listed batch None = listed_answered ReaderIn _ _ (waiting, batch)
     tick_listed batch (Some b) =
         listed_replied ReaderIn _ _ _ (waiting, batch)
-        (either_way (Sends q history) (reader.is_matched c b) (reader.ask_acceptors c me b) (reader.ask_matchmakers c me b.turn)
-        (each_send q history (reader.pre_read_to me b) (members_of c (live_entries b.told)) (λ a m. tt)) (asks_listed history b.turn))
+        (either_way (Sends q history) (reader.is_matched c b) (reader.ask_acceptors c me b) (reader.ask_matchmakers me v.set b.turn)
+        (each_send q history (reader.pre_read_to me b) (members_of c (live_entries b.told)) (λ a m. tt)) (asks_listed history v.set b.turn))
 
   pub reader_listed : (d : ReaderDurable) (v : ReaderVolatile) → InList q (ReaderIn v) → (i : Input) → Heard q history i → IsListed q history me ReaderIn (reader.reader_row c me d v i)
   reader_listed d v h (Take l) says = listed_if (same_role l.to me && names c l) _ _ (takes_listed d v h.0 h.1 l.from l.to l.msg says) (listed_answered ReaderIn _ _ h)

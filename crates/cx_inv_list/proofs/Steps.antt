@@ -1,5 +1,5 @@
 -- Each step keeps what is said of the list, so every run has it.
-use Rattle.std.proofs.Common.{◌≡◌, ℕ, List, [], ◌∷◌, inl, ap, sym, subst, ⊎_elim, append-nil}
+use Rattle.std.proofs.Common.{◌≡◌, ℕ, List, [], ◌∷◌, inl, ap, sym, subst, ⊎_elim, append-nil, refl}
 use Rattle.std.specs.Prelude.{None}
 use Rattle.cx_base.specs.declared.cluster.Cluster.{Cluster}
 use Rattle.cx_base.specs.declared.event.Event.{Event}
@@ -20,18 +20,20 @@ use Rattle.cx_model.specs.Matchmaker.{matchmaker_rules}
 use Rattle.cx_model.specs.Member.{Member}
 use Rattle.cx_model.specs.Promises.{WasRead, WasSession}
 use Rattle.cx_model.specs.Reader.{reader_rules, token}
+use Rattle.cx_model.specs.Replacer.{replacer_rules}
 use Rattle.cx_model.specs.Request.{request, token_of}
 use Rattle.cx_model.specs.World.{World, change, step, run_from, run}
 use Rattle.cx_inv_run.specs.Laws.{Laws, heard_of, AllAllowed}
-use Rattle.cx_inv_run.specs.States.{State, Down, BatcherIn, LeaderIn, ProxyIn, ReplicaIn, ReaderIn, plain, fresh_state, set_state, durable_of, HoldsIn}
+use Rattle.cx_inv_run.specs.States.{State, Down, BatcherIn, LeaderIn, ProxyIn, ReplicaIn, ReaderIn, ReplacerIn, plain, fresh_state, set_state, durable_of, HoldsIn}
 use Rattle.cx_inv_run.specs.Ties.{Ties}
 use Rattle.cx_inv_run.proofs.Members.{Member-first, Member-second, Member-cases}
+use Rattle.cx_inv_run.proofs.Senders.{matchmaker_kinds, replacer_kinds}
 use Rattle.cx_inv_run.proofs.Steps.{along, run_keeps}
 use Rattle.cx_inv_run.proofs.TieLaws.{ties_hold}
 use Rattle.cx_inv_list.specs.Told.{Requests, ListSays, InList, ListFacts}
 use Rattle.cx_inv_list.proofs.Keep.{list_after, list_snapped, listed_lands}
 use Rattle.cx_inv_list.proofs.Leaders.{leader_listed, proxy_listed}
-use Rattle.cx_inv_list.proofs.Listed.{heard, one_send, votes_asked, acceptor_listed, matchmaker_listed, batcher_listed, unbatcher_listed}
+use Rattle.cx_inv_list.proofs.Listed.{heard, one_send, votes_asked, acceptor_listed, batcher_listed, calm_listed, unbatcher_listed}
 use Rattle.cx_inv_list.proofs.Replicas.{reader_listed, replica_listed}
 
 -- what may be said of the requests that go out
@@ -51,6 +53,7 @@ request_says q history n (event.Session client seq floor replica key) h =
 request_says q history n (event.Deliver k cut) h = λ d m. absurd m
 request_says q history n (event.Tick r) h = λ d m. absurd m
 request_says q history n (event.Order l order cut) h = λ d m. absurd m
+request_says q history n (event.Replace x s cut) h = λ d m. absurd m
 request_says q history n (event.Snap p cut) h = λ d m. absurd m
 request_says q history n (event.Crash r) h = λ d m. absurd m
 request_says q history n (event.Restart r) h = λ d m. absurd m
@@ -65,6 +68,7 @@ fresh_in q c kind.Matchmaker = tt
 fresh_in q c kind.Replica = λ r m. absurd m
 fresh_in q c kind.Unbatcher = tt
 fresh_in q c kind.Reader = (λ r m. absurd m, tt)
+fresh_in q c kind.Replacer = tt
 
 -- one role's new state, and nothing else
 new_state : (q : Requests) (history : List KeptRecord) (sent : List Letter) (states : RoleId → State) → ListFacts q history sent states
@@ -111,7 +115,7 @@ list_laws q c = record {
       (votes_asked q history (role kind.Acceptor a) facts.keeps) i (heard q history sent facts.says (role kind.Acceptor a) i given));
   matchmaker = λ history sent states m i known facts e given.
       listed_lands q history sent states facts (role kind.Matchmaker m) plain _
-      (matchmaker_listed q c history (role kind.Matchmaker m) (durable_of matchmaker_rules (role kind.Matchmaker m) history) i);
+      (calm_listed q history plain (role kind.Matchmaker m) _ tt tt (matchmaker_kinds c (role kind.Matchmaker m) refl (durable_of matchmaker_rules (role kind.Matchmaker m) history) i));
   replica = λ history sent states p v i known facts e given.
       listed_lands q history sent states facts (role kind.Replica p) ReplicaIn _
       (replica_listed q c history p (known.tied p) v (running_in q history sent states facts (role kind.Replica p) (ReplicaIn v) e) i (heard q history sent facts.says (role kind.Replica p) i given));
@@ -122,6 +126,9 @@ list_laws q c = record {
   reader = λ history sent states r v i known facts e given.
       listed_lands q history sent states facts (role kind.Reader r) ReaderIn _
       (reader_listed q c history (role kind.Reader r) (durable_of reader_rules (role kind.Reader r) history) v (running_in q history sent states facts (role kind.Reader r) (ReaderIn v) e) i (heard q history sent facts.says (role kind.Reader r) i given));
+  replacer = λ history sent states x v i known facts e given.
+      listed_lands q history sent states facts (role kind.Replacer x) ReplacerIn _
+      (calm_listed q history ReplacerIn (role kind.Replacer x) _ tt tt (replacer_kinds c (role kind.Replacer x) refl (durable_of replacer_rules (role kind.Replacer x) history) v i));
 }
 
 -- the events of a run only grow
@@ -161,6 +168,7 @@ allowed_by events n (event.Session client seq floor replica key) m = (floor, rep
 allowed_by events n (event.Deliver k cut) m = tt
 allowed_by events n (event.Tick r) m = tt
 allowed_by events n (event.Order l order cut) m = tt
+allowed_by events n (event.Replace x s cut) m = tt
 allowed_by events n (event.Snap p cut) m = tt
 allowed_by events n (event.Crash r) m = tt
 allowed_by events n (event.Restart r) m = tt

@@ -24,7 +24,7 @@ use Rattle.cx_model.specs.CommandList.{IsRight}
 use Rattle.cx_model.specs.Member.{Member}
 use Rattle.cx_model.specs.Outcome.{Outcome}
 use Rattle.cx_model.specs.Reader.{Asked, Batch, token}
-use Rattle.cx_inv_run.specs.States.{State, Down, Plain, BatcherIn, LeaderIn, ProxyIn, ReplicaIn, ReaderIn, with_record, log_in}
+use Rattle.cx_inv_run.specs.States.{State, Down, Plain, BatcherIn, LeaderIn, ProxyIn, ReplicaIn, ReaderIn, ReplacerIn, with_record, log_in}
 
 -- What may be said of the commands that were asked for, of the keys of the reads that were, and of those of sessions.
 pub record Requests : Type 1 where
@@ -90,6 +90,7 @@ InList q (LeaderIn v) =
 InList q (ProxyIn v) = (p : Pending) → Member p v.pending → AreAsked q (commands_of p.value)
 InList q (ReplicaIn v) = (r : Deferred) → Member r v.deferred → Wants q r.token r.key
 InList q (ReaderIn v) = AreWanted q v.waiting × BatchWanted q v.running
+InList q (ReplacerIn v) = Unit {0}
 
 -- all of a moment
 pub record ListFacts (q : Requests) (history : List KeptRecord) (sent : List Letter) (states : RoleId → State) : Type 0 where

@@ -1,5 +1,5 @@
 -- Going on with another grid: what a leading leader proposed may be proposed in its next round, before anybody is asked; and when enough matchmakers
--- recorded that round, it leads.
+-- took that round, it leads.
 use Rattle.std.proofs.Common.{◌≡◌, ℕ, ◌+◌, ◌<◌, ◌≤◌, true, ◌⊎◌, List, [], inl, inr, sym, subst, arith}
 use Rattle.std.proofs.lemmas.Bool.Decides.{nat_tests}
 use Rattle.cx_base.specs.declared.cluster.Cluster.{Cluster}
@@ -72,9 +72,9 @@ module _ (c : Cluster) (history : List KeptRecord) (sent : List Letter) (own : E
     cw_next = leading.cw_next;
   }
 
--- enough matchmakers recorded the round
+-- enough matchmakers took the round
 pub bypass_leading : (c : Cluster) (history : List KeptRecord) (sent : List Letter) (own : Entry) (v : LeaderVolatile)
-    → IsMatching c sent own v → IsReady c history sent own v → IsConfig history own.round own.grid → IsMatched c history own.round
+    → IsMatching c history sent own v → IsReady c history sent own v → IsConfig history own.round own.grid → IsMatched c history own.round
     → IsLeading c history sent own (record v { mode = Leading; end = v.next; chosen = [] })
 bypass_leading c history sent own v matching ready config matched = record {
   config = config;

@@ -1,5 +1,5 @@
 -- The facts that hold at every moment of every run, and from which agreement follows.
-use Rattle.std.specs.Prelude.{◌≡◌, ◌⊎◌, ℕ, ◌+◌, ◌*◌, ◌<◌, ◌≤◌, true, false, List, [], ◌∷◌, length, slice_get, Option, None, Some}
+use Rattle.std.specs.Prelude.{◌≡◌, ◌⊎◌, ℕ, ◌<◌, ◌≤◌, true, false, List, [], ◌∷◌, length, slice_get, Option, None, Some}
 use Rattle.cx_base.specs.declared.cluster.Cluster.{Cluster}
 use Rattle.cx_base.specs.declared.command.Placed.{Placed}
 use Rattle.cx_base.specs.declared.command.Value.{Value}
@@ -9,18 +9,22 @@ use Rattle.cx_base.specs.declared.round.Round.{Round}
 use Rattle.cx_base.specs.Grid.{Shape}
 use Rattle.cx_base.specs.Role.{role}
 use Rattle.cx_base.specs.Round.{is_before, no_round}
+use Rattle.cx_base.specs.Sets.{is_above}
 use Rattle.cx_field.specs.declared.parts.Entry.{Entry}
 use Rattle.cx_field.specs.declared.parts.Vote.{Vote}
-use Rattle.cx_msg.specs.Letter.{Letter}
+use Rattle.cx_msg.specs.Letter.{Letter, letter}
 use Rattle.cx_msg.specs.declared.input.KeptRecord.{KeptRecord}
 use Rattle.cx_msg.specs.declared.kept.Record.TheVariants as kept
 use Rattle.cx_msg.specs.declared.message.Msg.{Msg}
 use Rattle.cx_msg.specs.declared.message.Msg.TheVariants as msg
 use Rattle.cx_model.specs.declared.states.Acked.{Acked}
+use Rattle.cx_model.specs.declared.states.Halt.{Halt}
 use Rattle.cx_model.specs.declared.states.MatchAnswer.{MatchAnswer}
 use Rattle.cx_model.specs.declared.states.Mode.{Mode}
 use Rattle.cx_model.specs.declared.states.Mode.TheVariants.{Idle, Matching, Phase1, Leading}
 use Rattle.cx_model.specs.declared.states.Pending.{Pending}
+use Rattle.cx_model.specs.declared.states.Replacing.{Replacing}
+use Rattle.cx_model.specs.declared.states.Replacing.TheVariants as replacing
 use Rattle.cx_model.specs.declared.states.Stage.{Stage}
 use Rattle.cx_model.specs.declared.states.Stage.TheVariants.{Off, Informing, Collecting, Retired}
 use Rattle.cx_model.specs.Acceptor.{AcceptorDurable, acceptor_rules}
@@ -30,9 +34,11 @@ use Rattle.cx_model.specs.Leader.{LeaderVolatile, leader_rules, round_of, is_idl
 use Rattle.cx_model.specs.Matchmaker.{MatchmakerDurable, matchmaker_rules, entry}
 use Rattle.cx_model.specs.Member.{Member}
 use Rattle.cx_model.specs.Promises.{HasKept, IsConfig}
+use Rattle.cx_model.specs.Names.{names_set}
 use Rattle.cx_model.specs.Reader.{Batch, ReaderVolatile, is_matched}
-use Rattle.cx_inv_run.specs.States.{State, Down, Plain, BatcherIn, LeaderIn, ProxyIn, ReplicaIn, ReaderIn, durable_of, log_in}
-use Rattle.cx_inv_match.specs.Words.{HasMatch, HasGarbage, HasMark, HasPromise, HasLow, IsChosenIn, IsChosen, IsMatched, IsSafe, IsCollected, IsAnswer, IsPromise}
+use Rattle.cx_model.specs.Replacer.{ReplacerDurable, ReplacerVolatile, replacer_rules}
+use Rattle.cx_inv_run.specs.States.{State, Down, Plain, BatcherIn, LeaderIn, ProxyIn, ReplicaIn, ReaderIn, ReplacerIn, durable_of, log_in}
+use Rattle.cx_inv_match.specs.Words.{HasMatch, HasGarbage, HasRound, HasMark, HasPromise, HasLow, IsChosenIn, IsChosen, IsMatched, IsSafe, IsCollected, IsAnswer, IsPromise, HasBoot, HasNext, HasBallot, IsHalt, IsKnown, IsDecided, IsClosed, IsNext, IsJoin, IsBoot, IsWatermark, HasStopped, SetFacts}
 
 -- What each kind of datagram says of the history. A kind that isn't named says nothing here.
 abbrev pub Says : Cluster → List KeptRecord → List Letter → RoleId → Msg → Type 0
@@ -47,6 +53,11 @@ Says c history sent from (msg.Chosen s v) = IsChosen history s v
 Says c history sent from (msg.ChosenIn i s) = (v : Value) × IsChosenIn history i s v
 Says c history sent from (msg.Informed i n) = HasLow history from i n
 Says c history sent from (msg.GarbageA i g) = IsConfig history i g × IsCollected c history sent i
+Says c history sent from (msg.StopA b) = is_before no_round b ≡ true
+Says c history sent from (msg.StopB b w entries a s) = IsHalt c history from b w entries a s
+Says c history sent from (msg.NextB b) = (s : List ℕ) × HasNext history from b s
+Says c history sent from (msg.BootA s w entries) = IsBoot c history s w entries
+Says c history sent from (msg.Sets s) = IsKnown c history s
 Says c history sent from other = Unit {0}
 
 -- No sender was counted twice.
@@ -61,12 +72,15 @@ told_by (a ∷ told) = a.matchmaker ∷ told_by told
 
 -- a leader that still asks matchmakers or acceptors: nothing of its round was proposed, nobody was asked to forget earlier ones for it, and it
 -- isn't retiring them
-pub record IsMatching (c : Cluster) (sent : List Letter) (own : Entry) (v : LeaderVolatile) : Type 0 where
+pub record IsMatching (c : Cluster) (history : List KeptRecord) (sent : List Letter) (own : Entry) (v : LeaderVolatile) : Type 0 where
   pub unproposed : (s : ℕ) (u : Value) → IsProposed sent own.round s u → ⊥
   pub unended : IsRetiring sent own.round → ⊥
   pub off : v.collection.stage ≡ Off
+  -- the matchmakers that were counted are members of one set; while it asks them, of the set that it knows
+  pub set : List ℕ
+  pub set_known : IsKnown c history set
   pub once : AreOnce (told_by v.told)
-  pub known : (m : ℕ) → Member m (told_by v.told) → m < 2 * c.f + 1
+  pub known : (m : ℕ) → Member m (told_by v.told) → Member m set
 
 -- how far retiring is
 pub record IsInforming (history : List KeptRecord) (own : Entry) (end : ℕ) (k : Collection) : Type 0 where
@@ -107,8 +121,9 @@ pub record IsLeading (c : Cluster) (history : List KeptRecord) (sent : List Lett
 abbrev pub InMode : Cluster → List KeptRecord → List Letter → Option Entry → LeaderVolatile → Mode → Type 0
 InMode c history sent None v mode = is_idle mode ≡ true
 InMode c history sent (Some own) v Idle = Unit {0}
-InMode c history sent (Some own) v Matching = IsMatching c sent own v × (is_changed own.round ≡ true → IsReady c history sent own v)
-InMode c history sent (Some own) v Phase1 = IsMatching c sent own v × (c.f < length v.told)
+InMode c history sent (Some own) v Matching =
+    IsMatching c history sent own v × ((m : ℕ) → Member m (told_by v.told) → Member m v.set) × (is_changed own.round ≡ true → IsReady c history sent own v)
+InMode c history sent (Some own) v Phase1 = IsMatching c history sent own v × (c.f < length v.told)
 InMode c history sent (Some own) v Leading = IsLeading c history sent own v
 
 pub record IsPending (history : List KeptRecord) (sent : List Letter) (p : Pending) : Type 0 where
@@ -121,6 +136,53 @@ pub record IsPending (history : List KeptRecord) (sent : List Letter) (p : Pendi
 abbrev pub AreAsking : Cluster → ReaderVolatile → Type 0
 AreAsking c v = (b : Batch) → v.running ≡ Some b → is_matched c b ≡ false → (a : Acked) → Member a b.acks → ⊥
 
+-- somebody was asked to accept this set in the ballot
+abbrev pub IsNextAsked : List Letter → Round → List ℕ → Type 0
+IsNextAsked sent b t = (from : RoleId) × (to : RoleId) × Member (letter from to (msg.NextA b t)) sent
+
+-- this matchmaker was asked
+abbrev pub IsAsked : List Letter → RoleId → Round → List ℕ → Type 0
+IsAsked sent m b t = (from : RoleId) × Member (letter from m (msg.NextA b t)) sent
+
+-- the matchmakers that stopped, in the order of counting
+abbrev pub halted_by : List Halt → List ℕ
+halted_by [] = []
+halted_by (h ∷ halts) = h.answer.matchmaker ∷ halted_by halts
+
+-- a replacer that stops a set: nobody was asked to accept another one in its ballot
+pub record IsStopping (c : Cluster) (history : List KeptRecord) (sent : List Letter) (me : RoleId) (own : Round) (v : ReplacerVolatile) : Type 0 where
+  pub real : is_before no_round own ≡ true
+  pub unasked : (t : List ℕ) → IsNextAsked sent own t → ⊥
+  pub above : is_above v.next v.set ≡ true
+  pub proper : names_set c v.next ≡ true
+  pub told : (h : Halt) → Member h v.halts
+      → Member (letter (role kind.Matchmaker h.answer.matchmaker) me (msg.StopB own h.answer.watermark h.answer.entries h.accepted h.next)) sent
+  pub once : AreOnce (halted_by v.halts)
+  pub known : (m : ℕ) → Member m (halted_by v.halts) → Member m v.set
+
+-- a replacer that has the next set decided: the members of the set that it knows were asked to accept this one, and nobody another one
+pub record IsDeciding (c : Cluster) (history : List KeptRecord) (sent : List Letter) (me : RoleId) (own : Round) (v : ReplacerVolatile) : Type 0 where
+  pub real : is_before no_round own ≡ true
+  pub asked : (from to : RoleId) (t : List ℕ) → Member (letter from to (msg.NextA own t)) sent → (t ≡ v.next) × Member to.index v.set
+  pub above : is_above v.next v.set ≡ true
+  pub proper : names_set c v.next ≡ true
+  pub closed : (a : Round) → is_before a own ≡ true → IsClosed c history v.set a v.next
+  pub join : IsJoin c history v.set v.watermark v.entries
+  pub votes : (m : ℕ) → Member m v.counted → Member (letter (role kind.Matchmaker m) me (msg.NextB own)) sent
+  pub once : AreOnce v.counted
+
+-- a replacer that has the next set begin: it was decided
+pub record IsBooting (c : Cluster) (history : List KeptRecord) (sent : List Letter) (me : RoleId) (v : ReplacerVolatile) : Type 0 where
+  pub decided : IsDecided c history v.set v.next
+  pub join : IsJoin c history v.set v.watermark v.entries
+  pub begun : (m : ℕ) → Member m v.counted → Member (letter (role kind.Matchmaker m) me (msg.BootB v.next)) sent
+
+abbrev pub InWork : Cluster → List KeptRecord → List Letter → RoleId → Round → ReplacerVolatile → Replacing → Type 0
+InWork c history sent me own v replacing.Idle = Unit {0}
+InWork c history sent me own v replacing.Stopping = IsStopping c history sent me own v
+InWork c history sent me own v replacing.Deciding = IsDeciding c history sent me own v
+InWork c history sent me own v replacing.Booting = IsBooting c history sent me v
+
 -- What is known of a running role: what it counted, holds pending or knows came to it in datagrams, and what else its rows rest on.
 abbrev pub InState : Cluster → List KeptRecord → List Letter → RoleId → State → Type 0
 InState c history sent me Down = Unit {0}
@@ -128,9 +190,11 @@ InState c history sent me Plain = Unit {0}
 InState c history sent me (BatcherIn v) = BatcherWasTold sent me v
 InState c history sent me (LeaderIn v) =
     LeaderWasTold sent me (round_of (durable_of leader_rules me history).own) v × InMode c history sent (durable_of leader_rules me history).own v v.mode
+    × IsKnown c history v.set
 InState c history sent me (ProxyIn v) = ProxyWasTold sent me v × ((p : Pending) → Member p v.pending → IsPending history sent p)
 InState c history sent me (ReplicaIn v) = ReplicaWasTold sent me v
-InState c history sent me (ReaderIn v) = ReaderWasTold sent me v × AreAsking c v
+InState c history sent me (ReaderIn v) = ReaderWasTold sent me v × AreAsking c v × IsKnown c history v.set
+InState c history sent me (ReplacerIn v) = IsKnown c history v.set × InWork c history sent me (durable_of replacer_rules me history).own v v.mode
 
 -- an acceptor is what its records say
 pub record IsAcceptor (history : List KeptRecord) (a : RoleId) (d : AcceptorDurable) : Type 0 where
@@ -143,14 +207,34 @@ pub record IsAcceptor (history : List KeptRecord) (a : RoleId) (d : AcceptorDura
   pub low : (d.cw ≡ 0) ⊎ ((j : Round) × HasMark history a j d.cw)
   pub top : (j : Round) (s : ℕ) (v : Value) → HasVoted history a j s v → s < d.top
 
+-- a matchmaker's watermark is none, or it forgot the earlier rounds for it itself, or began with it
+abbrev pub IsOwn : List KeptRecord → RoleId → Round → Type 0
+IsOwn history m w = (w ≡ no_round) ⊎ (((g : Shape) × HasGarbage history m w g) ⊎ ((t : List ℕ) × (es : List Entry) × HasBoot history m t w es))
+
 -- so is a matchmaker
-pub record IsLog (history : List KeptRecord) (m : RoleId) (d : MatchmakerDurable) : Type 0 where
-  pub all : (j : Round) (g : Shape) → is_before j d.watermark ≡ false → HasMatch history m j g → Member (entry j g) d.entries
-  pub only : (e : Entry) → Member e d.entries → HasMatch history m e.round e.grid ⊎ HasGarbage history m e.round e.grid
+pub record IsLog (c : Cluster) (history : List KeptRecord) (sent : List Letter) (m : RoleId) (d : MatchmakerDurable) : Type 0 where
+  pub all : (j : Round) (g : Shape) → is_before j d.watermark ≡ false → HasRound history m j g → Member (entry j g) d.entries
+  pub only : (e : Entry) → Member e d.entries → HasRound history m e.round e.grid ⊎ HasGarbage history m e.round e.grid
   pub from_watermark : (e : Entry) → Member e d.entries → is_before e.round d.watermark ≡ false
   pub bound : (j : Round) (g : Shape) → HasGarbage history m j g → is_before d.watermark j ≡ false
-  pub raised : ((d.watermark ≡ no_round) × ((j : Round) (g : Shape) → HasGarbage history m j g → ⊥))
-      ⊎ (((g : Shape) × HasGarbage history m d.watermark g) × ((g : Shape) × Member (entry d.watermark g) d.entries))
+  pub boots : (s : List ℕ) (w : Round) (es : List Entry) → HasBoot history m s w es → is_before d.watermark w ≡ false
+  pub raised : IsWatermark history d.watermark d.entries
+  pub none : d.watermark ≡ no_round → (j : Round) (g : Shape) → HasGarbage history m j g → ⊥
+  pub own : IsOwn history m d.watermark
+  -- in which set it began
+  pub began : (s : List ℕ) → d.booted ≡ Some s → (w : Round) × (es : List Entry) × HasBoot history m s w es
+  pub unbegun : d.booted ≡ None → (s : List ℕ) (w : Round) (es : List Entry) → HasBoot history m s w es → ⊥
+  -- its ballots
+  pub ballots : (b : Round) → HasBallot history m b → is_before d.ballot b ≡ false
+  pub ballot : (d.ballot ≡ no_round) ⊎ HasBallot history m d.ballot
+  pub unstopped : d.ballot ≡ no_round → HasStopped history m → ⊥
+  pub nexts : (b : Round) (s : List ℕ) → HasNext history m b s → is_before d.accepted b ≡ false
+  pub accepted : (d.accepted ≡ no_round) ⊎ HasNext history m d.accepted d.next
+
+-- of a replacer's ballots none is above its last, and its last was kept
+abbrev pub IsLastBallot : List KeptRecord → RoleId → ReplacerDurable → Type 0
+IsLastBallot history me d =
+    ((b : Round) → HasKept history me (kept.Ballot b) → is_before d.own b ≡ false) × ((d.own ≡ no_round) ⊎ HasKept history me (kept.Ballot d.own))
 
 -- of a leader's rounds none is above its last, and its last was kept
 abbrev pub IsLast : List KeptRecord → RoleId → Option Entry → Type 0
@@ -167,8 +251,16 @@ pub record Facts (c : Cluster) (history : List KeptRecord) (sent : List Letter) 
   -- a matchmaker records only what was kept, and forgets only for what may be collected
   pub asked : (m : RoleId) (i : Round) (g : Shape) → HasMatch history m i g → IsConfig history i g
   pub garbaged : (m : RoleId) (i : Round) (g : Shape) → HasGarbage history m i g → IsConfig history i g × IsCollected c history sent i × IsRetiring sent i
-  pub logs : (m : RoleId) → IsLog history m (durable_of matchmaker_rules m history)
+  pub logs : (m : RoleId) → IsLog c history sent m (durable_of matchmaker_rules m history)
   pub acceptors : (a : RoleId) → IsAcceptor history a (durable_of acceptor_rules a history)
+  -- sets of matchmakers
+  pub sets : SetFacts c history
+  pub accepted : (m : RoleId) (b : Round) (t : List ℕ) → HasNext history m b t → IsAsked sent m b t
+  pub one_asked : (b : Round) (t u : List ℕ) → IsNextAsked sent b t → IsNextAsked sent b u → t ≡ u
+  pub asks : (from to : RoleId) (b : Round) (t : List ℕ) → Member (letter from to (msg.NextA b t)) sent
+      → IsNext c history to b t × HasKept history (role kind.Replacer b.id) (kept.Ballot b)
+  pub balloter : (me : RoleId) (b : Round) → HasKept history me (kept.Ballot b) → me ≡ role kind.Replacer b.id
+  pub last_ballot : (me : RoleId) → IsLastBallot history me (durable_of replacer_rules me history)
   -- each vote was proposed, and one value for each round and slot
   pub voted : (a : RoleId) (i : Round) (s : ℕ) (v : Value) → HasVoted history a i s v → IsProposed sent i s v
   pub one_value : (i : Round) (s : ℕ) (u v : Value) → IsProposed sent i s u → IsProposed sent i s v → u ≡ v

@@ -111,6 +111,7 @@ vote_fits c me (written.Record (kept.Vote i s cw v)) history kind.Leader h = let
 vote_fits c me (written.Record (kept.Vote i s cw v)) history kind.Matchmaker h = let no = h.0 in cc
 vote_fits c me (written.Record (kept.Vote i s cw v)) history kind.Replica h = let no = h.0 in cc
 vote_fits c me (written.Record (kept.Vote i s cw v)) history kind.Reader h = let no = h.0 in cc
+vote_fits c me (written.Record (kept.Vote i s cw v)) history kind.Replacer h = let no = h.0 in cc
 vote_fits c me (written.Record (kept.Vote i s cw v)) history other h = absurd h
 vote_fits c me other history k h = tt
 

@@ -8,7 +8,7 @@ use Rattle.cx_base.specs.declared.cluster.Cluster.{Cluster}
 use Rattle.cx_base.specs.declared.command.Command.{Command}
 use Rattle.cx_base.specs.declared.command.Placed.{Placed}
 use Rattle.cx_base.specs.declared.event.Order.{Order as OrderOf}
-use Rattle.cx_base.specs.declared.event.Order.TheVariants.{Lead, Change, Collect}
+use Rattle.cx_base.specs.declared.event.Order.TheVariants.{Lead, Change, Collect, Replace}
 use Rattle.cx_base.specs.declared.role.RoleId.{RoleId}
 use Rattle.cx_base.specs.declared.round.Round.{Round}
 use Rattle.cx_base.specs.declared.why.Why.{Why}
@@ -17,6 +17,7 @@ use Rattle.cx_base.specs.Grid.{Shape, is_in}
 use Rattle.cx_base.specs.Lists.{below, numbers}
 use Rattle.cx_base.specs.Role.{same_role}
 use Rattle.cx_base.specs.Round.{lead_after, change_after}
+use Rattle.cx_base.specs.Sets.{is_above}
 use Rattle.cx_field.specs.declared.parts.Entry.{Entry}
 use Rattle.cx_msg.specs.Letter.{Letter}
 use Rattle.cx_msg.specs.declared.input.Input.{Input}
@@ -28,9 +29,9 @@ use Rattle.cx_model.specs.declared.states.Mode.{Mode}
 use Rattle.cx_model.specs.declared.states.Mode.TheVariants.{Idle, Matching, Phase1, Leading}
 use Rattle.cx_model.specs.declared.states.Promised.{Promised}
 use Rattle.cx_model.specs.Collection.{Collection, collection_from, with_informed, with_forgotten, is_off, is_informing, is_collecting}
-use Rattle.cx_model.specs.Leader.{LeaderDurable, LeaderVolatile, leader_rules, leader_fits, is_idle, is_matching, is_promising, is_leading, round_of, is_own, match_a_to, phase1a_to, leads_to, propose_to, inform_to, garbage_a_to, begin_in, finish, is_changed, bypass, matched_by, match_counted, promise_counted, with_seen, is_past_window, propose_in, held_by, is_settled, collect_in, informed_counted, informed_in, leader_takes, open_values, stage_sends, tick_in, order_row, leader_row, follows, has_no_room}
+use Rattle.cx_model.specs.Leader.{LeaderDurable, LeaderVolatile, leader_rules, leader_fits, is_idle, is_matching, is_promising, is_leading, round_of, is_own, match_a_to, phase1a_to, leads_to, propose_to, inform_to, garbage_a_to, begin_in, finish, is_changed, bypass, matched_by, match_counted, promise_counted, with_seen, is_past_window, propose_in, held_by, is_settled, collect_in, informed_counted, informed_in, set_learnt, leader_takes, open_values, stage_sends, tick_in, order_row, leader_row, follows, has_no_room}
 use Rattle.cx_model.specs.Lists.{number_itself}
-use Rattle.cx_model.specs.Matched.{enough, matchmakers, is_counted, live_entries, is_member_of, members_of, members_in, rows_whole}
+use Rattle.cx_model.specs.Matched.{enough, is_counted, live_entries, is_member_of, members_of, members_in, rows_whole}
 use Rattle.cx_model.specs.Member.{Member}
 use Rattle.cx_model.specs.Names.{names, names_grid, names_round}
 use Rattle.cx_model.specs.Outcome.{Outcome, answered, replied, by_test, either_way}
@@ -91,8 +92,8 @@ module _ (c : Cluster) (me : RoleId) (d : LeaderDurable) (place : me.index < c.l
   informs_in : (i : Round) (cw : ℕ) (acceptors : List ℕ) → AllInWindow (map (inform_to me i cw) acceptors)
   informs_in i cw acceptors = each_in (inform_to me i cw) acceptors (λ a m. tt)
 
-  garbage_in : (own : Entry) → AllInWindow (map (garbage_a_to me own) (matchmakers c))
-  garbage_in own = each_in (garbage_a_to me own) (matchmakers c) (λ m x. tt)
+  garbage_in : (own : Entry) (set : List ℕ) → AllInWindow (map (garbage_a_to me own) set)
+  garbage_in own set = each_in (garbage_a_to me own) set (λ m x. tt)
 
   leads_in : (i : Round) → AllInWindow (map (leads_to me i) (below c.batchers))
   leads_in i = each_in (leads_to me i) (below c.batchers) (λ b m. tt)
@@ -100,18 +101,18 @@ module _ (c : Cluster) (me : RoleId) (d : LeaderDurable) (place : me.index < c.l
   phase1_in : (i : Round) (acceptors : List ℕ) → AllInWindow (map (phase1a_to me i) acceptors)
   phase1_in i acceptors = each_in (phase1a_to me i) acceptors (λ a m. tt)
 
-  match_in : (i : Round) (g : Shape) → AllInWindow (map (match_a_to me i g) (matchmakers c))
-  match_in i g = each_in (match_a_to me i g) (matchmakers c) (λ m x. tt)
+  match_in : (i : Round) (g : Shape) (set : List ℕ) → AllInWindow (map (match_a_to me i g) set)
+  match_in i g set = each_in (match_a_to me i g) set (λ m x. tt)
 
-  stage_in : (own : Entry) (k : Collection) → AllInWindow (stage_sends c me own k)
-  stage_in own k =
+  stage_in : (own : Entry) (set : List ℕ) (k : Collection) → AllInWindow (stage_sends c me own set k)
+  stage_in own set k =
       either_way AllInWindow (is_informing k.stage) _ _ (informs_in own.round k.mark (members_in c own.grid))
-      (either_way AllInWindow (is_collecting k.stage) _ _ (garbage_in own) none_in)
+      (either_way AllInWindow (is_collecting k.stage) _ _ (garbage_in own set) none_in)
 
   module _ (v : LeaderVolatile) (h : IsNext v.next v.cw) where
     begin_good : (g : Shape) (o : Option Round) → ((i : Round) → o ≡ Some i → leader_fits c me d (kept.Round i g) ≡ true) → Good (begin_in c me v g o)
     begin_good g None fits = calm why.End v h
-    begin_good g (Some i) fits = λ low. record { keeps = (fits i refl, refl); next = h; sends = match_in i g }
+    begin_good g (Some i) fits = λ low. record { keeps = (fits i refl, refl); next = h; sends = match_in i g v.set }
 
     -- the end of the first phase
     finish_good : (own : Entry) → AllReported v.promises → Good (finish c me own v)
@@ -176,7 +177,7 @@ module _ (c : Cluster) (me : RoleId) (d : LeaderDurable) (place : me.index < c.l
 
     informed_counted_good : (own : Entry) (k : Collection) → Good (informed_counted c me own v k)
     informed_counted_good own k =
-        either_way Good (is_collecting k.stage) _ _ (sending why.Collecting (record v { collection = k }) _ h (garbage_in own)) (calm why.Counted (record v { collection = k }) h)
+        either_way Good (is_collecting k.stage) _ _ (sending why.Collecting (record v { collection = k }) _ h (garbage_in own v.set)) (calm why.Counted (record v { collection = k }) h)
 
     informed_good : (from : RoleId) (o : Option Entry) → Good (informed_in c me v from o)
     informed_good from None = calm why.Old v h
@@ -184,18 +185,28 @@ module _ (c : Cluster) (me : RoleId) (d : LeaderDurable) (place : me.index < c.l
         either_way Good (not (is_in from.index own.grid.members)) _ _ (calm why.Unasked v h)
         (either_way Good (is_in from.index v.collection.counted) _ _ (calm why.Same v h) (informed_counted_good own (with_informed own.grid from.index v.collection)))
 
+    learnt_good : (mode : Mode) (o : Option Entry) → Good (set_learnt me v mode o)
+    learnt_good Idle o = calm why.Learnt v h
+    learnt_good Matching None = calm why.Learnt v h
+    learnt_good Matching (Some own) = sending why.Learnt (record v { told = [] }) _ h (match_in own.round own.grid v.set)
+    learnt_good Phase1 o = calm why.Learnt v h
+    learnt_good Leading None = calm why.Learnt v h
+    learnt_good Leading (Some own) =
+        either_way Good (is_collecting v.collection.stage) _ _
+        (sending why.Learnt (record v { collection = record v.collection { counted = [] } }) _ h (garbage_in own v.set)) (calm why.Learnt v h)
+
   -- by the input
 
   module _ (v : LeaderVolatile) (h : IsNext v.next v.cw) (told : AllReported v.promises)
       (ready : is_matching v.mode ≡ true → (own : Entry) → d.own ≡ Some own → is_changed own.round ≡ true → (p : Placed) → Member p v.proposed → p.slot < v.next) where
     takes_good : (from : RoleId) (m : Msg) → Reports m → Good (leader_takes c me d v from m)
     takes_good from (msg.MatchB i w es) reports =
-        by_test Good (not (is_matching v.mode && is_own d i)) _ _ (λ t. calm why.Old v h)
+        by_test Good (not (is_matching v.mode && is_own d i && is_in from.index v.set)) _ _ (λ t. calm why.Old v h)
         (λ f. either_way Good (is_counted from.index v.told) _ _ (calm why.Same v h)
         (match_counted_good (record v { told = v.told ++ record { matchmaker = from.index; watermark = w; entries = es } ∷ [] }) h told d.own
-        (ready (and_parts (is_matching v.mode) (is_own d i) (not-false _ f)).0)))
+        (ready (and_parts (is_matching v.mode) (is_own d i) (and_parts (is_matching v.mode && is_own d i) (is_in from.index v.set) (not-false _ f)).0).0)))
     takes_good from (msg.MatchNack i reason other) reports =
-        either_way Good (is_idle v.mode || not (is_own d i)) _ _ (calm why.Old (with_seen other v) h)
+        either_way Good (is_idle v.mode || not (is_own d i) || not (is_in from.index v.set)) _ _ (calm why.Old (with_seen other v) h)
         (either_way Good (has_no_room reason) _ _ (calm why.Full (with_seen other v) h) (calm why.Nacked (record (with_seen other v) { mode = Idle }) h))
     takes_good from (msg.Phase1B i cw votes) reports =
         let p : Promised = record { acceptor = from.index; cw = cw; votes = votes } in
@@ -220,9 +231,10 @@ module _ (c : Cluster) (me : RoleId) (d : LeaderDurable) (place : me.index < c.l
         either_way Good (not (is_leading v.mode && is_own d i && is_informing v.collection.stage && nat_le v.collection.mark cw)) _ _
         (calm why.Old v h) (informed_good v h from d.own)
     takes_good from (msg.GarbageB i) reports =
-        either_way Good (not (is_leading v.mode && is_own d i && is_collecting v.collection.stage)) _ _ (calm why.Old v h)
+        either_way Good (not (is_leading v.mode && is_own d i && is_collecting v.collection.stage && is_in from.index v.set)) _ _ (calm why.Old v h)
         (either_way Good (is_in from.index v.collection.counted) _ _ (calm why.Same v h)
         (calm _ (record v { collection = with_forgotten (enough c) from.index v.collection }) h))
+    takes_good from (msg.Sets s) reports = either_way Good (is_above s v.set) _ _ (learnt_good (record v { set = s }) h v.mode d.own) (calm why.Old v h)
     takes_good from other reports = calm why.Stranger v h
 
     -- while it leads it has a round, and what it proposed lies before its next slot
@@ -231,14 +243,14 @@ module _ (c : Cluster) (me : RoleId) (d : LeaderDurable) (place : me.index < c.l
       ticks_good : (mode : Mode) → v.mode ≡ mode → (o : Option Entry) → d.own ≡ o → Good (tick_in c me v mode o)
       ticks_good mode is None e = calm why.Idle v h
       ticks_good Idle is (Some own) e = calm why.Idle v h
-      ticks_good Matching is (Some own) e = sending why.Resent v _ h (match_in own.round own.grid)
+      ticks_good Matching is (Some own) e = sending why.Resent v _ h (match_in own.round own.grid v.set)
       ticks_good Phase1 is (Some own) e = sending why.Resent v _ h (phase1_in own.round (members_of c (live_entries v.told)))
       ticks_good Leading is (Some own) e =
           let proposals = map (propose_to c me own v.cw) (open_values v) in
           let leads = map (leads_to me own.round) (below c.batchers) in
-          sending why.Resent v (proposals ++ leads ++ stage_sends c me own v.collection) h
-          (both_in (proposals ++ leads) (stage_sends c me own v.collection)
-          (both_in proposals leads (each_in (propose_to c me own v.cw) (open_values v) again) (leads_in own.round)) (stage_in own v.collection))
+          sending why.Resent v (proposals ++ leads ++ stage_sends c me own v.set v.collection) h
+          (both_in (proposals ++ leads) (stage_sends c me own v.set v.collection)
+          (both_in proposals leads (each_in (propose_to c me own v.cw) (open_values v) again) (leads_in own.round)) (stage_in own v.set v.collection))
         where
           again : (p : Placed) → Member p (open_values v) → (p.slot < v.cw + 32) × IsSlot p.slot
           again p m =
@@ -261,6 +273,7 @@ module _ (c : Cluster) (me : RoleId) (d : LeaderDurable) (place : me.index < c.l
           (λ named. by_test Good (not (is_leading v.mode)) _ _ (λ t. calm why.Idle v h)
           (λ leads. begin_good v h g (change_after (round_of d.own)) (changes_good g (not-false _ named) (not-false _ leads) d.own refl)))
       orders_good Collect = either_way Good (is_leading v.mode) _ _ (collect_good v h d.own) (calm why.Idle v h)
+      orders_good (Replace s) = calm why.Stranger v h
 
       pub row_good : (i : Input) → ((x : Letter) → i ≡ input.Take x → Reports x.msg) → Good (leader_row c me d v i)
       row_good (input.Take x) reports = either_way Good (same_role x.to me && names c x) _ _ (takes_good x.from x.msg (reports x refl)) (calm why.Stranger v h)

@@ -102,7 +102,7 @@ module _ (c : Cluster) (history : List KeptRecord) (sent : List Letter) (states 
     ready : is_matching v.mode ≡ true → (own : Entry) → d.own ≡ Some own → is_changed own.round ≡ true → (p : Placed) → Member p v.proposed → p.slot < v.next
     ready matches own e changed p m =
         (((subst (λ o. InMode c history sent o v Matching) e
-        (subst (λ mode. InMode c history sent d.own v mode) (matching_is v.mode matches) state.1)).1 changed).window p m).1
+        (subst (λ mode. InMode c history sent d.own v mode) (matching_is v.mode matches) state.1)).2 changed).window p m).1
 
     given : (i : Input) → Given sent me i → (x : Letter) → i ≡ input.Take x → Reports x.msg
     given (input.Take y) g x e = let same : y ≡ x = cc in subst (λ (z : Letter). Reports z.msg) same (reports y.from y.to y.msg g.1)

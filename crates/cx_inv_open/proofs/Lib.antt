@@ -8,6 +8,7 @@ pub mod Plans
 pub mod Proxies
 pub mod Readers
 pub mod Refused
+pub mod Replacers
 pub mod Replicas
 pub mod Steps
 pub mod Renewable

@@ -1,5 +1,5 @@
 -- A matchmaker keeps what it may keep.
-use Rattle.std.specs.Prelude.{◌≡◌, ℕ, ◌&&◌, true, false, nat_le, nat_lt, List, length, refl}
+use Rattle.std.specs.Prelude.{◌≡◌, ℕ, ◌&&◌, bytes_eq, true, false, nat_le, nat_lt, List, length, Option, None, Some, refl}
 use Rattle.std.specs.List.{list_any, list_all}
 use Rattle.std.proofs.Common.{arith}
 use Rattle.std.proofs.lemmas.Bool.{and_parts}
@@ -8,6 +8,7 @@ use Rattle.cx_base.specs.declared.cluster.Cluster.{Cluster}
 use Rattle.cx_base.specs.declared.role.Kind.TheVariants as kind
 use Rattle.cx_base.specs.declared.role.RoleId.{RoleId}
 use Rattle.cx_base.specs.declared.round.Round.{Round}
+use Rattle.cx_base.specs.Grid.{Shape, is_in}
 use Rattle.cx_base.specs.Role.{role, same_role}
 use Rattle.cx_base.specs.Round.{is_before, same_round}
 use Rattle.cx_field.specs.declared.parts.Entry.{Entry}
@@ -17,9 +18,9 @@ use Rattle.cx_msg.specs.declared.input.Input.TheVariants as input
 use Rattle.cx_msg.specs.declared.input.KeptRecord.{KeptRecord}
 use Rattle.cx_msg.specs.declared.message.Msg.{Msg}
 use Rattle.cx_msg.specs.declared.message.Msg.TheVariants as msg
-use Rattle.cx_model.specs.Matchmaker.{MatchmakerDurable, matchmaker_rules, matchmaker_row, matchmaker_takes, has_round}
-use Rattle.cx_model.specs.Names.{names, names_body, names_role, names_grid, names_round}
-use Rattle.cx_model.specs.Outcome.{Outcome, by_test}
+use Rattle.cx_model.specs.Matchmaker.{MatchmakerDurable, matchmaker_rules, matchmaker_row, matchmaker_takes, at_work, boot_in, has_round, in_set, is_booted, is_stopped, match_a_row, set_of}
+use Rattle.cx_model.specs.Names.{names, names_ballot, names_body, names_entry, names_grid, names_role, names_round, names_set}
+use Rattle.cx_model.specs.Outcome.{Outcome, by_test, either_way}
 use Rattle.cx_model.specs.Rules.{IsFit}
 use Rattle.cx_inv_run.specs.Laws.{Lands}
 use Rattle.cx_inv_run.specs.States.{State, plain, durable_of}
@@ -31,6 +32,9 @@ use Rattle.cx_inv_open.proofs.Keep.{calm_in, new_fits, lands}
 -- where no entry is of the round or of a later one, all are of earlier ones
 is_after : (a b : Round) → is_before a b ≡ false → same_round b a ≡ false → is_before b a ≡ true
 is_after a b before same = grind (arith, nat_tests)
+
+is_later : (a b : Round) → is_before a b ≡ false → same_round a b ≡ false → is_before b a ≡ true
+is_later a b before same = grind (arith, nat_tests)
 
 all_before : (i : Round) (es : List Entry) → list_any (λ (e : Entry). is_before i e.round) es ≡ false → has_round i es ≡ false → list_all (λ (e : Entry). is_before e.round i) es ≡ true
 all_before i es later none =
@@ -44,18 +48,46 @@ module _ (c : Cluster) (me : RoleId) (d : MatchmakerDurable) where
   abbrev Fine : Outcome (Unit {0}) → Type 0
   Fine o = IsFit matchmaker_rules c me d o.kept
 
-  takes_fine : (from : RoleId) (m : Msg) → names_body c m ≡ true → Fine (matchmaker_takes me d from m)
-  takes_fine from (msg.MatchA i g) named =
-      let a = and_parts (names_round c i) (names_grid c g) named in
+  -- what only a member of a set does, and what only one that hasn't stopped does
+  set_fine : (o : Outcome (Unit {0})) → (is_booted c me d ≡ true → Fine o) → Fine (in_set c me d o)
+  set_fine o h = by_test Fine (is_booted c me d) _ _ h (λ f. tt)
+
+  work_fine : (o : Outcome (Unit {0})) → (is_booted c me d ≡ true → is_stopped d ≡ false → Fine o) → Fine (at_work c me d o)
+  work_fine o h = set_fine _ (λ booted. by_test Fine (is_stopped d) _ _ (λ t. tt) (λ works. h booted works))
+
+  match_fine : (from : RoleId) (i : Round) (g : Shape) → is_booted c me d ≡ true → is_stopped d ≡ false → names_round c i ≡ true → names_grid c g ≡ true
+      → Fine (match_a_row me d from i g)
+  match_fine from i g booted works round grid =
       by_test Fine (is_before i d.watermark) _ _ (λ t. tt)
       (λ high. by_test Fine (list_any (λ (e : Entry). is_before i e.round) d.entries) _ _ (λ t. tt)
       (λ last. by_test Fine (has_round i d.entries) _ _ (λ t. tt)
       (λ new. by_test Fine (nat_le 16 (length d.entries)) _ _ (λ t. tt)
-      (λ room. (rw (a.0, a.1, high, all_before i d.entries last new, has_room (length d.entries) room) refl, refl)))))
+      (λ room. (rw (booted, works, round, grid, high, all_before i d.entries last new, has_room (length d.entries) room) refl, refl)))))
+
+  boots_fine : (from : RoleId) (s : List ℕ) (w : Round) (es : List Entry) → is_in me.index s ≡ true → names_set c s ≡ true → names_round c w ≡ true
+      → list_all (λ (e : Entry). names_entry c e) es ≡ true → (o : Option (List ℕ)) → set_of c me d.booted ≡ o → Fine (boot_in me from s w es o)
+  boots_fine from s w es member set round entries (Some t) e = either_way Fine (bytes_eq s t) _ _ tt tt
+  boots_fine from s w es member set round entries None e = (rw (e, member, set, round, entries) refl, refl)
+
+  takes_fine : (from : RoleId) (m : Msg) → names_body c m ≡ true → Fine (matchmaker_takes c me d from m)
+  takes_fine from (msg.MatchA i g) named =
+      let a = and_parts (names_round c i) (names_grid c g) named in
+      work_fine _ (λ booted works. match_fine from i g booted works a.0 a.1)
   takes_fine from (msg.GarbageA i g) named =
       let a = and_parts (names_round c i) (names_grid c g) named in
-      by_test Fine (is_before d.watermark i) _ _ (λ low. (rw (a.0, a.1, low) refl, refl)) (λ f. tt)
-  takes_fine from (msg.MatchRead t) named = tt
+      work_fine _ (λ booted works. by_test Fine (is_before d.watermark i) _ _ (λ low. (rw (booted, works, a.0, a.1, low) refl, refl)) (λ f. tt))
+  takes_fine from (msg.MatchRead t) named = work_fine _ (λ booted works. tt)
+  takes_fine from (msg.StopA b) named =
+      set_fine _ (λ booted. by_test Fine (is_before b d.ballot) _ _ (λ t. tt)
+      (λ high. by_test Fine (same_round b d.ballot) _ _ (λ t. tt) (λ new. (rw (booted, named, is_later b d.ballot high new) refl, refl))))
+  takes_fine from (msg.NextA b s) named =
+      let a = and_parts (names_ballot c b) (names_set c s) named in
+      set_fine _ (λ booted. by_test Fine (is_before b d.ballot) _ _ (λ t. tt)
+      (λ high. by_test Fine (same_round b d.accepted) _ _ (λ t. tt) (λ new. (rw (booted, a.0, a.1, high, new) refl, refl))))
+  takes_fine from (msg.BootA s w es) named =
+      let a = and_parts (names_set c s && names_round c w) (list_all (λ (e : Entry). names_entry c e) es) named in
+      let b = and_parts (names_set c s) (names_round c w) a.0 in
+      by_test Fine (is_in me.index s) _ _ (λ member. boots_fine from s w es member b.0 b.1 a.1 (set_of c me d.booted) refl) (λ f. tt)
   takes_fine from other named = tt
 
   row_fine : (i : Input) → Fine (matchmaker_row c me d tt i)

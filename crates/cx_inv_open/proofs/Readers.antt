@@ -10,7 +10,9 @@ use Rattle.cx_base.specs.declared.round.Round.{Round}
 use Rattle.cx_base.specs.declared.why.Why.{Why}
 use Rattle.cx_base.specs.declared.why.Why.TheVariants.{Sent}
 use Rattle.cx_base.specs.Role.{role, same_role}
+use Rattle.cx_base.specs.Grid.{is_in}
 use Rattle.cx_base.specs.Round.{same_round}
+use Rattle.cx_base.specs.Sets.{is_above}
 use Rattle.cx_field.specs.declared.parts.Asking.{Asking}
 use Rattle.cx_field.specs.declared.parts.Entry.{Entry}
 use Rattle.cx_msg.specs.Letter.{Letter}
@@ -26,7 +28,7 @@ use Rattle.cx_model.specs.Lists.{same_role-true}
 use Rattle.cx_model.specs.Matched.{is_counted, is_member_of, greatest_watermark, live_entries, rows_whole}
 use Rattle.cx_model.specs.Names.{names}
 use Rattle.cx_model.specs.Outcome.{Outcome, by_test, either_way}
-use Rattle.cx_model.specs.Reader.{Asked, Batch, ReaderDurable, ReaderVolatile, acked_by, ask_replicas, asked_for, begin, begin_if, finish, greatest_mark, has_acked, is_among, is_first, is_matched, is_of_batch, last_turn, match_ack_row, matched, pre_read_ack_row, reader_row, reader_rules, reader_takes, reader_tick, request_over, token}
+use Rattle.cx_model.specs.Reader.{Asked, Batch, ReaderDurable, ReaderVolatile, acked_by, ask_replicas, asked_anew, asked_for, begin, begin_if, finish, greatest_mark, has_acked, is_among, is_first, is_matched, is_of_batch, last_turn, match_ack_row, matched, pre_read_ack_row, reader_row, reader_rules, reader_takes, reader_tick, request_over, token}
 use Rattle.cx_model.specs.Rules.{IsFit, written_after}
 use Rattle.cx_inv_run.specs.Laws.{Lands}
 use Rattle.cx_inv_run.specs.States.{State, ReaderIn, durable_of}
@@ -65,20 +67,20 @@ module _ (c : Cluster) (me : RoleId) (d : ReaderDurable) (low : d.turn ≤ last_
   abbrev Fine : Outcome ReaderVolatile → Type 0
   Fine o = IsFit reader_rules c me d o.kept
 
-  begun : (w : Why) (first : List Letter) (rs : List Asked) → (d.turn == last_turn) ≡ false → Fine (begin c me d w first rs)
-  begun w first rs before = (next_turn d.turn last_turn low before, refl)
-
   module _ (v : ReaderVolatile) where
-    begun_if : (w : Why) (rs : List Asked) → Fine (begin_if c me d v w rs)
+    begun : (w : Why) (first : List Letter) (rs : List Asked) → (d.turn == last_turn) ≡ false → Fine (begin me d v w first rs)
+    begun w first rs before = (next_turn d.turn last_turn low before, refl)
+
+    begun_if : (w : Why) (rs : List Asked) → Fine (begin_if me d v w rs)
     begun_if w rs = by_test Fine (d.turn == last_turn) _ _ (λ last. tt) (λ before. begun w [] rs before)
 
-    request_fine : (one : Asked) (o : Option Batch) → Fine (request_over c me d v one o)
+    request_fine : (one : Asked) (o : Option Batch) → Fine (request_over me d v one o)
     request_fine one None = either_way Fine (nat_le 64 (length v.waiting)) _ _ tt (begun_if _ _)
     request_fine one (Some b) =
         either_way Fine (is_first one.read b.reads) _ _ (begun_if _ _)
         (either_way Fine (is_among one.read b.reads) _ _ tt (either_way Fine (nat_le 64 (length v.waiting + length b.reads)) _ _ tt tt))
 
-    finished : (b : Batch) (n : ℕ) → Fine (finish c me d v b n)
+    finished : (b : Batch) (n : ℕ) → Fine (finish me d v b n)
     finished b n =
         by_test Fine (nat_lt 0 (length v.waiting) && not (d.turn == last_turn)) _ _
         (λ more. begun Sent (ask_replicas me b n) v.waiting
@@ -93,7 +95,7 @@ module _ (c : Cluster) (me : RoleId) (d : ReaderDurable) (low : d.turn ≤ last_
     match_ack_fine from u w es None = tt
     match_ack_fine from u w es (Some b) =
         let more : Batch = record b { told = b.told ++ record { matchmaker = from.index; watermark = w; entries = es } ∷ [] } in
-        either_way Fine (not (is_of_batch me b u && not (is_matched c b))) _ _ tt
+        either_way Fine (not (is_of_batch me b u && not (is_matched c b) && is_in from.index v.set)) _ _ tt
         (either_way Fine (is_counted from.index b.told) _ _ tt
         (either_way Fine (is_matched c more) _ _ (matched_fine more (live_entries more.told)) tt))
 
@@ -106,12 +108,17 @@ module _ (c : Cluster) (me : RoleId) (d : ReaderDurable) (low : d.turn ≤ last_
         (either_way Fine (has_acked from.index b.acks) _ _ tt
         (either_way Fine (rows_whole (live_entries more.told) (acked_by more.acks)) _ _ (finished more (greatest_mark more.acks)) tt)))
 
+    anew_fine : (w : ReaderVolatile) (o : Option Batch) → Fine (asked_anew c me w o)
+    anew_fine w None = tt
+    anew_fine w (Some b) = either_way Fine (is_matched c b) _ _ tt tt
+
     takes_fine : (from : RoleId) (m : Msg) → Fine (reader_takes c me d v from m)
     takes_fine from (msg.ReadReq seq replica key) =
         let one = asked_for (token from.index seq) replica key in
         either_way Fine (is_among one.read v.waiting) _ _ tt (request_fine one v.running)
     takes_fine from (msg.MatchReadAck u w es) = match_ack_fine from u w es v.running
     takes_fine from (msg.PreReadAck u w n) = pre_read_ack_fine from u w n v.running
+    takes_fine from (msg.Sets s) = either_way Fine (is_above s v.set) _ _ (anew_fine (record v { set = s }) v.running) tt
     takes_fine from other = tt
 
     ticks_fine : (o : Option Batch) → Fine (reader_tick c me v o)

@@ -26,6 +26,7 @@ use Rattle.cx_model.specs.Matchmaker.{matchmaker_rules}
 use Rattle.cx_model.specs.Outcome.{by_test}
 use Rattle.cx_model.specs.Proxy.{proxy_rules}
 use Rattle.cx_model.specs.Reader.{reader_rules}
+use Rattle.cx_model.specs.Replacer.{replacer_rules}
 use Rattle.cx_model.specs.Replica.{replica_rules}
 use Rattle.cx_model.specs.Rules.{IsFit, Rules, folded, folded_from, refused, refused_from}
 use Rattle.cx_model.specs.Unbatcher.{unbatcher_rules}
@@ -122,6 +123,10 @@ reader_step : (c : Cluster) (me : RoleId) (w : Written) (ks : List KeptRecord) �
 reader_step c me (written.Record r) ks h = h
 reader_step c me (written.Snap first) ks h = absurd h
 
+replacer_step : (c : Cluster) (me : RoleId) (w : Written) (ks : List KeptRecord) → FitsAs c me w ks kind.Replacer → StepFits replacer_rules c me ks w
+replacer_step c me (written.Record r) ks h = h
+replacer_step c me (written.Snap first) ks h = absurd h
+
 -- the floors that a replica was told
 
 abbrev ToldTo : RoleId → List KeptRecord → Type 0
@@ -160,3 +165,4 @@ none_refused c kept h me told =
     go kind.Replica is = replica_accepted c me is (reverse kept) (told is) h
     go kind.Unbatcher is = accepted_as unbatcher_rules c me refl kind.Unbatcher is (λ w ks x. unbatcher_step c me w ks x) (reverse kept) h
     go kind.Reader is = accepted_as reader_rules c me refl kind.Reader is (reader_step c me) (reverse kept) h
+    go kind.Replacer is = accepted_as replacer_rules c me refl kind.Replacer is (replacer_step c me) (reverse kept) h

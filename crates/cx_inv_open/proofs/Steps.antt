@@ -9,10 +9,11 @@ use Rattle.cx_base.specs.declared.role.Kind.TheVariants as kind
 use Rattle.cx_base.specs.Role.{role}
 use Rattle.cx_model.specs.Leader.{LeaderVolatile}
 use Rattle.cx_model.specs.Promises.{OfEveryRun}
+use Rattle.cx_model.specs.Replacer.{ReplacerVolatile}
 use Rattle.cx_model.specs.Request.{request}
 use Rattle.cx_model.specs.World.{run}
 use Rattle.cx_inv_run.specs.Laws.{Laws}
-use Rattle.cx_inv_run.specs.States.{State, Down, BatcherIn, LeaderIn, plain, fresh_state, Property, HoldsIn}
+use Rattle.cx_inv_run.specs.States.{State, Down, BatcherIn, LeaderIn, ReplacerIn, plain, fresh_state, Property, HoldsIn}
 use Rattle.cx_inv_run.proofs.Senders.{batcher_kinds, unbatcher_kinds}
 use Rattle.cx_inv_run.proofs.Sends.{batcher_keeps, unbatcher_keeps}
 use Rattle.cx_inv_run.specs.Ties.{Ties}
@@ -28,10 +29,11 @@ use Rattle.cx_inv_open.proofs.Acceptors.{acceptor_lands}
 use Rattle.cx_inv_open.proofs.Keep.{AllInWindow, none_in, one_in, both_in, calm_in, none_new, with_state, lands}
 use Rattle.cx_inv_open.proofs.Leaders.{leader_lands}
 use Rattle.cx_inv_open.proofs.Matchmakers.{matchmaker_lands}
-use Rattle.cx_inv_open.proofs.Places.{leader_place}
+use Rattle.cx_inv_open.proofs.Places.{leader_place, replacer_place}
 use Rattle.cx_inv_open.proofs.Proxies.{proxy_lands}
 use Rattle.cx_inv_open.proofs.Readers.{reader_lands}
 use Rattle.cx_inv_open.proofs.Refused.{none_refused}
+use Rattle.cx_inv_open.proofs.Replacers.{replacer_lands}
 use Rattle.cx_inv_open.proofs.Replicas.{replica_lands, snapped}
 use Rattle.cx_inv_open.proofs.Told.{run_told}
 
@@ -39,9 +41,10 @@ use Rattle.cx_inv_open.proofs.Told.{run_told}
 abbrev Known : Cluster → Property
 Known c kept sent states =
     Facts c kept sent states × LowFacts c kept sent states × Ties kept sent states × ((l : ℕ) (v : LeaderVolatile) → states (role kind.Leader l) ≡ LeaderIn v → l < c.leaders)
+    × ((x : ℕ) (v : ReplacerVolatile) → states (role kind.Replacer x) ≡ ReplacerIn v → x < c.replacers)
 
 known : (c : Cluster) (es : List Event) → HoldsIn (Known c) (run c es)
-known c es = (facts_hold c es, low_facts c es, ties_hold c es, leader_place c es)
+known c es = (facts_hold c es, low_facts c es, ties_hold c es, leader_place c es, replacer_place c es)
 
 fresh_range : (c : Cluster) (k : Kind) → InRange c (fresh_state c k)
 fresh_range c kind.Leader = (omega arith, omega arith)
@@ -81,6 +84,7 @@ fitting_laws c = record {
       let kinds = unbatcher_kinds c me refl i in
       lands c kept sent states h me plain _ (none_new c kept me (λ r k. unbatcher_keeps r k) _ kinds.keeps) tt (calm_in me _ tt kinds);
   reader = λ kept sent states r v i known h is given. reader_lands c kept sent states h r v i;
+  replacer = λ kept sent states x v i known h is given. replacer_lands c kept sent states h x v (known.4 x v is) i;
 }
 
 pub fitting : (c : Cluster) (es : List Event) → HoldsIn (Fitting c) (run c es)

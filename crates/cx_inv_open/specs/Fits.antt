@@ -25,6 +25,7 @@ use Rattle.cx_model.specs.Matchmaker.{matchmaker_rules}
 use Rattle.cx_model.specs.Member.{Member}
 use Rattle.cx_model.specs.Names.{names_value}
 use Rattle.cx_model.specs.Reader.{reader_rules}
+use Rattle.cx_model.specs.Replacer.{replacer_rules}
 use Rattle.cx_model.specs.Replica.{replica_rules}
 use Rattle.cx_model.specs.Rules.{IsFit, refused}
 use Rattle.cx_inv_run.specs.States.{State, LeaderIn, ReplicaIn, durable_of, log_in}
@@ -41,6 +42,7 @@ FitsAs c me (written.Record r) history kind.Acceptor = IsFit acceptor_rules c me
 FitsAs c me (written.Record r) history kind.Matchmaker = IsFit matchmaker_rules c me (durable_of matchmaker_rules me history) (Some r)
 FitsAs c me (written.Record r) history kind.Replica = IsFit replica_rules c me (durable_of replica_rules me history) (Some r)
 FitsAs c me (written.Record r) history kind.Reader = IsFit reader_rules c me (durable_of reader_rules me history) (Some r)
+FitsAs c me (written.Record r) history kind.Replacer = IsFit replacer_rules c me (durable_of replacer_rules me history) (Some r)
 FitsAs c me (written.Snap first) history kind.Replica =
     are_told (log_in history me.index) ≡ true → refused replica_rules c me (replica_rules.renewed (durable_of replica_rules me history) first) ≡ None
 FitsAs c me what history other = ⊥

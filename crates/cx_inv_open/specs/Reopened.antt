@@ -15,6 +15,7 @@ use Rattle.cx_model.specs.Leader.{leader_rules}
 use Rattle.cx_model.specs.Matchmaker.{matchmaker_rules}
 use Rattle.cx_model.specs.Proxy.{proxy_rules}
 use Rattle.cx_model.specs.Reader.{reader_rules}
+use Rattle.cx_model.specs.Replacer.{replacer_rules}
 use Rattle.cx_model.specs.Replica.{replica_rules}
 use Rattle.cx_model.specs.Rules.{refused}
 use Rattle.cx_model.specs.Unbatcher.{unbatcher_rules}
@@ -31,6 +32,7 @@ refused_as c me records kind.Matchmaker = refused matchmaker_rules c me records
 refused_as c me records kind.Replica = refused replica_rules c me records
 refused_as c me records kind.Unbatcher = refused unbatcher_rules c me records
 refused_as c me records kind.Reader = refused reader_rules c me records
+refused_as c me records kind.Replacer = refused replacer_rules c me records
 
 -- the list in the store of a role of this kind
 abbrev pub stored_as : RoleId → List KeptRecord → Kind → List Record
@@ -43,6 +45,7 @@ stored_as me kept kind.Matchmaker = list_of matchmaker_rules me kept
 stored_as me kept kind.Replica = list_of replica_rules me kept
 stored_as me kept kind.Unbatcher = list_of unbatcher_rules me kept
 stored_as me kept kind.Reader = list_of reader_rules me kept
+stored_as me kept kind.Replacer = list_of replacer_rules me kept
 
 -- Each role can be opened again from the list in its store: it refuses none of its records. Of a replica it is said of events that the world takes:
 -- a request that tells a floor more than 64 below its number, which the world takes none of, would leave a note that no renewed list can have.

@@ -15,14 +15,15 @@ use Rattle.cx_model.specs.Matchmaker.{matchmaker_rules}
 use Rattle.cx_model.specs.Member.{Member}
 use Rattle.cx_model.specs.Outcome.{Outcome}
 use Rattle.cx_model.specs.Reader.{reader_rules}
+use Rattle.cx_model.specs.Replacer.{replacer_rules}
 use Rattle.cx_model.specs.Replica.{replica_rules}
 use Rattle.cx_model.specs.Request.{request}
 use Rattle.cx_model.specs.World.{run}
 use Rattle.cx_inv_run.specs.Kinds.{IsSender, IsWriter, IsKept, OfKind, Kinds, KindsLaw}
 use Rattle.cx_inv_run.specs.Laws.{Lands, Laws, anything}
-use Rattle.cx_inv_run.specs.States.{State, snap_by, BatcherIn, LeaderIn, ProxyIn, ReplicaIn, ReaderIn, plain, with_record, durable_of, HoldsIn}
+use Rattle.cx_inv_run.specs.States.{State, snap_by, BatcherIn, LeaderIn, ProxyIn, ReplicaIn, ReaderIn, ReplacerIn, plain, with_record, durable_of, HoldsIn}
 use Rattle.cx_inv_run.proofs.Members.{Member-both, Member-one, Member-reverse}
-use Rattle.cx_inv_run.proofs.Senders.{acceptor_kinds, matchmaker_kinds, batcher_kinds, unbatcher_kinds, proxy_kinds, replica_kinds, reader_kinds, leader_kinds}
+use Rattle.cx_inv_run.proofs.Senders.{acceptor_kinds, matchmaker_kinds, batcher_kinds, unbatcher_kinds, proxy_kinds, replica_kinds, reader_kinds, leader_kinds, replacer_kinds}
 use Rattle.cx_inv_run.proofs.Sends.{keeps_only}
 use Rattle.cx_inv_run.proofs.Steps.{run_keeps, along_anything, all_allowed}
 
@@ -38,6 +39,7 @@ requested n (event.Session client seq floor replica key) d m = Member-one (λ d.
 requested n (event.Deliver number cut) d m = absurd m
 requested n (event.Tick r) d m = absurd m
 requested n (event.Order leader order cut) d m = absurd m
+requested n (event.Replace replacer set cut) d m = absurd m
 requested n (event.Snap p cut) d m = absurd m
 requested n (event.Crash r) d m = absurd m
 requested n (event.Restart r) d m = absurd m
@@ -89,6 +91,7 @@ kinds_laws c = record {
   snap = λ kept sent states p v first knows h is e. snapped kept sent states h (role kind.Replica p) first refl;
   unbatcher = λ kept sent states u i knows h is given. landed kept sent states h (role kind.Unbatcher u) plain _ (unbatcher_kinds c (role kind.Unbatcher u) refl i);
   reader = λ kept sent states r v i knows h is given. landed kept sent states h (role kind.Reader r) ReaderIn _ (reader_kinds c (role kind.Reader r) refl (durable_of reader_rules (role kind.Reader r) kept) v i);
+  replacer = λ kept sent states x v i knows h is given. landed kept sent states h (role kind.Replacer x) ReplacerIn _ (replacer_kinds c (role kind.Replacer x) refl (durable_of replacer_rules (role kind.Replacer x) kept) v i);
 }
 
 pub kinds_hold : (c : Cluster) (es : List Event) → HoldsIn Kinds (run c es)

@@ -1,14 +1,15 @@
 -- Which kinds of datagrams and records each kind of role sends and keeps: one walk over all rows, and what it gives of every run.
 use Rattle.std.proofs.Common.{◌≡◌, ℕ, Bool, List, [], ◌∷◌, ◌++◌, map, filter, Option, None, Some, sym, subst, refl, inl, inr}
-use Rattle.std.specs.Prelude.{◌+◌, ◌-◌, ◌%◌, not, ◌==◌, ◌&&◌, ◌||◌, nat_lt, nat_le, length, if◌then◌else◌, slice_get, slice_index_or}
+use Rattle.std.specs.Prelude.{◌+◌, ◌-◌, ◌%◌, not, ◌==◌, ◌&&◌, ◌||◌, nat_lt, nat_le, length, bytes_eq, if◌then◌else◌, slice_get, slice_index_or}
 use Rattle.std.specs.List.{list_any}
+use Rattle.cx_base.specs.Sets.{is_above}
 use Rattle.cx_base.specs.declared.cluster.Cluster.{Cluster}
 use Rattle.cx_base.specs.declared.command.Answered.{Answered}
 use Rattle.cx_base.specs.declared.command.Command.{Command}
 use Rattle.cx_base.specs.declared.command.Placed.{Placed}
 use Rattle.cx_base.specs.declared.command.Value.{Value}
 use Rattle.cx_base.specs.declared.event.Order.{Order as OrderOf}
-use Rattle.cx_base.specs.declared.event.Order.TheVariants.{Lead, Change, Collect}
+use Rattle.cx_base.specs.declared.event.Order.TheVariants.{Lead, Change, Collect, Replace}
 use Rattle.cx_base.specs.declared.role.Kind.TheVariants as kind
 use Rattle.cx_base.specs.declared.role.RoleId.{RoleId}
 use Rattle.cx_base.specs.declared.round.Round.{Round}
@@ -16,7 +17,7 @@ use Rattle.cx_base.specs.declared.why.Why.{Why}
 use Rattle.cx_base.specs.Grid.{Shape, is_in}
 use Rattle.cx_base.specs.Lists.{below, numbers}
 use Rattle.cx_base.specs.Log.{ready_values}
-use Rattle.cx_base.specs.Role.{same_role}
+use Rattle.cx_base.specs.Role.{same_role, role}
 use Rattle.cx_base.specs.Round.{is_before, same_round, lead_after, change_after}
 use Rattle.cx_field.specs.declared.parts.Asking.{Asking}
 use Rattle.cx_field.specs.declared.parts.Entry.{Entry}
@@ -32,18 +33,21 @@ use Rattle.cx_model.specs.declared.states.Mode.{Mode}
 use Rattle.cx_model.specs.declared.states.Mode.TheVariants.{Idle, Matching, Phase1, Leading}
 use Rattle.cx_model.specs.declared.states.Pending.{Pending}
 use Rattle.cx_model.specs.declared.states.Plan.{Plan}
+use Rattle.cx_model.specs.declared.states.Replacing.{Replacing}
+use Rattle.cx_model.specs.declared.states.Replacing.TheVariants as replacing
 use Rattle.cx_model.specs.Acceptor.{AcceptorDurable, is_of, vote_at, acceptor_takes, acceptor_row}
 use Rattle.cx_model.specs.Batcher.{BatcherVolatile, batcher_takes, batcher_row}
 use Rattle.cx_model.specs.Collection.{Collection, with_informed, is_off, is_informing, is_collecting}
-use Rattle.cx_model.specs.Leader.{LeaderDurable, LeaderVolatile, is_idle, is_matching, is_promising, is_leading, is_own, round_of, match_a_to, phase1a_to, leads_to, propose_to, inform_to, garbage_a_to, begin_in, lead_with, is_changed, matched_by, match_counted, promise_counted, is_past_window, propose_in, is_settled, collect_in, informed_in, leader_takes, open_values, stage_sends, tick_in, order_row, leader_row, has_no_room}
-use Rattle.cx_model.specs.Matched.{matchmakers, is_counted, greatest_watermark, live_entries, is_member_of, members_of, members_in, rows_whole, enough}
-use Rattle.cx_model.specs.Matchmaker.{MatchmakerDurable, has_round, matchmaker_takes, matchmaker_row}
+use Rattle.cx_model.specs.Leader.{LeaderDurable, LeaderVolatile, is_idle, is_matching, is_promising, is_leading, is_own, round_of, match_a_to, phase1a_to, leads_to, propose_to, inform_to, garbage_a_to, begin_in, lead_with, is_changed, matched_by, match_counted, promise_counted, is_past_window, propose_in, is_settled, collect_in, informed_in, set_learnt, leader_takes, open_values, stage_sends, tick_in, order_row, leader_row, has_no_room}
+use Rattle.cx_model.specs.Matched.{first_set, is_counted, greatest_watermark, live_entries, is_member_of, members_of, members_in, rows_whole, enough}
+use Rattle.cx_model.specs.Matchmaker.{MatchmakerDurable, has_round, is_booted, is_stopped, set_of, in_set, at_work, boot_in, matchmaker_takes, matchmaker_row}
 use Rattle.cx_model.specs.Member.{Member}
-use Rattle.cx_model.specs.Names.{names, names_grid}
+use Rattle.cx_model.specs.Names.{names, names_grid, names_set}
 use Rattle.cx_model.specs.Outcome.{Outcome, answered, replied, either_way}
 use Rattle.cx_model.specs.Plan.{promised_by, has_promised, plan, placed_from}
 use Rattle.cx_model.specs.Proxy.{ProxyVolatile, raised_to, pending_of, pending_at, phase2a_to, column_for, members_for, chosen_to, chosen_in_to, announcement, ask, propose_over, vote_for, proxy_takes, again_for, again_at, proxy_tick, proxy_row}
-use Rattle.cx_model.specs.Reader.{Asked, Batch, ReaderDurable, ReaderVolatile, acked_by, ask_acceptors, ask_matchmakers, ask_replicas, asked_for, asking_of, begin, begin_if, finish, greatest_mark, has_acked, is_among, is_first, is_matched, is_of_batch, last_turn, match_ack_counted, match_ack_row, match_read_to, matched as batch_matched, pre_read_ack_row, pre_read_counted, pre_read_to, read_to, reader_row, reader_takes, reader_tick, request_over, token}
+use Rattle.cx_model.specs.Reader.{Asked, Batch, ReaderDurable, ReaderVolatile, acked_by, ask_acceptors, ask_matchmakers, ask_replicas, asked_anew, asked_for, asking_of, begin, begin_if, finish, greatest_mark, has_acked, is_among, is_first, is_matched, is_of_batch, last_turn, match_ack_counted, match_ack_row, match_read_to, matched as batch_matched, pre_read_ack_row, pre_read_counted, pre_read_to, read_to, reader_row, reader_takes, reader_tick, request_over, token}
+use Rattle.cx_model.specs.Replacer.{ReplacerDurable, ReplacerVolatile, is_resting, is_stopping, is_deciding, is_booting, has_halted, joined, to_decide, stop_a_to, next_a_to, boot_a_to, sets_to, others, tells, begin_in as ballot_begun, halt_counted, replacer_takes, tick_in as replacer_tick, replacer_orders, replacer_row}
 use Rattle.cx_model.specs.Replica.{ReplicaDurable, ReplicaVolatile, Machine, held, execute_value, machine_from, results_at, results_from, read_answer_to, read_answers, apply, read_row, fetched_by, fetch_found, held_to, fetch_to, replica_takes, replica_tick, replica_row}
 use Rattle.cx_model.specs.Request.{same_read}
 use Rattle.cx_model.specs.Unbatcher.{answer_to, unbatcher_takes, unbatcher_row}
@@ -107,15 +111,32 @@ module _ (c : Cluster) (me : RoleId) (is : me.kind ≡ kind.Acceptor) (d : Accep
 
 -- the matchmaker's rows
 module _ (c : Cluster) (me : RoleId) (is : me.kind ≡ kind.Matchmaker) (d : MatchmakerDurable) where
-  matchmaker_took : (from : RoleId) (m : Msg) → OfKind me (matchmaker_takes me d from m)
+  member : (o : Outcome (Unit {0})) → OfKind me o → OfKind me (in_set c me d o)
+  member o h = pick me (is_booted c me d) _ _ h (quiet me _ tt)
+
+  worker : (o : Outcome (Unit {0})) → OfKind me o → OfKind me (at_work c me d o)
+  worker o h = member _ (pick me (is_stopped d) _ _ (quiet me _ tt) h)
+
+  booted : (from : RoleId) (s : List ℕ) (w : Round) (es : List Entry) (o : Option (List ℕ)) → OfKind me (boot_in me from s w es o)
+  booted from s w es None = keeping me _ _ tt _ is (one me _ _ is)
+  booted from s w es (Some t) = pick me (bytes_eq s t) _ _ (replying me _ tt _ (one me _ _ is)) (quiet me _ tt)
+
+  matchmaker_took : (from : RoleId) (m : Msg) → OfKind me (matchmaker_takes c me d from m)
   matchmaker_took from (msg.MatchA i g) =
-      pick me (is_before i d.watermark) _ _ (replying me _ tt _ (one me _ _ is))
+      worker _ (pick me (is_before i d.watermark) _ _ (replying me _ tt _ (one me _ _ is))
       (pick me (list_any (λ (e : Entry). is_before i e.round) d.entries) _ _ (replying me _ tt _ (one me _ _ is))
       (pick me (has_round i d.entries) _ _ (replying me _ tt _ (one me _ _ is))
-      (pick me (nat_le 16 (length d.entries)) _ _ (replying me _ tt _ (one me _ _ is)) (keeping me _ _ tt _ is (one me _ _ is)))))
+      (pick me (nat_le 16 (length d.entries)) _ _ (replying me _ tt _ (one me _ _ is)) (keeping me _ _ tt _ is (one me _ _ is))))))
   matchmaker_took from (msg.GarbageA i g) =
-      pick me (is_before d.watermark i) _ _ (keeping me _ _ tt _ is (one me _ _ is)) (replying me _ tt _ (one me _ _ is))
-  matchmaker_took from (msg.MatchRead t) = replying me _ tt _ (one me _ _ is)
+      worker _ (pick me (is_before d.watermark i) _ _ (keeping me _ _ tt _ is (one me _ _ is)) (replying me _ tt _ (one me _ _ is)))
+  matchmaker_took from (msg.MatchRead t) = worker _ (replying me _ tt _ (one me _ _ is))
+  matchmaker_took from (msg.StopA b) =
+      member _ (pick me (is_before b d.ballot) _ _ (replying me _ tt _ (one me _ _ is))
+      (pick me (same_round b d.ballot) _ _ (replying me _ tt _ (one me _ _ is)) (keeping me _ _ tt _ is (one me _ _ is))))
+  matchmaker_took from (msg.NextA b s) =
+      member _ (pick me (is_before b d.ballot) _ _ (replying me _ tt _ (one me _ _ is))
+      (pick me (same_round b d.accepted) _ _ (replying me _ tt _ (one me _ _ is)) (keeping me _ _ tt _ is (one me _ _ is))))
+  matchmaker_took from (msg.BootA s w es) = pick me (is_in me.index s) _ _ (booted from s w es (set_of c me d.booted)) (quiet me _ tt)
   matchmaker_took from other = quiet me _ tt
 
   pub matchmaker_kinds : (i : Input) → OfKind me (matchmaker_row c me d tt i)
@@ -251,26 +272,26 @@ module _ (c : Cluster) (me : RoleId) (is : me.kind ≡ kind.Replica) (d : Replic
 
 -- the reader's rows
 module _ (c : Cluster) (me : RoleId) (is : me.kind ≡ kind.Reader) (d : ReaderDurable) where
-  matchmakers_asked : (turn : ℕ) → AreOwn me (ask_matchmakers c me turn)
-  matchmakers_asked turn = mapped me (match_read_to me (asking_of me turn)) (matchmakers c) (λ m. (refl, is))
+  matchmakers_asked : (set : List ℕ) (turn : ℕ) → AreOwn me (ask_matchmakers me set turn)
+  matchmakers_asked set turn = mapped me (match_read_to me (asking_of me turn)) set (λ m. (refl, is))
 
-  batch_begun : (w : Why) (first : List Letter) (rs : List Asked) → AreOwn me first → OfKind me (begin c me d w first rs)
-  batch_begun w first rs own = keeping me _ _ _ _ is (both me first (ask_matchmakers c me (d.turn + 1)) own (matchmakers_asked (d.turn + 1)))
+  batch_begun : (v : ReaderVolatile) (w : Why) (first : List Letter) (rs : List Asked) → AreOwn me first → OfKind me (begin me d v w first rs)
+  batch_begun v w first rs own = keeping me _ _ _ _ is (both me first (ask_matchmakers me v.set (d.turn + 1)) own (matchmakers_asked v.set (d.turn + 1)))
 
-  begun_if : (v : ReaderVolatile) (w : Why) (rs : List Asked) → OfKind me (begin_if c me d v w rs)
-  begun_if v w rs = pick me (d.turn == last_turn) _ _ (quiet me _ v) (batch_begun w [] rs (none me))
+  begun_if : (v : ReaderVolatile) (w : Why) (rs : List Asked) → OfKind me (begin_if me d v w rs)
+  begun_if v w rs = pick me (d.turn == last_turn) _ _ (quiet me _ v) (batch_begun v w [] rs (none me))
 
-  requested : (v : ReaderVolatile) (r : Asked) (o : Option Batch) → OfKind me (request_over c me d v r o)
+  requested : (v : ReaderVolatile) (r : Asked) (o : Option Batch) → OfKind me (request_over me d v r o)
   requested v r None = pick me (nat_le 64 (length v.waiting)) _ _ (quiet me _ v) (begun_if v _ _)
   requested v r (Some b) =
       pick me (is_first r.read b.reads) _ _ (begun_if v _ _)
       (pick me (is_among r.read b.reads) _ _ (quiet me _ v)
       (pick me (nat_le 64 (length v.waiting + length b.reads)) _ _ (quiet me _ v) (quiet me _ _)))
 
-  reads_sent : (v : ReaderVolatile) (b : Batch) (n : ℕ) → OfKind me (finish c me d v b n)
+  reads_sent : (v : ReaderVolatile) (b : Batch) (n : ℕ) → OfKind me (finish me d v b n)
   reads_sent v b n =
       let own : AreOwn me (ask_replicas me b n) = mapped me (read_to me n) b.reads (λ r. (refl, is)) in
-      pick me (nat_lt 0 (length v.waiting) && not (d.turn == last_turn)) _ _ (batch_begun _ (ask_replicas me b n) v.waiting own) (replying me _ _ _ own)
+      pick me (nat_lt 0 (length v.waiting) && not (d.turn == last_turn)) _ _ (batch_begun v _ (ask_replicas me b n) v.waiting own) (replying me _ _ _ own)
 
   matched_read : (v : ReaderVolatile) (b : Batch) (es : List Entry) → OfKind me (batch_matched c me d v b es)
   matched_read v b [] = reads_sent v b 0
@@ -282,7 +303,7 @@ module _ (c : Cluster) (me : RoleId) (is : me.kind ≡ kind.Reader) (d : ReaderD
   told_row : (v : ReaderVolatile) (from : RoleId) (u : Asking) (w : Round) (es : List Entry) (o : Option Batch) → OfKind me (match_ack_row c me d v from u w es o)
   told_row v from u w es None = quiet me _ v
   told_row v from u w es (Some b) =
-      pick me (not (is_of_batch me b u && not (is_matched c b))) _ _ (quiet me _ v)
+      pick me (not (is_of_batch me b u && not (is_matched c b) && is_in from.index v.set)) _ _ (quiet me _ v)
       (pick me (is_counted from.index b.told) _ _ (quiet me _ v)
       (told_counted v (record b { told = b.told ++ record { matchmaker = from.index; watermark = w; entries = es } ∷ [] })))
 
@@ -297,18 +318,24 @@ module _ (c : Cluster) (me : RoleId) (is : me.kind ≡ kind.Reader) (d : ReaderD
       (pick me (has_acked from.index b.acks) _ _ (quiet me _ v)
       (acks_counted v (record b { acks = b.acks ++ record { acceptor = from.index; mark = n } ∷ [] }))))
 
+  -- another set of matchmakers is asked
+  batch_anew : (v : ReaderVolatile) (o : Option Batch) → OfKind me (asked_anew c me v o)
+  batch_anew v None = quiet me _ v
+  batch_anew v (Some b) = pick me (is_matched c b) _ _ (quiet me _ v) (replying me _ _ _ (matchmakers_asked v.set b.turn))
+
   reader_took : (v : ReaderVolatile) (from : RoleId) (m : Msg) → OfKind me (reader_takes c me d v from m)
   reader_took v from (msg.ReadReq seq replica key) =
       (let r = asked_for (token from.index seq) replica key in pick me (is_among r.read v.waiting) _ _ (quiet me _ _) (requested v r v.running))
   reader_took v from (msg.MatchReadAck u w es) = told_row v from u w es v.running
   reader_took v from (msg.PreReadAck u w n) = acked_row v from u w n v.running
+  reader_took v from (msg.Sets s) = pick me (is_above s v.set) _ _ (batch_anew (record v { set = s }) v.running) (quiet me _ v)
   reader_took v from other = quiet me _ v
 
   reader_ticked : (v : ReaderVolatile) (o : Option Batch) → OfKind me (reader_tick c me v o)
   reader_ticked v None = quiet me _ v
   reader_ticked v (Some b) =
-      replying me _ v _ (either_way (AreOwn me) (is_matched c b) (ask_acceptors c me b) (ask_matchmakers c me b.turn)
-      (mapped me (pre_read_to me b) (members_of c (live_entries b.told)) (λ a. (refl, is))) (matchmakers_asked b.turn))
+      replying me _ v _ (either_way (AreOwn me) (is_matched c b) (ask_acceptors c me b) (ask_matchmakers me v.set b.turn)
+      (mapped me (pre_read_to me b) (members_of c (live_entries b.told)) (λ a. (refl, is))) (matchmakers_asked v.set b.turn))
 
   pub reader_kinds : (v : ReaderVolatile) (i : Input) → OfKind me (reader_row c me d v i)
   reader_kinds v (Take letter) = pick me (same_role letter.to me && names c letter) _ _ (reader_took v letter.from letter.msg) (quiet me _ v)
@@ -317,8 +344,8 @@ module _ (c : Cluster) (me : RoleId) (is : me.kind ≡ kind.Reader) (d : ReaderD
 
 -- the leader's rows
 module _ (c : Cluster) (me : RoleId) (is : me.kind ≡ kind.Leader) (d : LeaderDurable) where
-  asking_matchmakers : (i : Round) (g : Shape) → AreOwn me (map (match_a_to me i g) (matchmakers c))
-  asking_matchmakers i g = mapped me (match_a_to me i g) (matchmakers c) (λ m. (refl, is))
+  asking_matchmakers : (i : Round) (g : Shape) (set : List ℕ) → AreOwn me (map (match_a_to me i g) set)
+  asking_matchmakers i g set = mapped me (match_a_to me i g) set (λ m. (refl, is))
 
   proposing : (own : Entry) (cw : ℕ) (ps : List Placed) → AreOwn me (map (propose_to c me own cw) ps)
   proposing own cw ps = mapped me (propose_to c me own cw) ps (λ p. (refl, is))
@@ -329,15 +356,15 @@ module _ (c : Cluster) (me : RoleId) (is : me.kind ≡ kind.Leader) (d : LeaderD
   informing : (i : Round) (cw : ℕ) (g : Shape) → AreOwn me (map (inform_to me i cw) (members_in c g))
   informing i cw g = mapped me (inform_to me i cw) (members_in c g) (λ a. (refl, is))
 
-  collecting : (own : Entry) → AreOwn me (map (garbage_a_to me own) (matchmakers c))
-  collecting own = mapped me (garbage_a_to me own) (matchmakers c) (λ m. (refl, is))
+  collecting : (own : Entry) (set : List ℕ) → AreOwn me (map (garbage_a_to me own) set)
+  collecting own set = mapped me (garbage_a_to me own) set (λ m. (refl, is))
 
   promising : (i : Round) (es : List Entry) → AreOwn me (map (phase1a_to me i) (members_of c es))
   promising i es = mapped me (phase1a_to me i) (members_of c es) (λ a. (refl, is))
 
   begun : (v : LeaderVolatile) (g : Shape) (o : Option Round) → OfKind me (begin_in c me v g o)
   begun v g None = quiet me _ v
-  begun v g (Some i) = keeping me _ _ _ _ is (asking_matchmakers i g)
+  begun v g (Some i) = keeping me _ _ _ _ is (asking_matchmakers i g v.set)
 
   led : (own : Entry) (v : LeaderVolatile) (p : Plan) → OfKind me (lead_with c me own v p)
   led own v p =
@@ -379,15 +406,23 @@ module _ (c : Cluster) (me : RoleId) (is : me.kind ≡ kind.Leader) (d : LeaderD
       let k = with_informed own.grid from.index v.collection in
       pick me (not (is_in from.index own.grid.members)) _ _ (quiet me _ v)
       (pick me (is_in from.index v.collection.counted) _ _ (quiet me _ v)
-      (pick me (is_collecting k.stage) _ _ (replying me _ _ _ (collecting own)) (quiet me _ _)))
+      (pick me (is_collecting k.stage) _ _ (replying me _ _ _ (collecting own v.set)) (quiet me _ _)))
+
+  learnt : (v : LeaderVolatile) (mode : Mode) (o : Option Entry) → OfKind me (set_learnt me v mode o)
+  learnt v Idle o = quiet me _ v
+  learnt v Phase1 o = quiet me _ v
+  learnt v Matching None = quiet me _ v
+  learnt v Matching (Some own) = replying me _ _ _ (asking_matchmakers own.round own.grid v.set)
+  learnt v Leading None = quiet me _ v
+  learnt v Leading (Some own) = pick me (is_collecting v.collection.stage) _ _ (replying me _ _ _ (collecting own v.set)) (quiet me _ v)
 
   leader_took : (v : LeaderVolatile) (from : RoleId) (m : Msg) → OfKind me (leader_takes c me d v from m)
   leader_took v from (msg.MatchB i w es) =
-      pick me (not (is_matching v.mode && is_own d i)) _ _ (quiet me _ v)
+      pick me (not (is_matching v.mode && is_own d i && is_in from.index v.set)) _ _ (quiet me _ v)
       (pick me (is_counted from.index v.told) _ _ (quiet me _ v)
       (answers_counted d.own (record v { told = v.told ++ record { matchmaker = from.index; watermark = w; entries = es } ∷ [] })))
   leader_took v from (msg.MatchNack i reason other) =
-      pick me (is_idle v.mode || not (is_own d i)) _ _ (quiet me _ _) (pick me (has_no_room reason) _ _ (quiet me _ _) (quiet me _ _))
+      pick me (is_idle v.mode || not (is_own d i) || not (is_in from.index v.set)) _ _ (quiet me _ _) (pick me (has_no_room reason) _ _ (quiet me _ _) (quiet me _ _))
   leader_took v from (msg.Phase1B i cw votes) =
       pick me (not (is_promising v.mode && is_own d i)) _ _ (quiet me _ v)
       (pick me (not (is_member_of (live_entries v.told) from.index)) _ _ (quiet me _ v)
@@ -403,25 +438,26 @@ module _ (c : Cluster) (me : RoleId) (is : me.kind ≡ kind.Leader) (d : LeaderD
   leader_took v from (msg.Informed i cw) =
       pick me (not (is_leading v.mode && is_own d i && is_informing v.collection.stage && nat_le v.collection.mark cw)) _ _ (quiet me _ v) (informed v from d.own)
   leader_took v from (msg.GarbageB i) =
-      pick me (not (is_leading v.mode && is_own d i && is_collecting v.collection.stage)) _ _ (quiet me _ v)
+      pick me (not (is_leading v.mode && is_own d i && is_collecting v.collection.stage && is_in from.index v.set)) _ _ (quiet me _ v)
       (pick me (is_in from.index v.collection.counted) _ _ (quiet me _ v) (quiet me _ _))
+  leader_took v from (msg.Sets s) = pick me (is_above s v.set) _ _ (learnt (record v { set = s }) v.mode d.own) (quiet me _ v)
   leader_took v from other = quiet me _ v
 
-  stage_all : (own : Entry) (k : Collection) → AreOwn me (stage_sends c me own k)
-  stage_all own k =
+  stage_all : (own : Entry) (set : List ℕ) (k : Collection) → AreOwn me (stage_sends c me own set k)
+  stage_all own set k =
       either_way (AreOwn me) (is_informing k.stage) _ _ (informing own.round k.mark own.grid)
-      (either_way (AreOwn me) (is_collecting k.stage) _ _ (collecting own) (none me))
+      (either_way (AreOwn me) (is_collecting k.stage) _ _ (collecting own set) (none me))
 
   leader_ticked : (v : LeaderVolatile) (mode : Mode) (o : Option Entry) → OfKind me (tick_in c me v mode o)
   leader_ticked v mode None = quiet me _ v
   leader_ticked v Idle (Some own) = quiet me _ v
-  leader_ticked v Matching (Some own) = replying me _ v _ (asking_matchmakers own.round own.grid)
+  leader_ticked v Matching (Some own) = replying me _ v _ (asking_matchmakers own.round own.grid v.set)
   leader_ticked v Phase1 (Some own) = replying me _ v _ (promising own.round (live_entries v.told))
   leader_ticked v Leading (Some own) =
       replying me _ v _
-      (both me (map (propose_to c me own v.cw) (open_values v) ++ map (leads_to me own.round) (below c.batchers)) (stage_sends c me own v.collection)
+      (both me (map (propose_to c me own v.cw) (open_values v) ++ map (leads_to me own.round) (below c.batchers)) (stage_sends c me own v.set v.collection)
       (both me (map (propose_to c me own v.cw) (open_values v)) (map (leads_to me own.round) (below c.batchers)) (proposing own v.cw (open_values v)) (leading own.round))
-      (stage_all own v.collection))
+      (stage_all own v.set v.collection))
 
   ordered : (v : LeaderVolatile) (order : OrderOf) → OfKind me (order_row c me d v order)
   ordered v (Lead g) = pick me (names_grid c g) _ _ (begun v g (lead_after (round_of d.own) v.seen me.index)) (quiet me _ v)
@@ -429,8 +465,73 @@ module _ (c : Cluster) (me : RoleId) (is : me.kind ≡ kind.Leader) (d : LeaderD
       pick me (not (names_grid c g)) _ _ (quiet me _ v)
       (pick me (not (is_leading v.mode)) _ _ (quiet me _ v) (begun v g (change_after (round_of d.own))))
   ordered v Collect = pick me (is_leading v.mode) _ _ (collection_begun v d.own) (quiet me _ v)
+  ordered v (Replace s) = quiet me _ v
 
   pub leader_kinds : (v : LeaderVolatile) (i : Input) → OfKind me (leader_row c me d v i)
   leader_kinds v (Take letter) = pick me (same_role letter.to me && names c letter) _ _ (leader_took v letter.from letter.msg) (quiet me _ v)
   leader_kinds v Tick = leader_ticked v v.mode d.own
   leader_kinds v (Order order) = ordered v order
+
+-- the replacer's rows
+module _ (c : Cluster) (me : RoleId) (is : me.kind ≡ kind.Replacer) (d : ReplacerDurable) where
+  stopping : (b : Round) (set : List ℕ) → AreOwn me (map (stop_a_to me b) set)
+  stopping b set = mapped me (stop_a_to me b) set (λ m. (refl, is))
+
+  deciding : (b : Round) (s set : List ℕ) → AreOwn me (map (next_a_to me b s) set)
+  deciding b s set = mapped me (next_a_to me b s) set (λ m. (refl, is))
+
+  booting : (s : List ℕ) (w : Round) (es : List Entry) (set : List ℕ) → AreOwn me (map (boot_a_to me s w es) set)
+  booting s w es set = mapped me (boot_a_to me s w es) set (λ m. (refl, is))
+
+  telling : (s : List ℕ) → AreOwn me (tells c me s)
+  telling s =
+      both me (map (λ l. sets_to me s (role kind.Leader l)) (below c.leaders) ++ map (λ r. sets_to me s (role kind.Reader r)) (below c.readers)) _
+      (both me (map (λ l. sets_to me s (role kind.Leader l)) (below c.leaders)) _
+      (mapped me (λ l. sets_to me s (role kind.Leader l)) (below c.leaders) (λ l. (refl, is)))
+      (mapped me (λ r. sets_to me s (role kind.Reader r)) (below c.readers) (λ r. (refl, is))))
+      (mapped me (λ x. sets_to me s (role kind.Replacer x)) (others c me) (λ x. (refl, is)))
+
+  halts_counted : (v : ReplacerVolatile) → OfKind me (halt_counted c me d v)
+  halts_counted v =
+      pick me (nat_lt (length v.halts) (enough c)) _ _ (quiet me _ v)
+      (pick me (nat_lt 254 (length (joined v.halts))) _ _ (quiet me _ _) (replying me _ _ _ (deciding d.own (to_decide v.next v.halts) v.set)))
+
+  replacer_took : (v : ReplacerVolatile) (from : RoleId) (m : Msg) → OfKind me (replacer_takes c me d v from m)
+  replacer_took v from (msg.StopB b w es a s) =
+      pick me (not (is_stopping v.mode && same_round b d.own && is_in from.index v.set)) _ _ (quiet me _ v)
+      (pick me (has_halted from.index v.halts) _ _ (quiet me _ v) (halts_counted _))
+  replacer_took v from (msg.NextB b) =
+      pick me (not (is_deciding v.mode && same_round b d.own)) _ _ (quiet me _ v)
+      (pick me (is_in from.index v.counted) _ _ (quiet me _ v)
+      (pick me (nat_lt (length (with_mark from.index v.counted)) (enough c)) _ _ (quiet me _ _) (replying me _ _ _ (booting v.next v.watermark v.entries v.next))))
+  replacer_took v from (msg.BootB s) =
+      pick me (not (is_booting v.mode && bytes_eq s v.next)) _ _ (quiet me _ v)
+      (pick me (is_in from.index v.counted) _ _ (quiet me _ v)
+      (pick me (nat_lt (length (with_mark from.index v.counted)) (enough c)) _ _ (quiet me _ _) (replying me _ _ _ (telling v.next))))
+  replacer_took v from (msg.StopNack b other) =
+      pick me (not (same_round b d.own) || is_resting v.mode || is_booting v.mode) _ _ (quiet me _ _) (quiet me _ _)
+  replacer_took v from (msg.Sets s) = pick me (is_above s v.set) _ _ (quiet me _ _) (quiet me _ v)
+  replacer_took v from other = quiet me _ v
+
+  replacer_ticked : (v : ReplacerVolatile) (mode : Replacing) → OfKind me (replacer_tick c me d v mode)
+  replacer_ticked v replacing.Idle = pick me (is_above v.set (first_set c)) _ _ (replying me _ v _ (telling v.set)) (quiet me _ v)
+  replacer_ticked v replacing.Stopping = replying me _ v _ (stopping d.own v.set)
+  replacer_ticked v replacing.Deciding = replying me _ v _ (deciding d.own v.next v.set)
+  replacer_ticked v replacing.Booting = replying me _ v _ (booting v.next v.watermark v.entries v.next)
+
+  ballot : (v : ReplacerVolatile) (s : List ℕ) (o : Option Round) → OfKind me (ballot_begun me v s o)
+  ballot v s None = quiet me _ v
+  ballot v s (Some b) = keeping me _ _ _ _ is (stopping b v.set)
+
+  replacer_ordered : (v : ReplacerVolatile) (order : OrderOf) → OfKind me (replacer_orders c me d v order)
+  replacer_ordered v (Replace s) =
+      pick me (not (names_set c s)) _ _ (quiet me _ v)
+      (pick me (not (is_above s v.set)) _ _ (quiet me _ v) (ballot v s (lead_after d.own v.seen me.index)))
+  replacer_ordered v (Lead g) = quiet me _ v
+  replacer_ordered v (Change g) = quiet me _ v
+  replacer_ordered v Collect = quiet me _ v
+
+  pub replacer_kinds : (v : ReplacerVolatile) (i : Input) → OfKind me (replacer_row c me d v i)
+  replacer_kinds v (Take letter) = pick me (same_role letter.to me && names c letter) _ _ (replacer_took v letter.from letter.msg) (quiet me _ v)
+  replacer_kinds v Tick = replacer_ticked v v.mode
+  replacer_kinds v (Order order) = replacer_ordered v order

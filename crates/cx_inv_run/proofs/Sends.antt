@@ -67,14 +67,20 @@ acceptor_sends P phase1b nack phase2b informed pre_read_ack other s = cc
 
 pub matchmaker_sends : (P : Msg → Type 0) → ((i w : Round) (entries : List Entry) → P (msg.MatchB i w entries)) → ((i : Round) (reason : NackReason) (other : Round) → P (msg.MatchNack i reason other))
     → ((i : Round) → P (msg.GarbageB i)) → ((u : Asking) (w : Round) (entries : List Entry) → P (msg.MatchReadAck u w entries))
+    → ((b w : Round) (entries : List Entry) (a : Round) (s : List ℕ) → P (msg.StopB b w entries a s)) → ((b other : Round) → P (msg.StopNack b other))
+    → ((b : Round) → P (msg.NextB b)) → ((s : List ℕ) → P (msg.BootB s))
     → (m : Msg) → IsSender kind.Matchmaker m → P m
-matchmaker_sends P match_b match_nack garbage_b match_read_ack (msg.MatchB i w entries) s = match_b i w entries
-matchmaker_sends P match_b match_nack garbage_b match_read_ack (msg.MatchNack i reason other) s = match_nack i reason other
-matchmaker_sends P match_b match_nack garbage_b match_read_ack (msg.GarbageB i) s = garbage_b i
-matchmaker_sends P match_b match_nack garbage_b match_read_ack (msg.MatchReadAck u w entries) s = match_read_ack u w entries
-matchmaker_sends P match_b match_nack garbage_b match_read_ack (msg.Chosen t v) (inl e) = cc
-matchmaker_sends P match_b match_nack garbage_b match_read_ack (msg.Chosen t v) (inr e) = cc
-matchmaker_sends P match_b match_nack garbage_b match_read_ack other s = cc
+matchmaker_sends P match_b match_nack garbage_b match_read_ack stop_b stop_nack next_b boot_b (msg.MatchB i w entries) s = match_b i w entries
+matchmaker_sends P match_b match_nack garbage_b match_read_ack stop_b stop_nack next_b boot_b (msg.MatchNack i reason other) s = match_nack i reason other
+matchmaker_sends P match_b match_nack garbage_b match_read_ack stop_b stop_nack next_b boot_b (msg.GarbageB i) s = garbage_b i
+matchmaker_sends P match_b match_nack garbage_b match_read_ack stop_b stop_nack next_b boot_b (msg.MatchReadAck u w entries) s = match_read_ack u w entries
+matchmaker_sends P match_b match_nack garbage_b match_read_ack stop_b stop_nack next_b boot_b (msg.StopB b w entries a next) s = stop_b b w entries a next
+matchmaker_sends P match_b match_nack garbage_b match_read_ack stop_b stop_nack next_b boot_b (msg.StopNack b other) s = stop_nack b other
+matchmaker_sends P match_b match_nack garbage_b match_read_ack stop_b stop_nack next_b boot_b (msg.NextB b) s = next_b b
+matchmaker_sends P match_b match_nack garbage_b match_read_ack stop_b stop_nack next_b boot_b (msg.BootB set) s = boot_b set
+matchmaker_sends P match_b match_nack garbage_b match_read_ack stop_b stop_nack next_b boot_b (msg.Chosen t v) (inl e) = cc
+matchmaker_sends P match_b match_nack garbage_b match_read_ack stop_b stop_nack next_b boot_b (msg.Chosen t v) (inr e) = cc
+matchmaker_sends P match_b match_nack garbage_b match_read_ack stop_b stop_nack next_b boot_b other s = cc
 
 pub replica_sends : (P : Msg → Type 0) → ((s : ℕ) (v : Value) → P (msg.Chosen s v)) → ((s : ℕ) (answers : List Answered) → P (msg.Results s answers))
     → ((n : ℕ) → P (msg.Held n)) → ((s : ℕ) → P (msg.Fetch s)) → ((seq n : ℕ) (found : Option (List ℕ)) → P (msg.ReadAnswer seq n found))
@@ -110,10 +116,19 @@ acceptor_keeps P promise vote water (kept.Vote i s cw v) k = vote i s cw v
 acceptor_keeps P promise vote water (kept.Water i cw) k = water i cw
 acceptor_keeps P promise vote water other k = cc
 
-pub matchmaker_keeps : (P : Record → Type 0) → ((i : Round) (g : Shape) → P (kept.Match i g)) → ((i : Round) (g : Shape) → P (kept.Garbage i g)) → (r : Record) → IsKeeper kind.Matchmaker r → P r
-matchmaker_keeps P matches garbage (kept.Match i g) k = matches i g
-matchmaker_keeps P matches garbage (kept.Garbage i g) k = garbage i g
-matchmaker_keeps P matches garbage other k = cc
+pub matchmaker_keeps : (P : Record → Type 0) → ((i : Round) (g : Shape) → P (kept.Match i g)) → ((i : Round) (g : Shape) → P (kept.Garbage i g))
+    → ((b : Round) → P (kept.Stop b)) → ((b : Round) (s : List ℕ) → P (kept.Next b s)) → ((s : List ℕ) (w : Round) (es : List Entry) → P (kept.Boot s w es))
+    → (r : Record) → IsKeeper kind.Matchmaker r → P r
+matchmaker_keeps P matches garbage stop next boot (kept.Match i g) k = matches i g
+matchmaker_keeps P matches garbage stop next boot (kept.Garbage i g) k = garbage i g
+matchmaker_keeps P matches garbage stop next boot (kept.Stop b) k = stop b
+matchmaker_keeps P matches garbage stop next boot (kept.Next b s) k = next b s
+matchmaker_keeps P matches garbage stop next boot (kept.Boot s w es) k = boot s w es
+matchmaker_keeps P matches garbage stop next boot other k = cc
+
+pub replacer_keeps : (P : Record → Type 0) → ((b : Round) → P (kept.Ballot b)) → (r : Record) → IsKeeper kind.Replacer r → P r
+replacer_keeps P ballot (kept.Ballot b) k = ballot b
+replacer_keeps P ballot other k = cc
 
 pub leader_keeps : (P : Record → Type 0) → ((i : Round) (g : Shape) → P (kept.Round i g)) → (r : Record) → IsKeeper kind.Leader r → P r
 leader_keeps P round (kept.Round i g) k = round i g

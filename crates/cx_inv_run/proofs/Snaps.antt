@@ -18,6 +18,7 @@ use Rattle.cx_model.specs.Lists.{bool_cases}
 use Rattle.cx_model.specs.Matchmaker.{matchmaker_rules}
 use Rattle.cx_model.specs.Member.{Member}
 use Rattle.cx_model.specs.Promises.{HasKept}
+use Rattle.cx_model.specs.Replacer.{replacer_rules}
 use Rattle.cx_model.specs.Rules.{Rules, folded, written_after}
 use Rattle.cx_model.specs.World.{values_in}
 use Rattle.cx_inv_run.specs.Kinds.{IsWriter}
@@ -35,6 +36,7 @@ pub record SameKept (history longer : List KeptRecord) : Type 0 where
   pub leaders : (a : RoleId) → durable_of leader_rules a longer ≡ durable_of leader_rules a history
   pub matchmakers : (a : RoleId) → durable_of matchmaker_rules a longer ≡ durable_of matchmaker_rules a history
   pub acceptors : (a : RoleId) → durable_of acceptor_rules a longer ≡ durable_of acceptor_rules a history
+  pub replacers : (a : RoleId) → durable_of replacer_rules a longer ≡ durable_of replacer_rules a history
   pub logs : (p : ℕ) → log_in longer p ≡ log_in history p
 
 -- what a replica's changes leave by the rules of another kind: nothing
@@ -47,6 +49,10 @@ module _ {D V : Type 0} (rules : Rules D V) (none : (d : D) (first : ℕ) → ru
   untouched d (written.Record (kept.Match i g)) is e = absurd cc
   untouched d (written.Record (kept.Garbage i g)) is e = absurd cc
   untouched d (written.Record (kept.Round i g)) is e = absurd cc
+  untouched d (written.Record (kept.Ballot b)) is e = absurd cc
+  untouched d (written.Record (kept.Stop b)) is e = absurd cc
+  untouched d (written.Record (kept.Next b t)) is e = absurd cc
+  untouched d (written.Record (kept.Boot t w es)) is e = absurd cc
   untouched d (written.Record (kept.Turn n)) is e = absurd cc
   untouched d (written.Record (kept.Base f n p c)) is e = absurd cc
   untouched d (written.Record (kept.Pairs ps)) is e = absurd cc
@@ -83,6 +89,7 @@ snap_same history keepers p first = record {
   leaders = same_durable leader_rules (λ d n. refl) (λ d vs. refl) p first history keepers;
   matchmakers = same_durable matchmaker_rules (λ d n. refl) (λ d vs. refl) p first history keepers;
   acceptors = same_durable acceptor_rules (λ d n. refl) (λ d vs. refl) p first history keepers;
+  replacers = same_durable replacer_rules (λ d n. refl) (λ d vs. refl) p first history keepers;
   logs = λ q. log_snap (role kind.Replica p) q first history;
 }
 

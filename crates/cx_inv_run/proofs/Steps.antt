@@ -1,6 +1,6 @@
 -- Each event keeps a property that has its laws, so it holds of every run.
 use Rattle.std.proofs.Common.{◌≡◌, ℕ, zero, suc, Bool, true, false, ◌⊎◌, List, [], ◌∷◌, ◌++◌, reverse, Option, None, Some, ap, sym, ◌∙◌, subst, refl, inl, inr, append-nil}
-use Rattle.std.specs.Prelude.{◌==◌, ◌*◌, ◌+◌, slice_get, slice_set, if◌then◌else◌}
+use Rattle.std.specs.Prelude.{◌==◌, slice_get, slice_set, if◌then◌else◌}
 use Rattle.std.proofs.lemmas.Bool.{cases_Bool, true≢false}
 use Rattle.std.proofs.lemmas.List.{reverse-append}
 use Rattle.cx_base.specs.declared.cluster.Cluster.{Cluster}
@@ -8,6 +8,7 @@ use Rattle.cx_base.specs.declared.event.Cut.{Cut}
 use Rattle.cx_base.specs.declared.event.Cut.TheVariants.{Whole, Torn, Kept}
 use Rattle.cx_base.specs.declared.event.Event.{Event}
 use Rattle.cx_base.specs.declared.event.Event.TheVariants as event
+use Rattle.cx_base.specs.declared.event.Order.TheVariants.{Replace}
 use Rattle.cx_base.specs.declared.role.Kind.{Kind}
 use Rattle.cx_base.specs.declared.role.Kind.TheVariants as kind
 use Rattle.cx_base.specs.declared.role.RoleId.{RoleId}
@@ -31,13 +32,14 @@ use Rattle.cx_model.specs.Matchmaker.{matchmaker_rules, matchmaker_row}
 use Rattle.cx_model.specs.Outcome.{Outcome}
 use Rattle.cx_model.specs.Proxy.{ProxyVolatile, proxy_rules, proxy_row}
 use Rattle.cx_model.specs.Reader.{ReaderVolatile, reader_rules, reader_row}
+use Rattle.cx_model.specs.Replacer.{ReplacerVolatile, replacer_rules, replacer_row}
 use Rattle.cx_model.specs.Replica.{ReplicaVolatile, replica_rules, replica_row}
 use Rattle.cx_model.specs.Request.{is_stale, request, token_of}
 use Rattle.cx_model.specs.Rules.{Rules}
 use Rattle.cx_model.specs.Turn.{Turn, turn, turn_with, whole_turn, snap_turn}
 use Rattle.cx_model.specs.Unbatcher.{unbatcher_rules, unbatcher_row}
 use Rattle.cx_model.specs.World.{World, Roles, Change, change, changed, nothing, come, act_at, act_of, turn_found, durable_part, kept_by, fresh_roles, start, step, run, run_from}
-use Rattle.cx_inv_run.specs.States.{State, Down, Plain, BatcherIn, LeaderIn, ProxyIn, ReplicaIn, ReaderIn, plain, state_of, state_found, state_in, states_of, fresh_state, set_state, entry_by, snap_by, with_written, durable_of, Given, Property, HoldsIn}
+use Rattle.cx_inv_run.specs.States.{State, Down, Plain, BatcherIn, LeaderIn, ProxyIn, ReplicaIn, ReaderIn, ReplacerIn, plain, state_of, state_found, state_in, states_of, fresh_state, set_state, entry_by, snap_by, with_written, durable_of, Given, Property, HoldsIn}
 use Rattle.cx_inv_run.specs.Laws.{Lands, Laws, anything, heard_of, AllAllowed, HoldsAlong, StepLaw, RunFromLaw, RunLaw}
 use Rattle.cx_inv_run.proofs.Members.{Member-at}
 use Rattle.cx_inv_run.proofs.Histories.{durable_by_time, record_written, set_running, set_same}
@@ -52,17 +54,18 @@ pub record Place (V : Type 0) (k : Kind) (make : V → State) : Type 0 where
   pub others : (roles : Roles) (l : List (Option V)) (i : ℕ) (j : Kind) → (j ≡ k → ⊥) → state_in roles i j ≡ state_in (put roles l) i j
 
 -- what holds of each kind holds of all
-pub by_kind : (P : Kind → Type 0) → P kind.Client → P kind.Batcher → P kind.Leader → P kind.Proxy → P kind.Acceptor → P kind.Matchmaker → P kind.Replica → P kind.Unbatcher → P kind.Reader
+pub by_kind : (P : Kind → Type 0) → P kind.Client → P kind.Batcher → P kind.Leader → P kind.Proxy → P kind.Acceptor → P kind.Matchmaker → P kind.Replica → P kind.Unbatcher → P kind.Reader → P kind.Replacer
     → (k : Kind) → P k
-by_kind P client batcher leader proxy acceptor matchmaker replica unbatcher reader kind.Client = client
-by_kind P client batcher leader proxy acceptor matchmaker replica unbatcher reader kind.Batcher = batcher
-by_kind P client batcher leader proxy acceptor matchmaker replica unbatcher reader kind.Leader = leader
-by_kind P client batcher leader proxy acceptor matchmaker replica unbatcher reader kind.Proxy = proxy
-by_kind P client batcher leader proxy acceptor matchmaker replica unbatcher reader kind.Acceptor = acceptor
-by_kind P client batcher leader proxy acceptor matchmaker replica unbatcher reader kind.Matchmaker = matchmaker
-by_kind P client batcher leader proxy acceptor matchmaker replica unbatcher reader kind.Replica = replica
-by_kind P client batcher leader proxy acceptor matchmaker replica unbatcher reader kind.Unbatcher = unbatcher
-by_kind P client batcher leader proxy acceptor matchmaker replica unbatcher reader kind.Reader = reader
+by_kind P client batcher leader proxy acceptor matchmaker replica unbatcher reader replacer kind.Client = client
+by_kind P client batcher leader proxy acceptor matchmaker replica unbatcher reader replacer kind.Batcher = batcher
+by_kind P client batcher leader proxy acceptor matchmaker replica unbatcher reader replacer kind.Leader = leader
+by_kind P client batcher leader proxy acceptor matchmaker replica unbatcher reader replacer kind.Proxy = proxy
+by_kind P client batcher leader proxy acceptor matchmaker replica unbatcher reader replacer kind.Acceptor = acceptor
+by_kind P client batcher leader proxy acceptor matchmaker replica unbatcher reader replacer kind.Matchmaker = matchmaker
+by_kind P client batcher leader proxy acceptor matchmaker replica unbatcher reader replacer kind.Replica = replica
+by_kind P client batcher leader proxy acceptor matchmaker replica unbatcher reader replacer kind.Unbatcher = unbatcher
+by_kind P client batcher leader proxy acceptor matchmaker replica unbatcher reader replacer kind.Reader = reader
+by_kind P client batcher leader proxy acceptor matchmaker replica unbatcher reader replacer kind.Replacer = replacer
 
 abbrev pub Others : Kind → Roles → Roles → ℕ → Kind → Type 0
 Others k roles changed i j = (j ≡ k → ⊥) → state_in roles i j ≡ state_in changed i j
@@ -77,7 +80,7 @@ batchers = record {
   of_put = λ r l. refl;
   put_of = λ r. refl;
   state = λ r i. refl;
-  others = λ r l i. by_kind (Others kind.Batcher r (record r { batchers = l }) i) (λ h. refl) (own kind.Batcher) (λ h. refl) (λ h. refl) (λ h. refl) (λ h. refl) (λ h. refl) (λ h. refl) (λ h. refl);
+  others = λ r l i. by_kind (Others kind.Batcher r (record r { batchers = l }) i) (λ h. refl) (own kind.Batcher) (λ h. refl) (λ h. refl) (λ h. refl) (λ h. refl) (λ h. refl) (λ h. refl) (λ h. refl) (λ h. refl);
 }
 
 abbrev pub leaders : Place LeaderVolatile kind.Leader LeaderIn
@@ -87,7 +90,7 @@ leaders = record {
   of_put = λ r l. refl;
   put_of = λ r. refl;
   state = λ r i. refl;
-  others = λ r l i. by_kind (Others kind.Leader r (record r { leaders = l }) i) (λ h. refl) (λ h. refl) (own kind.Leader) (λ h. refl) (λ h. refl) (λ h. refl) (λ h. refl) (λ h. refl) (λ h. refl);
+  others = λ r l i. by_kind (Others kind.Leader r (record r { leaders = l }) i) (λ h. refl) (λ h. refl) (own kind.Leader) (λ h. refl) (λ h. refl) (λ h. refl) (λ h. refl) (λ h. refl) (λ h. refl) (λ h. refl);
 }
 
 abbrev pub proxies : Place ProxyVolatile kind.Proxy ProxyIn
@@ -97,7 +100,7 @@ proxies = record {
   of_put = λ r l. refl;
   put_of = λ r. refl;
   state = λ r i. refl;
-  others = λ r l i. by_kind (Others kind.Proxy r (record r { proxies = l }) i) (λ h. refl) (λ h. refl) (λ h. refl) (own kind.Proxy) (λ h. refl) (λ h. refl) (λ h. refl) (λ h. refl) (λ h. refl);
+  others = λ r l i. by_kind (Others kind.Proxy r (record r { proxies = l }) i) (λ h. refl) (λ h. refl) (λ h. refl) (own kind.Proxy) (λ h. refl) (λ h. refl) (λ h. refl) (λ h. refl) (λ h. refl) (λ h. refl);
 }
 
 abbrev pub acceptors : Place (Unit {0}) kind.Acceptor plain
@@ -107,7 +110,7 @@ acceptors = record {
   of_put = λ r l. refl;
   put_of = λ r. refl;
   state = λ r i. refl;
-  others = λ r l i. by_kind (Others kind.Acceptor r (record r { acceptors = l }) i) (λ h. refl) (λ h. refl) (λ h. refl) (λ h. refl) (own kind.Acceptor) (λ h. refl) (λ h. refl) (λ h. refl) (λ h. refl);
+  others = λ r l i. by_kind (Others kind.Acceptor r (record r { acceptors = l }) i) (λ h. refl) (λ h. refl) (λ h. refl) (λ h. refl) (own kind.Acceptor) (λ h. refl) (λ h. refl) (λ h. refl) (λ h. refl) (λ h. refl);
 }
 
 abbrev pub matchmakers : Place (Unit {0}) kind.Matchmaker plain
@@ -117,7 +120,7 @@ matchmakers = record {
   of_put = λ r l. refl;
   put_of = λ r. refl;
   state = λ r i. refl;
-  others = λ r l i. by_kind (Others kind.Matchmaker r (record r { matchmakers = l }) i) (λ h. refl) (λ h. refl) (λ h. refl) (λ h. refl) (λ h. refl) (own kind.Matchmaker) (λ h. refl) (λ h. refl) (λ h. refl);
+  others = λ r l i. by_kind (Others kind.Matchmaker r (record r { matchmakers = l }) i) (λ h. refl) (λ h. refl) (λ h. refl) (λ h. refl) (λ h. refl) (own kind.Matchmaker) (λ h. refl) (λ h. refl) (λ h. refl) (λ h. refl);
 }
 
 abbrev pub replicas : Place ReplicaVolatile kind.Replica ReplicaIn
@@ -127,7 +130,7 @@ replicas = record {
   of_put = λ r l. refl;
   put_of = λ r. refl;
   state = λ r i. refl;
-  others = λ r l i. by_kind (Others kind.Replica r (record r { replicas = l }) i) (λ h. refl) (λ h. refl) (λ h. refl) (λ h. refl) (λ h. refl) (λ h. refl) (own kind.Replica) (λ h. refl) (λ h. refl);
+  others = λ r l i. by_kind (Others kind.Replica r (record r { replicas = l }) i) (λ h. refl) (λ h. refl) (λ h. refl) (λ h. refl) (λ h. refl) (λ h. refl) (own kind.Replica) (λ h. refl) (λ h. refl) (λ h. refl);
 }
 
 abbrev pub unbatchers : Place (Unit {0}) kind.Unbatcher plain
@@ -137,7 +140,7 @@ unbatchers = record {
   of_put = λ r l. refl;
   put_of = λ r. refl;
   state = λ r i. refl;
-  others = λ r l i. by_kind (Others kind.Unbatcher r (record r { unbatchers = l }) i) (λ h. refl) (λ h. refl) (λ h. refl) (λ h. refl) (λ h. refl) (λ h. refl) (λ h. refl) (own kind.Unbatcher) (λ h. refl);
+  others = λ r l i. by_kind (Others kind.Unbatcher r (record r { unbatchers = l }) i) (λ h. refl) (λ h. refl) (λ h. refl) (λ h. refl) (λ h. refl) (λ h. refl) (λ h. refl) (own kind.Unbatcher) (λ h. refl) (λ h. refl);
 }
 
 abbrev pub readers : Place ReaderVolatile kind.Reader ReaderIn
@@ -147,7 +150,17 @@ readers = record {
   of_put = λ r l. refl;
   put_of = λ r. refl;
   state = λ r i. refl;
-  others = λ r l i. by_kind (Others kind.Reader r (record r { readers = l }) i) (λ h. refl) (λ h. refl) (λ h. refl) (λ h. refl) (λ h. refl) (λ h. refl) (λ h. refl) (λ h. refl) (own kind.Reader);
+  others = λ r l i. by_kind (Others kind.Reader r (record r { readers = l }) i) (λ h. refl) (λ h. refl) (λ h. refl) (λ h. refl) (λ h. refl) (λ h. refl) (λ h. refl) (λ h. refl) (own kind.Reader) (λ h. refl);
+}
+
+abbrev replacers : Place ReplacerVolatile kind.Replacer ReplacerIn
+replacers = record {
+  of = λ r. r.replacers;
+  put = λ r l. record r { replacers = l };
+  of_put = λ r l. refl;
+  put_of = λ r. refl;
+  state = λ r i. refl;
+  others = λ r l i. by_kind (Others kind.Replacer r (record r { replacers = l }) i) (λ h. refl) (λ h. refl) (λ h. refl) (λ h. refl) (λ h. refl) (λ h. refl) (λ h. refl) (λ h. refl) (λ h. refl) (own kind.Replacer);
 }
 
 kind_cases : (k l : Kind) → (k ≡ l) ⊎ (k ≡ l → ⊥)
@@ -332,6 +345,12 @@ module _ (c : Cluster) (Allowed : ℕ → Event → Type 0) (known holds : Prope
           (laws.reader (reverse w.kept) w.sent (states_of w.roles) me.index v i knows h) s (given_to i cut p))
           (λ v first s e. absurd cc)
           (slice_get w.roles.readers me.index) refl
+      at_role kind.Replacer is =
+          placed kind.Replacer ReplacerIn replacers replacer_rules me act is refl
+          (λ v i cut p s. as_role (λ a. states_of w.roles a ≡ ReplacerIn v → Given w.sent a i → Lands holds (reverse w.kept) w.sent (states_of w.roles) a ReplacerIn (replacer_row c a (durable_of replacer_rules a (reverse w.kept)) v i)) kind.Replacer me is
+          (laws.replacer (reverse w.kept) w.sent (states_of w.roles) me.index v i knows h) s (given_to i cut p))
+          (λ v first s e. absurd cc)
+          (slice_get w.roles.replacers me.index) refl
 
     acts : (act : Act) (me : RoleId) → ActGiven w.sent me act → AfterChange (act_at w act me)
     acts act me given = subst (λ x. AfterChange (act_of x w.roles w.kept act me me.kind)) (sym is_c) (at_role me act given me.kind refl)
@@ -360,6 +379,7 @@ module _ (c : Cluster) (Allowed : ℕ → Event → Type 0) (known holds : Prope
     changes (event.Deliver n cut) allowed = comes cut (slice_get w.sent n) (λ d e. (refl, Member-at d w.sent n e))
     changes (event.Tick r) allowed = acts (Give input.Tick Whole) r tt
     changes (event.Order l order cut) allowed = acts (Give (input.Order order) cut) (role kind.Leader l) tt
+    changes (event.Replace x s cut) allowed = acts (Give (input.Order (Replace s)) cut) (role kind.Replacer x) tt
     changes (event.Snap p cut) allowed = acts (Snap cut) (role kind.Replica p) tt
     changes (event.Crash r) allowed = acts Stop r tt
     changes (event.Restart r) allowed = acts Wake r tt
@@ -396,10 +416,11 @@ start_state c i kind.Batcher = fresh_or_down BatcherIn (batcher_rules.fresh c) c
 start_state c i kind.Leader = fresh_or_down LeaderIn (leader_rules.fresh c) c.leaders i
 start_state c i kind.Proxy = fresh_or_down ProxyIn (proxy_rules.fresh c) c.proxies i
 start_state c i kind.Acceptor = fresh_or_down plain tt c.acceptors i
-start_state c i kind.Matchmaker = fresh_or_down plain tt (2 * c.f + 1) i
+start_state c i kind.Matchmaker = fresh_or_down plain tt c.pool i
 start_state c i kind.Replica = fresh_or_down ReplicaIn (replica_rules.fresh c) c.replicas i
 start_state c i kind.Unbatcher = fresh_or_down plain tt c.unbatchers i
 start_state c i kind.Reader = fresh_or_down ReaderIn (reader_rules.fresh c) c.readers i
+start_state c i kind.Replacer = fresh_or_down ReplacerIn (replacer_rules.fresh c) c.replacers i
 
 pub start_holds : (c : Cluster) (Allowed : ℕ → Event → Type 0) (known holds : Property) → Laws c Allowed known holds → HoldsIn holds (run c [])
 start_holds c Allowed known holds laws = laws.start (states_of ((start c).roles)) (λ a. start_state c a.index a.kind)

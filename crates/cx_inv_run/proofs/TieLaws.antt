@@ -15,7 +15,7 @@ use Rattle.cx_model.specs.Replica.{IsTied, ReplicaDurable, ReplicaVolatile, repl
 use Rattle.cx_model.specs.World.{durable_part, log_of, run}
 use Rattle.cx_inv_run.specs.Kinds.{IsKeeper, IsKept, OfKind}
 use Rattle.cx_inv_run.specs.Laws.{Lands, Laws, anything}
-use Rattle.cx_inv_run.specs.States.{State, BatcherIn, LeaderIn, ProxyIn, ReplicaIn, ReaderIn, plain, entry_by, snap_by, with_record, durable_of, log_in, HoldsIn}
+use Rattle.cx_inv_run.specs.States.{State, BatcherIn, LeaderIn, ProxyIn, ReplicaIn, ReaderIn, ReplacerIn, plain, entry_by, snap_by, with_record, durable_of, log_in, HoldsIn}
 use Rattle.cx_inv_run.specs.Ties.{Ties}
 use Rattle.cx_inv_run.proofs.Histories.{durable_by_time, durable_else, durable_none, durable_other, durable_own, durable_snap, log_by_time, log_none, log_other, log_own, log_snap, same_role-true}
 use Rattle.cx_inv_run.proofs.Senders.{replica_kinds}
@@ -107,6 +107,7 @@ ties_laws c = record {
   snap = λ history sent states p v first knows h is e. record { tied = snapped history sent states h c p v first e };
   unbatcher = λ history sent states u i knows h is given. landed history sent states h (role kind.Unbatcher u) plain _ (λ p. refl);
   reader = λ history sent states r v i knows h is given. landed history sent states h (role kind.Reader r) ReaderIn _ (λ p. refl);
+  replacer = λ history sent states x v i knows h is given. landed history sent states h (role kind.Replacer x) ReplacerIn _ (λ p. refl);
 }
 
 pub ties_hold : (c : Cluster) (es : List Event) → HoldsIn Ties (run c es)

@@ -48,6 +48,14 @@ IsSender k (msg.PreRead u w) = k ≡ kind.Reader
 IsSender k (msg.PreReadAck u w n) = k ≡ kind.Acceptor
 IsSender k (msg.Read t n key) = k ≡ kind.Reader
 IsSender k (msg.ReadAnswer seq n found) = k ≡ kind.Replica
+IsSender k (msg.StopA b) = k ≡ kind.Replacer
+IsSender k (msg.StopB b w entries a s) = k ≡ kind.Matchmaker
+IsSender k (msg.StopNack b other) = k ≡ kind.Matchmaker
+IsSender k (msg.NextA b s) = k ≡ kind.Replacer
+IsSender k (msg.NextB b) = k ≡ kind.Matchmaker
+IsSender k (msg.BootA s w entries) = k ≡ kind.Replacer
+IsSender k (msg.BootB s) = k ≡ kind.Matchmaker
+IsSender k (msg.Sets s) = k ≡ kind.Replacer
 IsSender k (msg.SessRead seq n key) = k ≡ kind.Client
 
 -- none keeps the records of a renewed list, which stand in the place of others
@@ -59,6 +67,10 @@ IsKeeper k (kept.Match i g) = k ≡ kind.Matchmaker
 IsKeeper k (kept.Garbage i g) = k ≡ kind.Matchmaker
 IsKeeper k (kept.Round i g) = k ≡ kind.Leader
 IsKeeper k (kept.Log values) = k ≡ kind.Replica
+IsKeeper k (kept.Ballot b) = k ≡ kind.Replacer
+IsKeeper k (kept.Stop b) = k ≡ kind.Matchmaker
+IsKeeper k (kept.Next b s) = k ≡ kind.Matchmaker
+IsKeeper k (kept.Boot s w entries) = k ≡ kind.Matchmaker
 IsKeeper k (kept.Turn n) = k ≡ kind.Reader
 IsKeeper k other = true ≡ false
 

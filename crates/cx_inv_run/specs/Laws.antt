@@ -20,11 +20,12 @@ use Rattle.cx_model.specs.Matchmaker.{matchmaker_rules, matchmaker_row}
 use Rattle.cx_model.specs.Outcome.{Outcome}
 use Rattle.cx_model.specs.Proxy.{ProxyVolatile, proxy_row}
 use Rattle.cx_model.specs.Reader.{ReaderVolatile, reader_rules, reader_row}
+use Rattle.cx_model.specs.Replacer.{ReplacerVolatile, replacer_rules, replacer_row}
 use Rattle.cx_model.specs.Replica.{ReplicaVolatile, replica_rules, replica_row}
 use Rattle.cx_model.specs.Request.{request, token_of}
 use Rattle.cx_model.specs.Unbatcher.{unbatcher_row}
 use Rattle.cx_model.specs.World.{World, change, step, run, run_from}
-use Rattle.cx_inv_run.specs.States.{State, Down, Plain, BatcherIn, LeaderIn, ProxyIn, ReplicaIn, ReaderIn, plain, fresh_state, set_state, entry_by, snap_by, with_record, durable_of, Given, Property, HoldsIn}
+use Rattle.cx_inv_run.specs.States.{State, Down, Plain, BatcherIn, LeaderIn, ProxyIn, ReplicaIn, ReaderIn, ReplacerIn, plain, fresh_state, set_state, entry_by, snap_by, with_record, durable_of, Given, Property, HoldsIn}
 
 -- The outcome of a row keeps a property: the whole step, and the step that is cut after its record was kept. (A step that is cut before is a stop.)
 pub record Lands {V : Type 0} (holds : Property) (kept : List KeptRecord) (sent : List Letter) (states : RoleId → State) (me : RoleId) (make : V → State) (o : Outcome V) : Type 0 where
@@ -78,6 +79,9 @@ pub record Laws (c : Cluster) (Allowed : ℕ → Event → Type 0) (known holds 
   pub reader : (kept : List KeptRecord) (sent : List Letter) (states : RoleId → State) (r : ℕ) (v : ReaderVolatile) (i : Input)
       → known kept sent states → holds kept sent states → states (role kind.Reader r) ≡ ReaderIn v → Given sent (role kind.Reader r) i
       → Lands holds kept sent states (role kind.Reader r) ReaderIn (reader_row c (role kind.Reader r) (durable_of reader_rules (role kind.Reader r) kept) v i)
+  pub replacer : (kept : List KeptRecord) (sent : List Letter) (states : RoleId → State) (x : ℕ) (v : ReplacerVolatile) (i : Input)
+      → known kept sent states → holds kept sent states → states (role kind.Replacer x) ≡ ReplacerIn v → Given sent (role kind.Replacer x) i
+      → Lands holds kept sent states (role kind.Replacer x) ReplacerIn (replacer_row c (role kind.Replacer x) (durable_of replacer_rules (role kind.Replacer x) kept) v i)
 
 -- nothing is known
 abbrev pub anything : Property

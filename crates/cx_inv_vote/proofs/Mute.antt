@@ -20,7 +20,7 @@ use Rattle.cx_inv_vote.proofs.Rows.{lands, quiet_kind}
 
 -- Kinds of roles that keep nothing but turns, and whose datagrams say nothing of what was kept.
 module _ (k : Kind) (no_leader : k ≡ kind.Leader → ⊥) (no_matchmaker : k ≡ kind.Matchmaker → ⊥) (no_acceptor : k ≡ kind.Acceptor → ⊥)
-    (no_proxy : k ≡ kind.Proxy → ⊥) (no_replica : k ≡ kind.Replica → ⊥) where
+    (no_proxy : k ≡ kind.Proxy → ⊥) (no_replica : k ≡ kind.Replica → ⊥) (no_replacer : k ≡ kind.Replacer → ⊥) where
   mute_says : (c : Cluster) (history : List KeptRecord) (sent : List Letter) (from : RoleId) (m : Msg) → IsSender k m → Says c history sent from m
   mute_says c history sent from (msg.Leads i) e = absurd (no_leader e)
   mute_says c history sent from (msg.MatchA i g) e = absurd (no_leader e)
@@ -33,6 +33,11 @@ module _ (k : Kind) (no_leader : k ≡ kind.Leader → ⊥) (no_matchmaker : k �
   mute_says c history sent from (msg.ChosenIn i s) e = absurd (no_proxy e)
   mute_says c history sent from (msg.Informed i n) e = absurd (no_acceptor e)
   mute_says c history sent from (msg.GarbageA i g) e = absurd (no_leader e)
+  mute_says c history sent from (msg.StopA b) e = absurd (no_replacer e)
+  mute_says c history sent from (msg.StopB b w entries a s) e = absurd (no_matchmaker e)
+  mute_says c history sent from (msg.NextB b) e = absurd (no_matchmaker e)
+  mute_says c history sent from (msg.BootA s w entries) e = absurd (no_replacer e)
+  mute_says c history sent from (msg.Sets s) e = absurd (no_replacer e)
   mute_says c history sent from other e = tt
 
   -- of its records, a reader's turn alone
@@ -44,6 +49,10 @@ module _ (k : Kind) (no_leader : k ≡ kind.Leader → ⊥) (no_matchmaker : k �
   mute_keeps P turn (kept.Garbage i g) e = absurd (no_matchmaker e)
   mute_keeps P turn (kept.Round i g) e = absurd (no_leader e)
   mute_keeps P turn (kept.Log values) e = absurd (no_replica e)
+  mute_keeps P turn (kept.Ballot b) e = absurd (no_replacer e)
+  mute_keeps P turn (kept.Stop b) e = absurd (no_matchmaker e)
+  mute_keeps P turn (kept.Next b s) e = absurd (no_matchmaker e)
+  mute_keeps P turn (kept.Boot s w es) e = absurd (no_matchmaker e)
   mute_keeps P turn (kept.Turn n) e = turn n
   mute_keeps P turn other e = cc
 
@@ -53,7 +62,7 @@ module _ (k : Kind) (no_leader : k ≡ kind.Leader → ⊥) (no_matchmaker : k �
     pub mute_lands : {V : Type 0} (make : V → State) (o : Outcome V) → OfKind me o → InState c (with_record me o.kept history) sent me (make o.volatile)
         → Lands (Facts c) history sent states me make o
     mute_lands make o of_kind state =
-        lands c history sent states facts me make o (quiet_kind me o (λ e. no_leader (sym is ∙ e)) of_kind)
+        lands c history sent states facts me make o (quiet_kind me o (λ e. no_leader (sym is ∙ e)) (λ e. no_replacer (sym is ∙ e)) of_kind)
         record {
           lawful = λ r e. mute_keeps (λ (x : Record). Facts c (entry_by me x ∷ history) sent (set_state me Down states)) (λ n. keep_turn c history sent states facts me n) r
               (subst (λ x. IsKeeper x r) is (subst (λ x. IsKept me.kind x) e of_kind.keeps));

@@ -9,8 +9,10 @@ use Rattle.cx_base.specs.declared.role.RoleId.{RoleId}
 use Rattle.cx_base.specs.declared.round.Round.{Round}
 use Rattle.cx_base.specs.declared.why.Why.{Why}
 use Rattle.cx_base.specs.declared.why.Why.TheVariants.{Sent}
+use Rattle.cx_base.specs.Grid.{is_in}
 use Rattle.cx_base.specs.Role.{role, same_role}
 use Rattle.cx_base.specs.Round.{same_round}
+use Rattle.cx_base.specs.Sets.{is_above}
 use Rattle.cx_field.specs.declared.parts.Asking.{Asking}
 use Rattle.cx_field.specs.declared.parts.Entry.{Entry}
 use Rattle.cx_msg.specs.Letter.{Letter, letter}
@@ -27,15 +29,18 @@ use Rattle.cx_model.specs.Matched.{is_counted, is_member_of, greatest_watermark,
 use Rattle.cx_model.specs.Member.{Member}
 use Rattle.cx_model.specs.Names.{names}
 use Rattle.cx_model.specs.Outcome.{Outcome, by_test, either_way}
-use Rattle.cx_model.specs.Reader.{Asked, Batch, ReaderDurable, ReaderVolatile, acked_by, ask_replicas, asked_for, asking_of, begin, begin_if, finish, greatest_mark, has_acked, is_among, is_first, is_matched, is_of_batch, last_turn, match_ack_counted, match_ack_row, matched, new_batch, pre_read_ack_row, pre_read_counted, reader_row, reader_rules, reader_takes, reader_tick, request_over, request_row, same_asking, token, with_asked, with_batch}
+use Rattle.cx_model.specs.Reader.{Asked, Batch, ReaderDurable, ReaderVolatile, acked_by, ask_replicas, asked_anew, asked_for, asking_of, begin, begin_if, finish, greatest_mark, has_acked, is_among, is_first, is_matched, is_of_batch, last_turn, match_ack_counted, match_ack_row, matched, new_batch, pre_read_ack_row, pre_read_counted, reader_row, reader_rules, reader_takes, reader_tick, request_over, request_row, same_asking, sets_row, token, with_asked, with_batch}
 use Rattle.cx_model.specs.Request.{same_read}
 use Rattle.cx_inv_run.specs.Kinds.{Kinds}
 use Rattle.cx_inv_run.specs.Laws.{Lands}
-use Rattle.cx_inv_run.specs.States.{State, ReaderIn, Given, durable_of}
+use Rattle.cx_inv_run.specs.States.{State, ReaderIn, Given, durable_of, with_record}
+use Rattle.cx_inv_run.proofs.Histories.{kept_longer}
 use Rattle.cx_inv_run.proofs.Members.{Member-both, Member-one}
 use Rattle.cx_inv_run.proofs.Rounds.{same_round-true}
 use Rattle.cx_inv_run.proofs.Senders.{reader_kinds}
+use Rattle.cx_inv_match.specs.Words.{IsKnown as IsKnownSet}
 use Rattle.cx_inv_match.specs.Facts.{InState, AreAsking, Facts}
+use Rattle.cx_inv_match.proofs.Grow.{more_nth}
 use Rattle.cx_inv_vote.proofs.Rows.{is_role}
 use Rattle.cx_inv_vote.proofs.Mute.{mute_lands}
 
@@ -77,12 +82,13 @@ module _ (c : Cluster) (history : List KeptRecord) (sent : List Letter) (states 
   record Good (v : ReaderVolatile) : Type 0 where
     waiting : AllAsked v.waiting
     running : (b : Batch) → v.running ≡ Some b → IsKnown b
+    known : IsKnownSet c history v.set
 
-  known_in : (v : ReaderVolatile) → ReaderWasTold sent me v × AreAsking c v → Good v
-  known_in v h = record { waiting = h.0.requests; running = λ b e. record { told = h.0.batch b e; unasked = h.1 b e } }
+  known_in : (v : ReaderVolatile) → ReaderWasTold sent me v × AreAsking c v × IsKnownSet c history v.set → Good v
+  known_in v h = record { waiting = h.0.requests; running = λ b e. record { told = h.0.batch b e; unasked = h.1 b e }; known = h.2 }
 
-  in_state : (v : ReaderVolatile) → Good v → ReaderWasTold sent me v × AreAsking c v
-  in_state v h = (record { requests = h.waiting; batch = λ b e. (h.running b e).told }, λ b e f a m. (h.running b e).unasked f a m)
+  in_state : (v : ReaderVolatile) → Good v → ReaderWasTold sent me v × AreAsking c v × IsKnownSet c history v.set
+  in_state v h = (record { requests = h.waiting; batch = λ b e. (h.running b e).told }, λ b e f a m. (h.running b e).unasked f a m, h.known)
 
   with_all : (one : Asked) (rs : List Asked) → WasAsked one → AllAsked rs → AllAsked (with_asked one rs)
   with_all one rs new old r m = elim (with_asked-cases one rs r m) [ inl e ↦ subst WasAsked (sym e) new | inr k ↦ old r k ]
@@ -91,29 +97,30 @@ module _ (c : Cluster) (history : List KeptRecord) (sent : List Letter) (states 
   GoodOf o = Good o.volatile
 
   module _ (d : ReaderDurable) (v : ReaderVolatile) (old : Good v) where
-    begun : (w : Why) (first : List Letter) (rs : List Asked) → AllAsked rs → GoodOf (begin c me d w first rs)
+    begun : (w : Why) (first : List Letter) (rs : List Asked) → AllAsked rs → GoodOf (begin me d v w first rs)
     begun w first rs all = record {
       waiting = λ r m. absurd m;
       running = λ b e. subst IsKnown (same_Some (new_batch (d.turn + 1) rs) b e) (record {
         told = record { requests = all; answers = λ a m. absurd m; acks = λ a m. absurd m };
         unasked = λ f a m. m;
       });
+      known = old.known;
     }
 
-    begun_if : (w : Why) (rs : List Asked) → AllAsked rs → GoodOf (begin_if c me d v w rs)
+    begun_if : (w : Why) (rs : List Asked) → AllAsked rs → GoodOf (begin_if me d v w rs)
     begun_if w rs all = either_way GoodOf (d.turn == last_turn) _ _ old (begun w [] rs all)
 
     more_waiting : (rs : List Asked) → AllAsked rs → Good (record v { waiting = rs })
-    more_waiting rs all = record { waiting = all; running = old.running }
+    more_waiting rs all = record { waiting = all; running = old.running; known = old.known }
 
-    request_good : (one : Asked) → WasAsked one → GoodOf (request_row c me d v one)
+    request_good : (one : Asked) → WasAsked one → GoodOf (request_row me d v one)
     request_good one new =
         either_way GoodOf (is_among one.read v.waiting) _ _ (more_waiting (with_asked one v.waiting) (with_all one v.waiting new old.waiting)) (over v.running refl)
       where
         last : AllAsked (v.waiting ++ one ∷ [])
         last = Member-both WasAsked v.waiting (one ∷ []) old.waiting (Member-one WasAsked one new)
 
-        over : (o : Option Batch) → v.running ≡ o → GoodOf (request_over c me d v one o)
+        over : (o : Option Batch) → v.running ≡ o → GoodOf (request_over me d v one o)
         over None is = either_way GoodOf (nat_le 64 (length v.waiting)) _ _ old (begun_if _ (v.waiting ++ one ∷ []) last)
         over (Some b) is =
             either_way GoodOf (is_first one.read b.reads) _ _
@@ -121,13 +128,13 @@ module _ (c : Cluster) (history : List KeptRecord) (sent : List Letter) (states 
             (either_way GoodOf (is_among one.read b.reads) _ _ old
             (either_way GoodOf (nat_le 64 (length v.waiting + length b.reads)) _ _ old (more_waiting (v.waiting ++ one ∷ []) last)))
 
-    finished : (b : Batch) (n : ℕ) → GoodOf (finish c me d v b n)
+    finished : (b : Batch) (n : ℕ) → GoodOf (finish me d v b n)
     finished b n =
         either_way GoodOf (nat_lt 0 (length v.waiting) && not (d.turn == last_turn)) _ _ (begun Sent (ask_replicas me b n) v.waiting old.waiting)
-        (record { waiting = old.waiting; running = λ b e. absurd (none-some b e) })
+        (record { waiting = old.waiting; running = λ b e. absurd (none-some b e); known = old.known })
 
     runs_on : (b : Batch) → IsKnown b → Good (with_batch v b)
-    runs_on b new = record { waiting = old.waiting; running = λ x e. subst IsKnown (same_Some b x e) new }
+    runs_on b new = record { waiting = old.waiting; running = λ x e. subst IsKnown (same_Some b x e) new; known = old.known }
 
     matched_good : (b : Batch) → IsKnown b → (es : List Entry) → GoodOf (matched c me d v b es)
     matched_good b new [] = finished b 0
@@ -140,11 +147,12 @@ module _ (c : Cluster) (history : List KeptRecord) (sent : List Letter) (states 
         → Member (letter from me (msg.MatchReadAck u w es)) sent → GoodOf (match_ack_row c me d v from u w es o)
     match_ack_good from u w es None found is_sent = old
     match_ack_good from u w es (Some b) found is_sent =
-        by_test GoodOf (not (is_of_batch me b u && not (is_matched c b))) _ _ (λ y. old)
+        by_test GoodOf (not (is_of_batch me b u && not (is_matched c b) && is_in from.index v.set)) _ _ (λ y. old)
         (λ f. either_way GoodOf (is_counted from.index b.told) _ _ old
         (
         let h = old.running b found in
-        let tests = and_parts (is_of_batch me b u) (not (is_matched c b)) (not-false (is_of_batch me b u && not (is_matched c b)) f) in
+        let both = and_parts (is_of_batch me b u && not (is_matched c b)) (is_in from.index v.set) (not-false (is_of_batch me b u && not (is_matched c b) && is_in from.index v.set) f) in
+        let tests = and_parts (is_of_batch me b u) (not (is_matched c b)) both.0 in
         let n = not-true (is_matched c b) tests.1 in
         let answer : MatchAnswer = record { matchmaker = from.index; watermark = w; entries = es } in
         let from_is : from ≡ role kind.Matchmaker from.index = is_role from kind.Matchmaker (kinds.senders _ is_sent) in
@@ -193,12 +201,34 @@ module _ (c : Cluster) (history : List KeptRecord) (sent : List Letter) (states 
         })
         )))
 
+    -- another set of matchmakers took over: what was counted of the one before goes
+
+    anew_good : (s : List ℕ) → IsKnownSet c history s → (o : Option Batch) → v.running ≡ o → GoodOf (asked_anew c me (record v { set = s }) o)
+    anew_good s known None is = record { waiting = old.waiting; running = old.running; known = known }
+    anew_good s known (Some b) is =
+        by_test GoodOf (is_matched c b) _ _
+        (λ t. record { waiting = old.waiting; running = old.running; known = known })
+        (λ f. record { waiting = old.waiting; running = λ x e. subst IsKnown (same_Some (record b { told = [] }) x e) (uncounted f); known = known })
+      where
+        h : IsKnown b
+        h = old.running b is
+
+        uncounted : is_matched c b ≡ false → IsKnown (record b { told = [] })
+        uncounted f = record {
+          told = record { requests = h.told.requests; answers = λ a m. absurd m; acks = λ a m. absurd (h.unasked f a m) };
+          unasked = λ g a m. h.unasked f a m;
+        }
+
+    sets_good : (s : List ℕ) → IsKnownSet c history s → GoodOf (sets_row c me v s)
+    sets_good s known = either_way GoodOf (is_above s v.set) _ _ (anew_good s known v.running refl) old
+
     takes_good : (from : RoleId) (m : Msg) → Member (letter from me m) sent → GoodOf (reader_takes c me d v from m)
     takes_good from (msg.ReadReq seq replica key) is_sent =
         request_good (asked_for (token from.index seq) replica key)
         (subst (λ x. Member (letter x me (msg.ReadReq seq replica key)) sent) (is_role from kind.Client (kinds.senders _ is_sent)) is_sent)
     takes_good from (msg.MatchReadAck u w es) is_sent = match_ack_good from u w es v.running refl is_sent
     takes_good from (msg.PreReadAck u w n) is_sent = pre_read_ack_good from u w n v.running refl is_sent
+    takes_good from (msg.Sets s) is_sent = sets_good s (facts.says _ is_sent)
     takes_good from other is_sent = old
 
     ticks_good : (o : Option Batch) → GoodOf (reader_tick c me v o)
@@ -216,6 +246,10 @@ module _ (c : Cluster) (history : List KeptRecord) (sent : List Letter) (states 
       → Lands (Facts c) history sent states me ReaderIn (reader_row c me (durable_of reader_rules me history) v i)
   reader_lands v i up given =
       let d = durable_of reader_rules me history in
-      mute_lands kind.Reader (λ e. cc) (λ e. cc) (λ e. cc) (λ e. cc) (λ e. cc) c history sent states facts me refl ReaderIn (reader_row c me d v i) (reader_kinds c me refl d v i)
-      (in_state (reader_row c me d v i).volatile
-      (row_good d v (known_in v (subst (λ s. InState c history sent me s) up (facts.running me))) i given))
+      let o = reader_row c me d v i in
+      let state = in_state o.volatile (row_good d v (known_in v (subst (λ s. InState c history sent me s) up (facts.running me))) i given) in
+      mute_lands kind.Reader (λ e. cc) (λ e. cc) (λ e. cc) (λ e. cc) (λ e. cc) (λ e. cc) c history sent states facts me refl ReaderIn o (reader_kinds c me refl d v i) (
+        state.0,
+        state.1,
+        (state.2.0, more_nth c history (with_record me o.kept history) (λ k m. kept_longer me o.kept history k m) state.2.0 o.volatile.set state.2.1),
+      )

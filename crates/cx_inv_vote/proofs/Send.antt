@@ -1,31 +1,42 @@
 -- The facts after a role has sent datagrams and gone on.
-use Rattle.std.proofs.Common.{◌≡◌, ℕ, false, ◌⊎◌, List, ◌++◌, Option, Some, None, inl, inr, sym, subst, ◌∙◌, refl}
+use Rattle.std.proofs.Common.{◌≡◌, ℕ, true, false, ◌⊎◌, List, ◌++◌, Option, Some, None, inl, inr, sym, subst, ◌∙◌, refl}
 use Rattle.cx_base.specs.declared.cluster.Cluster.{Cluster}
 use Rattle.cx_base.specs.declared.command.Value.{Value}
 use Rattle.cx_base.specs.declared.role.Kind.TheVariants as kind
 use Rattle.cx_base.specs.declared.role.RoleId.{RoleId}
 use Rattle.cx_base.specs.declared.round.Round.{Round}
 use Rattle.cx_base.specs.Role.{role, same_role}
+use Rattle.cx_base.specs.Round.{is_before, no_round}
 use Rattle.cx_field.specs.declared.parts.Entry.{Entry}
-use Rattle.cx_msg.specs.Letter.{Letter}
+use Rattle.cx_msg.specs.Letter.{Letter, letter}
 use Rattle.cx_msg.specs.declared.input.KeptRecord.{KeptRecord}
+use Rattle.cx_msg.specs.declared.kept.Record.TheVariants as kept
+use Rattle.cx_msg.specs.declared.message.Msg.TheVariants as msg
 use Rattle.cx_model.specs.declared.states.Mode.{Mode}
 use Rattle.cx_model.specs.declared.states.Mode.TheVariants.{Idle, Matching, Phase1, Leading}
 use Rattle.cx_model.specs.declared.states.Pending.{Pending}
+use Rattle.cx_model.specs.declared.states.Replacing.{Replacing}
+use Rattle.cx_model.specs.declared.states.Replacing.TheVariants as replacing
 use Rattle.cx_model.specs.Batcher.{BatcherVolatile}
 use Rattle.cx_model.specs.Facts.{IsProposed, IsRetiring, LeaderWasTold, ProxyWasTold, BatcherWasTold, ReplicaWasTold, ReaderWasTold, BatchWasTold}
 use Rattle.cx_model.specs.Leader.{LeaderVolatile, leader_rules, round_of}
 use Rattle.cx_model.specs.Lists.{by_role, other_role}
+use Rattle.cx_model.specs.Matchmaker.{MatchmakerDurable, matchmaker_rules}
 use Rattle.cx_model.specs.Member.{Member}
+use Rattle.cx_model.specs.Promises.{HasKept}
 use Rattle.cx_model.specs.Proxy.{ProxyVolatile}
 use Rattle.cx_model.specs.Reader.{Batch, ReaderVolatile}
+use Rattle.cx_model.specs.Replacer.{ReplacerVolatile, replacer_rules}
 use Rattle.cx_model.specs.Replica.{ReplicaVolatile}
-use Rattle.cx_inv_run.specs.States.{State, Down, Plain, BatcherIn, LeaderIn, ProxyIn, ReplicaIn, ReaderIn, set_state, durable_of}
+use Rattle.cx_inv_run.specs.States.{State, Down, Plain, BatcherIn, LeaderIn, ProxyIn, ReplicaIn, ReaderIn, ReplacerIn, set_state, durable_of}
 use Rattle.cx_inv_run.proofs.Members.{Member-cases, Member-first}
 use Rattle.cx_inv_run.proofs.Histories.{state_own, state_other}
-use Rattle.cx_inv_match.specs.Facts.{Says, InState, InMode, IsMatching, IsLeading, IsLast, IsPending, Facts}
-use Rattle.cx_inv_match.specs.Words.{IsLeft}
-use Rattle.cx_inv_match.proofs.Grow.{Grows, grown_says, grown_safe, grown_stage, grown_ready, grown_collected}
+use Rattle.cx_inv_run.proofs.Rounds.{before-itself}
+use Rattle.cx_inv_match.specs.Facts.{Says, InState, InMode, InWork, IsMatching, IsLeading, IsLast, IsLog, IsPending, IsNextAsked, Facts}
+use Rattle.cx_inv_match.specs.Words.{IsLeft, IsNext}
+use Rattle.cx_inv_match.proofs.Grow.{Grows, grown_says, grown_safe, grown_stage, grown_ready, grown_join, grown_collected}
+use Rattle.cx_inv_match.proofs.Keep.{same_log}
+use Rattle.cx_inv_match.proofs.SetLaws.{grown_sets}
 use Rattle.cx_inv_vote.specs.Laws.{IsPlainMsg}
 
 -- what was proposed or ended after more was sent, was so before or by what was sent
@@ -48,6 +59,12 @@ still_proposed sent ds i s v h = (h.0, h.1, h.2, h.3, Member-first _ sent ds h.4
 pub still_retiring : (sent ds : List Letter) (i : Round) → IsRetiring sent i → IsRetiring (sent ++ ds) i
 still_retiring sent ds i h = (h.0, h.1, h.2, Member-first _ sent ds h.3)
 
+pub asked_cases : (sent ds : List Letter) (b : Round) (u : List ℕ) → IsNextAsked (sent ++ ds) b u → IsNextAsked sent b u ⊎ IsNextAsked ds b u
+asked_cases sent ds b u h = elim (Member-cases _ sent ds h.2) [
+  | inl m ↦ inl (h.0, h.1, m)
+  | inr m ↦ inr (h.0, h.1, m)
+]
+
 -- more was sent, and nothing was proposed in a round that its leader had left
 pub record Widens (history : List KeptRecord) (sent wider : List Letter) : Type 0 where
   pub wide : (d : Letter) → Member d sent → Member d wider
@@ -60,6 +77,10 @@ grows_wide history sent wider h = record {
   no_vote = λ a j s v p x. x;
   no_mark = λ a j n p x. x;
   no_match = λ m i j g l p x. x;
+  no_boot = λ m s w es u x. x;
+  halted_match = λ m i g u x. x;
+  halted_garbage = λ m i g u x. x;
+  no_next = λ m a b u l p x. x;
   no_proposal = h.no_proposal;
 }
 
@@ -109,21 +130,25 @@ reader_told sent ds me v h = record {
 pub still_pending : (history : List KeptRecord) (sent ds : List Letter) (p : Pending) → IsPending history sent p → IsPending history (sent ++ ds) p
 still_pending history sent ds p h = record { config = h.config; marks = h.marks; done = h.done; window = h.window }
 
--- a round in which these datagrams propose nothing, and for which they ask nobody to forget others
+-- a round in which these datagrams propose nothing, and for which they ask nobody to forget others; a ballot in which they ask nobody to accept a set
 abbrev pub IsQuiet : List Letter → Round → Type 0
 IsQuiet ds i = ((s : ℕ) (v : Value) → IsProposed ds i s v → ⊥) × (IsRetiring ds i → ⊥)
 
-pub quiet_matching : (c : Cluster) (sent ds : List Letter) (own : Entry) (v : LeaderVolatile)
-    → IsQuiet ds own.round → IsMatching c sent own v → IsMatching c (sent ++ ds) own v
-quiet_matching c sent ds own v q h = record {
-  unproposed = λ s u x. elim (proposed_cases sent ds own.round s u x) [ inl y ↦ h.unproposed s u y | inr y ↦ q.0 s u y ];
-  unended = λ x. elim (retiring_cases sent ds own.round x) [ inl y ↦ h.unended y | inr y ↦ q.1 y ];
-  off = h.off;
-  once = h.once;
-  known = h.known;
-}
+abbrev pub IsUnasked : List Letter → Round → Type 0
+IsUnasked ds b = (u : List ℕ) → IsNextAsked ds b u → ⊥
 
 module _ (c : Cluster) (history : List KeptRecord) (sent ds : List Letter) (grows : Grows history sent history (sent ++ ds)) where
+  pub quiet_matching : (own : Entry) (v : LeaderVolatile) → IsQuiet ds own.round → IsMatching c history sent own v → IsMatching c history (sent ++ ds) own v
+  quiet_matching own v q h = record {
+    unproposed = λ s u x. elim (proposed_cases sent ds own.round s u x) [ inl y ↦ h.unproposed s u y | inr y ↦ q.0 s u y ];
+    unended = λ x. elim (retiring_cases sent ds own.round x) [ inl y ↦ h.unended y | inr y ↦ q.1 y ];
+    off = h.off;
+    set = h.set;
+    set_known = h.set_known;
+    once = h.once;
+    known = h.known;
+  }
+
   pub quiet_leading : (own : Entry) (v : LeaderVolatile)
       → ((s : ℕ) (u : Value) → IsProposed ds own.round s u → ⊥) → IsLeading c history sent own v → IsLeading c history (sent ++ ds) own v
   quiet_leading own v q h = record {
@@ -145,30 +170,59 @@ module _ (c : Cluster) (history : List KeptRecord) (sent ds : List Letter) (grow
       → ((own : Entry) → o ≡ Some own → IsQuiet ds own.round) → InMode c history sent o v mode → InMode c history (sent ++ ds) o v mode
   quiet_mode None v mode q h = h
   quiet_mode (Some own) v Idle q h = tt
-  quiet_mode (Some own) v Matching q h = (
-    quiet_matching c sent ds own v (q own refl) h.0,
-    λ t. grown_ready c history sent history (sent ++ ds) grows own v (h.1 t),
-  )
-  quiet_mode (Some own) v Phase1 q h = (quiet_matching c sent ds own v (q own refl) h.0, h.1)
+  quiet_mode (Some own) v Matching q h =
+      (quiet_matching own v (q own refl) h.0, h.1, λ t. grown_ready c history sent history (sent ++ ds) grows own v (h.2 t))
+  quiet_mode (Some own) v Phase1 q h = (quiet_matching own v (q own refl) h.0, h.1)
   quiet_mode (Some own) v Leading q h = quiet_leading own v (q own refl).0 h
 
-  -- what a role knows stays so where these datagrams neither propose in its own round nor end it
+  pub quiet_work : (me : RoleId) (own : Round) (v : ReplacerVolatile) (mode : Replacing) → IsUnasked ds own
+      → InWork c history sent me own v mode → InWork c history (sent ++ ds) me own v mode
+  quiet_work me own v replacing.Idle q h = tt
+  quiet_work me own v replacing.Stopping q h = record {
+    real = h.real;
+    unasked = λ u x. elim (asked_cases sent ds own u x) [ inl y ↦ h.unasked u y | inr y ↦ q u y ];
+    above = h.above;
+    proper = h.proper;
+    told = λ x m. Member-first _ sent ds (h.told x m);
+    once = h.once;
+    known = h.known;
+  }
+  quiet_work me own v replacing.Deciding q h = record {
+    real = h.real;
+    asked = λ from to u x. elim (Member-cases _ sent ds x) [ inl y ↦ h.asked from to u y | inr y ↦ absurd (q u (from, to, y)) ];
+    above = h.above;
+    proper = h.proper;
+    closed = h.closed;
+    join = grown_join c history sent history (sent ++ ds) grows v.set v.watermark v.entries h.join;
+    votes = λ m x. Member-first _ sent ds (h.votes m x);
+    once = h.once;
+  }
+  quiet_work me own v replacing.Booting q h = record {
+    decided = h.decided;
+    join = grown_join c history sent history (sent ++ ds) grows v.set v.watermark v.entries h.join;
+    begun = λ m x. Member-first _ sent ds (h.begun m x);
+  }
+
+  -- what a role knows stays so where these datagrams neither propose in its own round nor end it, and ask nobody in its ballot
   pub carry_state : (me : RoleId) (s : State)
       → ((own : Entry) → (durable_of leader_rules me history).own ≡ Some own → IsQuiet ds own.round)
+      → IsUnasked ds (durable_of replacer_rules me history).own
       → InState c history sent me s → InState c history (sent ++ ds) me s
-  carry_state me Down quiet h = tt
-  carry_state me Plain quiet h = tt
-  carry_state me (BatcherIn v) quiet h = batcher_told sent ds me v h
-  carry_state me (LeaderIn v) quiet h = (
+  carry_state me Down quiet un h = tt
+  carry_state me Plain quiet un h = tt
+  carry_state me (BatcherIn v) quiet un h = batcher_told sent ds me v h
+  carry_state me (LeaderIn v) quiet un h = (
     leader_told sent ds me (round_of (durable_of leader_rules me history).own) v h.0,
     quiet_mode (durable_of leader_rules me history).own v v.mode quiet h.1,
+    h.2,
   )
-  carry_state me (ProxyIn v) quiet h = (proxy_told sent ds me v h.0, λ p m. still_pending history sent ds p (h.1 p m))
-  carry_state me (ReplicaIn v) quiet h = replica_told sent ds me v h
-  carry_state me (ReaderIn v) quiet h = (reader_told sent ds me v h.0, h.1)
+  carry_state me (ProxyIn v) quiet un h = (proxy_told sent ds me v h.0, λ p m. still_pending history sent ds p (h.1 p m))
+  carry_state me (ReplicaIn v) quiet un h = replica_told sent ds me v h
+  carry_state me (ReaderIn v) quiet un h = (reader_told sent ds me v h.0, h.1, h.2)
+  carry_state me (ReplacerIn v) quiet un h = (h.0, quiet_work me (durable_of replacer_rules me history).own v v.mode un h.1)
 
--- What a role sends says what is so, proposes and ends only rounds that name it, proposes in none that it left, and one value for each round and
--- slot; and its new state is what it should be: then the facts hold.
+-- What a role sends says what is so, proposes and ends only rounds that name it and that it didn't leave, one value for each round and slot, and
+-- asks to accept sets only in ballots that name it, one set for each; and its new state is what it should be: then the facts hold.
 module _ (c : Cluster) (history : List KeptRecord) (sent : List Letter) (states : RoleId → State) (me : RoleId)
     (facts : Facts c history sent (set_state me Down states)) (ds : List Letter) (s : State)
     (widens : Widens history sent (sent ++ ds))
@@ -176,6 +230,9 @@ module _ (c : Cluster) (history : List KeptRecord) (sent : List Letter) (states 
     (mine : (i : Round) (t : ℕ) (v : Value) → IsProposed ds i t v → role kind.Leader i.id ≡ me)
     (ends : (i : Round) → IsRetiring ds i → role kind.Leader i.id ≡ me)
     (one_value : (i : Round) (t : ℕ) (v w : Value) → IsProposed ds i t v → IsProposed (sent ++ ds) i t w → v ≡ w)
+    (asks : (from to : RoleId) (b : Round) (u : List ℕ) → Member (letter from to (msg.NextA b u)) ds
+    → IsNext c history to b u × HasKept history (role kind.Replacer b.id) (kept.Ballot b) × (role kind.Replacer b.id ≡ me))
+    (one_next : (b : Round) (u w : List ℕ) → IsNextAsked ds b u → IsNextAsked (sent ++ ds) b w → u ≡ w)
     (running : InState c history (sent ++ ds) me s) where
   abbrev wider : List Letter
   wider = sent ++ ds
@@ -191,9 +248,23 @@ module _ (c : Cluster) (history : List KeptRecord) (sent : List Letter) (states 
       let q : a ≡ role kind.Leader own.round.id = subst (λ (y : Entry). a ≡ role kind.Leader y.round.id) p (facts.owner a first.round first.grid last.0) in
       (λ t v x. other_role a me d (q ∙ mine own.round t v x), λ x. other_role a me d (q ∙ ends own.round x))
 
+  -- and in the ballot of another replacer nobody is asked
+  other_unasked : (a : RoleId) → same_role a me ≡ false → IsUnasked ds (durable_of replacer_rules a history).own
+  other_unasked a d u x = go (facts.last_ballot a).1
+    where
+      asked : IsNext c history x.1 (durable_of replacer_rules a history).own u × HasKept history (role kind.Replacer (durable_of replacer_rules a history).own.id) (kept.Ballot (durable_of replacer_rules a history).own) × (role kind.Replacer (durable_of replacer_rules a history).own.id ≡ me)
+      asked = asks x.0 x.1 (durable_of replacer_rules a history).own u x.2
+
+      go : ((durable_of replacer_rules a history).own ≡ no_round) ⊎ HasKept history a (kept.Ballot (durable_of replacer_rules a history).own) → ⊥
+      go (inl e) = before-itself no_round (subst (λ y. is_before no_round y ≡ true) e asked.0.real)
+      go (inr k) = other_role a me d (facts.balloter a (durable_of replacer_rules a history).own k ∙ asked.2)
+
   other_running : (a : RoleId) → same_role a me ≡ false → (st : State) → InState c history sent a st → InState c history wider a st
   other_running a d st h =
-      carry_state c history sent ds grows a st (other_quiet a d (durable_of leader_rules a history).own (facts.last a)) h
+      carry_state c history sent ds grows a st (other_quiet a d (durable_of leader_rules a history).own (facts.last a)) (other_unasked a d) h
+
+  sent_log : (m : RoleId) (d : MatchmakerDurable) → IsLog c history sent m d → IsLog c history wider m d
+  sent_log m d h = same_log c history sent history wider grows m d (λ i g x. x) (λ i g x. x) (λ t w es x. x) (λ b x. x) (λ b t x. x) h
 
   pub send : Facts c history wider (set_state me s states)
   send = record {
@@ -202,8 +273,17 @@ module _ (c : Cluster) (history : List KeptRecord) (sent : List Letter) (states 
     last = facts.last;
     asked = facts.asked;
     garbaged = λ m i g x. let y = facts.garbaged m i g x in (y.0, grown_collected c history sent history wider grows i y.1, still_retiring sent ds i y.2);
-    logs = facts.logs;
+    logs = λ m. sent_log m (durable_of matchmaker_rules m history) (facts.logs m);
     acceptors = facts.acceptors;
+    sets = grown_sets c history sent history wider grows facts.sets (λ m b u x. inl x) (λ m t w es x. inl x) (λ m i g x. inl x) (λ m x. inl x);
+    accepted = λ m b u x. let y = facts.accepted m b u x in (y.0, Member-first _ sent ds y.1);
+    one_asked = λ b u w x y. elim (asked_cases sent ds b u x) [
+      | inl k ↦ (elim (asked_cases sent ds b w y) [ inl l ↦ facts.one_asked b u w k l | inr l ↦ sym (one_next b w u l x) ])
+      | inr k ↦ one_next b u w k y
+    ];
+    asks = λ from to b u m. elim (Member-cases _ sent ds m) [ inl k ↦ facts.asks from to b u k | inr k ↦ (let r = asks from to b u k in (r.0, r.1)) ];
+    balloter = facts.balloter;
+    last_ballot = facts.last_ballot;
     voted = λ a i t v h. still_proposed sent ds i t v (facts.voted a i t v h);
     one_value = λ i t v w x y. elim (proposed_cases sent ds i t v x) [
       | inl k ↦ (elim (proposed_cases sent ds i t w y) [ inl l ↦ facts.one_value i t v w k l | inr l ↦ sym (one_value i t w v l x) ])
@@ -219,12 +299,15 @@ module _ (c : Cluster) (history : List KeptRecord) (sent : List Letter) (states 
         (subst (λ st. InState c history sent a st) (state_other me a Down states e) (facts.running a))));
   }
 
--- Datagrams that propose nothing and end no round.
+-- Datagrams that propose nothing, end no round, and ask nobody to accept a set.
 abbrev pub QuietSends : List Letter → Type 0
 QuietSends ds = (d : Letter) → Member d ds → IsPlainMsg d.msg
 
 pub quiet_round : (ds : List Letter) → QuietSends ds → (i : Round) → IsQuiet ds i
 quiet_round ds quiet i = (λ s v x. (quiet _ x.4).0 i x.2 s x.3 v refl, λ x. (quiet _ x.3).1 i x.2 refl)
+
+pub quiet_ballot : (ds : List Letter) → QuietSends ds → (b : Round) → IsUnasked ds b
+quiet_ballot ds quiet b u x = (quiet _ x.2).2 b u refl
 
 pub quiet_widens : (history : List KeptRecord) (sent ds : List Letter) → QuietSends ds → Widens history sent (sent ++ ds)
 quiet_widens history sent ds quiet = record {
@@ -236,7 +319,8 @@ quiet_widens history sent ds quiet = record {
 pub still_state : (c : Cluster) (history : List KeptRecord) (sent ds : List Letter) → QuietSends ds → (me : RoleId) (s : State)
     → InState c history sent me s → InState c history (sent ++ ds) me s
 still_state c history sent ds quiet me s h =
-    carry_state c history sent ds (grows_wide history sent (sent ++ ds) (quiet_widens history sent ds quiet)) me s (λ own e. quiet_round ds quiet own.round) h
+    carry_state c history sent ds (grows_wide history sent (sent ++ ds) (quiet_widens history sent ds quiet)) me s
+    (λ own e. quiet_round ds quiet own.round) (quiet_ballot ds quiet (durable_of replacer_rules me history).own) h
 
 -- the frame: the facts hold after they are sent
 pub send_plain : (c : Cluster) (history : List KeptRecord) (sent : List Letter) (states : RoleId → State) (me : RoleId)
@@ -246,4 +330,5 @@ pub send_plain : (c : Cluster) (history : List KeptRecord) (sent : List Letter) 
 send_plain c history sent states me facts ds s says quiet running =
     send c history sent states me facts ds s (quiet_widens history sent ds quiet) says
     (λ i t v x. absurd ((quiet_round ds quiet i).0 t v x)) (λ i x. absurd ((quiet_round ds quiet i).1 x))
-    (λ i t v w x y. absurd ((quiet_round ds quiet i).0 t v x)) running
+    (λ i t v w x y. absurd ((quiet_round ds quiet i).0 t v x))
+    (λ from to b u m. absurd (quiet_ballot ds quiet b u (from, to, m))) (λ b u w x y. absurd (quiet_ballot ds quiet b u x)) running

@@ -1,8 +1,7 @@
 -- The facts of a moment in which nothing has happened, a role that was just opened, and a request that goes out.
 use Rattle.std.proofs.Common.{◌≡◌, ℕ, zero, suc, ◌⊎◌, List, [], ◌∷◌, ◌++◌, map, Some, inl, inr, sym, subst, refl}
-use Rattle.std.proofs.lemmas.Option.{none-some}
 use Rattle.std.specs.Prelude.{slice_get}
-use Rattle.std.proofs.lemmas.Option.{same_Some}
+use Rattle.std.proofs.lemmas.Option.{none-some, same_Some}
 use Rattle.cx_base.specs.declared.cluster.Cluster.{Cluster}
 use Rattle.cx_base.specs.declared.command.Value.{Value}
 use Rattle.cx_base.specs.declared.event.Event.{Event}
@@ -21,13 +20,14 @@ use Rattle.cx_model.specs.Acceptor.{acceptor_rules}
 use Rattle.cx_model.specs.Leader.{leader_rules, idle_leader}
 use Rattle.cx_model.specs.Matchmaker.{matchmaker_rules}
 use Rattle.cx_model.specs.Member.{Member}
+use Rattle.cx_model.specs.Replacer.{replacer_rules}
 use Rattle.cx_model.specs.Request.{request}
 use Rattle.cx_inv_run.specs.States.{State, Down, fresh_state, set_state, durable_of, log_in}
 use Rattle.cx_inv_run.proofs.Histories.{set_running, set_same}
 use Rattle.cx_inv_run.proofs.Members.{Member-one}
 use Rattle.cx_inv_run.proofs.Rounds.{before-both, least}
-use Rattle.cx_inv_match.specs.Facts.{Says, InState, IsLast, IsLog, IsAcceptor, Facts}
-use Rattle.cx_inv_match.specs.Words.{HasMark, IsChosen}
+use Rattle.cx_inv_match.specs.Facts.{IsLastBallot, Says, InState, IsLast, IsLog, IsAcceptor, Facts}
+use Rattle.cx_inv_match.specs.Words.{HasMark, IsChosen, IsUsed, SetFacts}
 use Rattle.cx_inv_match.proofs.Keep.{stop, same_states}
 use Rattle.cx_inv_vote.specs.Laws.{IsPlainMsg}
 use Rattle.cx_inv_vote.proofs.Moves.{idle_mode}
@@ -53,6 +53,7 @@ fresh_holds c history sent me kind.Leader = (
     forgotten = λ a t m. absurd m;
   },
   idle_mode c history sent (durable_of leader_rules me history).own (idle_leader c),
+  (0, refl),
 )
 fresh_holds c history sent me kind.Proxy = (record { proposed = λ p m. absurd m; votes = λ p a m k. absurd m }, λ p m. absurd m)
 fresh_holds c history sent me kind.Acceptor = tt
@@ -60,7 +61,8 @@ fresh_holds c history sent me kind.Matchmaker = tt
 fresh_holds c history sent me kind.Replica = record { early = λ p m. absurd m; deferred = λ r m. absurd m }
 fresh_holds c history sent me kind.Unbatcher = tt
 fresh_holds c history sent me kind.Reader =
-    (record { requests = λ r m. absurd m; batch = λ b e. absurd (none-some b e) }, λ b e f a k. absurd (none-some b e))
+    (record { requests = λ r m. absurd m; batch = λ b e. absurd (none-some b e) }, λ b e f a k. absurd (none-some b e), (0, refl))
+fresh_holds c history sent me kind.Replacer = ((0, refl), tt)
 
 -- it doesn't matter in which state it was before
 pub wake : (c : Cluster) (history : List KeptRecord) (sent : List Letter) (states : RoleId → State) (me : RoleId)
@@ -73,6 +75,12 @@ wake c history sent states me facts = record {
   garbaged = facts.garbaged;
   logs = facts.logs;
   acceptors = facts.acceptors;
+  sets = facts.sets;
+  accepted = facts.accepted;
+  one_asked = facts.one_asked;
+  asks = facts.asks;
+  balloter = facts.balloter;
+  last_ballot = facts.last_ballot;
   voted = facts.voted;
   one_value = facts.one_value;
   logged = facts.logged;
@@ -86,14 +94,24 @@ start_last : (me : RoleId) → IsLast [] me (durable_of leader_rules me []).own
 unfolding durable_of
 start_last me = λ i g m. m
 
-start_log : (m : RoleId) → IsLog [] m (durable_of matchmaker_rules m [])
+start_log : (c : Cluster) (m : RoleId) → IsLog c [] [] m (durable_of matchmaker_rules m [])
 unfolding durable_of
-start_log m = record {
-  all = λ j g l x. x;
+start_log c m = record {
+  all = λ j g l x. elim x [ inl y ↦ absurd y | inr y ↦ absurd y.3 ];
   only = λ e x. absurd x;
   from_watermark = λ e x. absurd x;
   bound = λ j g x. absurd x;
-  raised = inl (refl, λ j g x. x);
+  boots = λ s w es x. absurd x;
+  raised = inl refl;
+  none = λ e j g x. x;
+  own = inl refl;
+  began = λ s e. cc;
+  unbegun = λ e s w es x. x;
+  ballots = λ b x. elim x [ inl y ↦ absurd y | inr y ↦ absurd y.1 ];
+  ballot = inl refl;
+  unstopped = λ e x. elim x.1 [ inl y ↦ y | inr y ↦ y.1 ];
+  nexts = λ b s x. absurd x;
+  accepted = inl refl;
 }
 
 no_mark : (a : RoleId) (i : Round) (n : ℕ) → HasMark [] a i n → ⊥
@@ -116,6 +134,26 @@ start_values : (p s : ℕ) (v : Value) → slice_get (log_in [] p) s ≡ Some v 
 unfolding log_in
 start_values p s v e = cc
 
+unused : (m : RoleId) → IsUsed [] m → ⊥
+unused m (inl (i, (g, inl (inl x)))) = x
+unused m (inl (i, (g, inl (inr x)))) = x.3
+unused m (inl (i, (g, inr x))) = x
+unused m (inr (b, inl x)) = x
+unused m (inr (b, inr x)) = x.1
+
+start_sets : (c : Cluster) → SetFacts c []
+start_sets c = record {
+  nexted = λ m b t x. absurd x;
+  one_next = λ m o b t u x y. absurd x;
+  booted = λ m s w es x. absurd x;
+  members = λ m x. absurd (unused m x);
+  above_boot = λ m s w es i g x y e k. absurd x;
+}
+
+start_ballot : (me : RoleId) → IsLastBallot [] me (durable_of replacer_rules me [])
+unfolding durable_of
+start_ballot me = (λ b x. absurd x, inl refl)
+
 pub start_facts : (c : Cluster) (states : RoleId → State) → ((a : RoleId) → (states a ≡ Down) ⊎ (states a ≡ fresh_state c a.kind)) → Facts c [] [] states
 start_facts c states fresh = record {
   owner = λ me i g m. absurd m;
@@ -123,7 +161,13 @@ start_facts c states fresh = record {
   last = start_last;
   asked = λ m i g x. absurd x;
   garbaged = λ m i g x. absurd x;
-  logs = start_log;
+  logs = start_log c;
+  sets = start_sets c;
+  accepted = λ m b t x. absurd x;
+  one_asked = λ b t u x y. absurd x.2;
+  asks = λ from to b t m. absurd m;
+  balloter = λ me b m. absurd m;
+  last_ballot = start_ballot;
   acceptors = start_acceptor;
   voted = λ a i s v x. absurd x.1;
   one_value = λ i s u v x y. absurd x.4;
@@ -147,20 +191,25 @@ request_says c history longer n (event.Session client seq floor replica key) =
 request_says c history longer n (event.Deliver number cut) = λ d m. absurd m
 request_says c history longer n (event.Tick r) = λ d m. absurd m
 request_says c history longer n (event.Order leader order cut) = λ d m. absurd m
+request_says c history longer n (event.Replace replacer set cut) = λ d m. absurd m
 request_says c history longer n (event.Crash r) = λ d m. absurd m
 request_says c history longer n (event.Snap replica cut) = λ d m. absurd m
 request_says c history longer n (event.Restart r) = λ d m. absurd m
 
 request_quiet : (n : ℕ) (e : Event) → QuietSends (request n e)
 request_quiet n (event.Write command batcher) =
-    Member-one (λ (d : Letter). IsPlainMsg d.msg) (letter (role kind.Client command.client) (role kind.Batcher batcher) (msg.Submit command)) (λ i g s cw v e. cc, λ i g e. cc)
+    Member-one (λ (d : Letter). IsPlainMsg d.msg) (letter (role kind.Client command.client) (role kind.Batcher batcher) (msg.Submit command))
+    (λ i g s cw v e. cc, λ i g e. cc, λ b t e. cc)
 request_quiet n (event.Read client seq floor reader replica key) =
-    Member-one (λ (d : Letter). IsPlainMsg d.msg) (letter (role kind.Client client) (role kind.Reader reader) (msg.ReadReq seq replica key)) (λ i g s cw v e. cc, λ i g e. cc)
+    Member-one (λ (d : Letter). IsPlainMsg d.msg) (letter (role kind.Client client) (role kind.Reader reader) (msg.ReadReq seq replica key))
+    (λ i g s cw v e. cc, λ i g e. cc, λ b t e. cc)
 request_quiet n (event.Session client seq floor replica key) =
-    Member-one (λ (d : Letter). IsPlainMsg d.msg) (letter (role kind.Client client) (role kind.Replica replica) (msg.SessRead seq n key)) (λ i g s cw v e. cc, λ i g e. cc)
+    Member-one (λ (d : Letter). IsPlainMsg d.msg) (letter (role kind.Client client) (role kind.Replica replica) (msg.SessRead seq n key))
+    (λ i g s cw v e. cc, λ i g e. cc, λ b t e. cc)
 request_quiet n (event.Deliver number cut) = λ d m. absurd m
 request_quiet n (event.Tick r) = λ d m. absurd m
 request_quiet n (event.Order leader order cut) = λ d m. absurd m
+request_quiet n (event.Replace replacer set cut) = λ d m. absurd m
 request_quiet n (event.Crash r) = λ d m. absurd m
 request_quiet n (event.Snap replica cut) = λ d m. absurd m
 request_quiet n (event.Restart r) = λ d m. absurd m

@@ -1,0 +1,122 @@
+-- A replacer keeps its own ballots, each above its last.
+use Rattle.std.specs.Prelude.{◌≡◌, ℕ, ◌+◌, ◌<◌, ◌==◌, ◌&&◌, ◌||◌, Bool, true, false, max, not, bytes_eq, nat_lt, List, length, Option, None, Some, if◌then◌else◌, refl}
+use Rattle.std.proofs.Common.{subst, arith}
+use Rattle.std.proofs.lemmas.Bool.{and_from}
+use Rattle.std.proofs.lemmas.Bool.Decides.{nat_tests}
+use Rattle.std.proofs.lemmas.Option.{same_Some}
+use Rattle.cx_base.specs.declared.cluster.Cluster.{Cluster}
+use Rattle.cx_base.specs.declared.event.Order.{Order as OrderOf}
+use Rattle.cx_base.specs.declared.event.Order.TheVariants.{Lead, Change, Collect, Replace}
+use Rattle.cx_base.specs.declared.role.Kind.TheVariants as kind
+use Rattle.cx_base.specs.declared.role.RoleId.{RoleId}
+use Rattle.cx_base.specs.declared.round.Round.{Round}
+use Rattle.cx_base.specs.Grid.{is_in}
+use Rattle.cx_base.specs.Role.{role, same_role}
+use Rattle.cx_base.specs.Round.{is_before, lead_after, same_round}
+use Rattle.cx_base.specs.Sets.{is_above}
+use Rattle.cx_field.specs.declared.parts.Entry.{Entry}
+use Rattle.cx_grid.specs.Quorum.{with_mark}
+use Rattle.cx_msg.specs.Letter.{Letter}
+use Rattle.cx_msg.specs.declared.input.Input.{Input}
+use Rattle.cx_msg.specs.declared.input.Input.TheVariants as input
+use Rattle.cx_msg.specs.declared.input.KeptRecord.{KeptRecord}
+use Rattle.cx_msg.specs.declared.kept.Record.TheVariants as kept
+use Rattle.cx_msg.specs.declared.message.Msg.{Msg}
+use Rattle.cx_msg.specs.declared.message.Msg.TheVariants as msg
+use Rattle.cx_model.specs.declared.states.Replacing.{Replacing}
+use Rattle.cx_model.specs.declared.states.Replacing.TheVariants.{Idle, Stopping, Deciding, Booting}
+use Rattle.cx_model.specs.Lists.{number_itself}
+use Rattle.cx_model.specs.Matched.{enough, first_set}
+use Rattle.cx_model.specs.Names.{names, names_ballot, names_set}
+use Rattle.cx_model.specs.Outcome.{Outcome, either_way}
+use Rattle.cx_model.specs.Replacer.{ReplacerDurable, ReplacerVolatile, begin_in, boot_counted, decide, halt_counted, has_halted, is_booting, is_deciding, is_resting, is_stopping, joined, next_counted, replacer_orders, replacer_row, replacer_rules, replacer_takes, tick_in, to_decide}
+use Rattle.cx_model.specs.Rules.{IsFit}
+use Rattle.cx_inv_run.specs.Laws.{Lands}
+use Rattle.cx_inv_run.specs.States.{State, ReplacerIn, durable_of}
+use Rattle.cx_inv_run.proofs.Rounds.{before-higher}
+use Rattle.cx_inv_run.proofs.Senders.{replacer_kinds}
+use Rattle.cx_inv_open.specs.Fits.{Fitting}
+use Rattle.cx_inv_open.proofs.Keep.{calm_in, new_fits, lands}
+
+module _ (c : Cluster) (me : RoleId) (place : me.index < c.replacers) where
+  is_named : nat_lt me.index c.replacers ≡ true
+  is_named = grind (arith, nat_tests)
+
+  abbrev ballot_fits : Round → Round → Bool
+  ballot_fits own b = names_ballot c b && (b.id == me.index) && is_before own b && (b.s == 0)
+
+  -- the ballot that it begins
+  lead_fits : (own seen b : Round) → lead_after own seen me.index ≡ Some b → ballot_fits own b ≡ true
+  lead_fits own seen b is = go (max own.r seen.r == 4294967295) is
+    where
+      go : (t : Bool) → (if t then None else Some (record { r = max own.r seen.r + 1; id = me.index; s = 0 })) ≡ Some b → ballot_fits own b ≡ true
+      go true q = cc
+      go false q =
+          let next : Round = record { r = max own.r seen.r + 1; id = me.index; s = 0 } in
+          subst (λ (x : Round). ballot_fits own x ≡ true) (same_Some next b q)
+          (and_from _ _ (and_from _ _ (and_from _ _ is_named (number_itself me.index)) (before-higher own next (omega arith))) refl)
+
+  module _ (d : ReplacerDurable) where
+    abbrev Fine : Outcome ReplacerVolatile → Type 0
+    Fine o = IsFit replacer_rules c me d o.kept
+
+    begun : (v : ReplacerVolatile) (s : List ℕ) (o : Option Round) → ((b : Round) → o ≡ Some b → ballot_fits d.own b ≡ true) → Fine (begin_in me v s o)
+    begun v s None fits = tt
+    begun v s (Some b) fits = (fits b refl, refl)
+
+    orders_fine : (v : ReplacerVolatile) (order : OrderOf) → Fine (replacer_orders c me d v order)
+    orders_fine v (Replace s) =
+        either_way Fine (not (names_set c s)) _ _ tt
+        (either_way Fine (not (is_above s v.set)) _ _ tt (begun v s (lead_after d.own v.seen me.index) (lead_fits d.own v.seen)))
+    orders_fine v (Lead g) = tt
+    orders_fine v (Change g) = tt
+    orders_fine v Collect = tt
+
+    -- it keeps nothing else
+
+    halted_fine : (v : ReplacerVolatile) → Fine (halt_counted c me d v)
+    halted_fine v =
+        either_way Fine (nat_lt (length v.halts) (enough c)) _ _ tt (decided (joined v.halts) (to_decide v.next v.halts))
+      where
+        decided : (es : List Entry) (s : List ℕ) → Fine (decide me d v es s)
+        decided es s = either_way Fine (nat_lt 254 (length es)) _ _ tt tt
+
+    next_fine : (v : ReplacerVolatile) (counted : List ℕ) → Fine (next_counted c me v counted)
+    next_fine v counted = either_way Fine (nat_lt (length counted) (enough c)) _ _ tt tt
+
+    boot_fine : (v : ReplacerVolatile) (counted : List ℕ) → Fine (boot_counted c me v counted)
+    boot_fine v counted = either_way Fine (nat_lt (length counted) (enough c)) _ _ tt tt
+
+    takes_fine : (v : ReplacerVolatile) (from : RoleId) (m : Msg) → Fine (replacer_takes c me d v from m)
+    takes_fine v from (msg.StopB b w es a s) =
+        either_way Fine (not (is_stopping v.mode && same_round b d.own && is_in from.index v.set)) _ _ tt
+        (either_way Fine (has_halted from.index v.halts) _ _ tt (halted_fine _))
+    takes_fine v from (msg.NextB b) =
+        either_way Fine (not (is_deciding v.mode && same_round b d.own)) _ _ tt
+        (either_way Fine (is_in from.index v.counted) _ _ tt (next_fine v (with_mark from.index v.counted)))
+    takes_fine v from (msg.BootB s) =
+        either_way Fine (not (is_booting v.mode && bytes_eq s v.next)) _ _ tt
+        (either_way Fine (is_in from.index v.counted) _ _ tt (boot_fine v (with_mark from.index v.counted)))
+    takes_fine v from (msg.StopNack b other) = either_way Fine (not (same_round b d.own) || is_resting v.mode || is_booting v.mode) _ _ tt tt
+    takes_fine v from (msg.Sets s) = either_way Fine (is_above s v.set) _ _ tt tt
+    takes_fine v from other = tt
+
+    ticks_fine : (v : ReplacerVolatile) (mode : Replacing) → Fine (tick_in c me d v mode)
+    ticks_fine v Idle = either_way Fine (is_above v.set (first_set c)) _ _ tt tt
+    ticks_fine v Stopping = tt
+    ticks_fine v Deciding = tt
+    ticks_fine v Booting = tt
+
+    row_fine : (v : ReplacerVolatile) (i : Input) → Fine (replacer_row c me d v i)
+    row_fine v (input.Take x) = either_way Fine (same_role x.to me && names c x) _ _ (takes_fine v x.from x.msg) tt
+    row_fine v input.Tick = ticks_fine v v.mode
+    row_fine v (input.Order order) = orders_fine v order
+
+pub replacer_lands : (c : Cluster) (history : List KeptRecord) (sent : List Letter) (states : RoleId → State) → Fitting c history sent states
+    → (x : ℕ) (v : ReplacerVolatile) → x < c.replacers → (i : Input)
+    → Lands (Fitting c) history sent states (role kind.Replacer x) ReplacerIn (replacer_row c (role kind.Replacer x) (durable_of replacer_rules (role kind.Replacer x) history) v i)
+replacer_lands c history sent states h x v place i =
+    let me = role kind.Replacer x in
+    let d = durable_of replacer_rules me history in
+    lands c history sent states h me ReplacerIn _ (new_fits replacer_rules c history me (λ r x. x) _ (row_fine c me place d v i)) tt
+    (calm_in me _ tt (replacer_kinds c me refl d v i))
