@@ -13,11 +13,12 @@ use Rattle.cx_model.specs.Member.{Member}
 use Rattle.cx_model.specs.Outcome.{Outcome}
 use Rattle.cx_model.specs.Proxy.{proxy_rules}
 use Rattle.cx_model.specs.Reader.{reader_rules}
+use Rattle.cx_model.specs.Replacer.{replacer_rules}
 use Rattle.cx_model.specs.Replica.{replica_rules}
 use Rattle.cx_model.specs.Unbatcher.{unbatcher_rules}
 use Rattle.cx_model.specs.World.{World, Turns, act_of, durable_part}
 use Rattle.cx_inv_run.specs.Kinds.{IsSender, OfKind}
-use Rattle.cx_inv_run.proofs.Senders.{batcher_kinds, leader_kinds, proxy_kinds, acceptor_kinds, matchmaker_kinds, replica_kinds, unbatcher_kinds, reader_kinds}
+use Rattle.cx_inv_run.proofs.Senders.{batcher_kinds, leader_kinds, proxy_kinds, acceptor_kinds, matchmaker_kinds, replica_kinds, unbatcher_kinds, reader_kinds, replacer_kinds}
 use Rattle.cx_inv_facts.proofs.Turns.{IsStill, by_turn}
 
 module _ (w : World) (act : Act) (me : RoleId) where
@@ -63,4 +64,8 @@ module _ (w : World) (act : Act) (me : RoleId) where
   act_kinds kind.Reader is =
       by_turn reader_rules w.cluster me w.kept w.roles.readers (λ t. SentAs kind.Reader t.sends) (nothing_sent _ _ kind.Reader) act
       (λ v i cut e a. of_kind kind.Reader _ is (reader_kinds w.cluster me is (durable_part reader_rules me w.kept) v i))
+      (λ v first e q. absurd cc)
+  act_kinds kind.Replacer is =
+      by_turn replacer_rules w.cluster me w.kept w.roles.replacers (λ t. SentAs kind.Replacer t.sends) (nothing_sent _ _ kind.Replacer) act
+      (λ v i cut e a. of_kind kind.Replacer _ is (replacer_kinds w.cluster me is (durable_part replacer_rules me w.kept) v i))
       (λ v first e q. absurd cc)

@@ -1,6 +1,6 @@
 -- Each step keeps what matchmakers' and acceptors' answers say, so they say it in every run.
-use Rattle.std.proofs.Common.{◌≡◌, ℕ, true, false, ◌&&◌, ◌⊎◌, List, ◌∷◌, sym, subst, refl, inl, inr, arith}
-use Rattle.std.specs.Prelude.{nat_le, nat_lt, length}
+use Rattle.std.proofs.Common.{◌≡◌, ℕ, true, false, ◌&&◌, ◌⊎◌, List, [], ◌∷◌, Option, None, Some, sym, subst, refl, inl, inr, arith}
+use Rattle.std.specs.Prelude.{bytes_eq, if◌then◌else◌, nat_le, nat_lt, length}
 use Rattle.std.specs.List.{list_any}
 use Rattle.std.proofs.lemmas.Bool.{and_parts}
 use Rattle.cx_base.specs.declared.cluster.Cluster.{Cluster}
@@ -10,6 +10,8 @@ use Rattle.cx_base.specs.declared.role.Kind.{Kind}
 use Rattle.cx_base.specs.declared.role.Kind.TheVariants as kind
 use Rattle.cx_base.specs.declared.role.RoleId.{RoleId}
 use Rattle.cx_base.specs.declared.round.Round.{Round}
+use Rattle.cx_base.specs.declared.why.Why.TheVariants as why
+use Rattle.cx_base.specs.Grid.{is_in}
 use Rattle.cx_base.specs.Role.{role, same_role}
 use Rattle.cx_base.specs.Round.{is_before, same_round, no_round}
 use Rattle.cx_field.specs.declared.parts.Entry.{Entry}
@@ -17,26 +19,28 @@ use Rattle.cx_msg.specs.Letter.{Letter}
 use Rattle.cx_msg.specs.declared.input.Input.{Input}
 use Rattle.cx_msg.specs.declared.input.Input.TheVariants as input
 use Rattle.cx_msg.specs.declared.input.KeptRecord.{KeptRecord}
+use Rattle.cx_msg.specs.declared.kept.Record.{Record}
 use Rattle.cx_msg.specs.declared.kept.Record.TheVariants as kept
 use Rattle.cx_msg.specs.declared.message.Msg.{Msg}
 use Rattle.cx_msg.specs.declared.message.Msg.TheVariants as msg
 use Rattle.cx_model.specs.Acceptor.{AcceptorDurable, acceptor_rules, acceptor_takes, acceptor_row, vote_at, is_of}
 use Rattle.cx_model.specs.Leader.{leader_rules}
-use Rattle.cx_model.specs.Matchmaker.{MatchmakerDurable, matchmaker_rules, matchmaker_takes, matchmaker_row, entry, entries_before, has_round}
+use Rattle.cx_model.specs.Matchmaker.{MatchmakerDurable, matchmaker_rules, matchmaker_takes, matchmaker_row, entry, entries_before, has_round, is_stopped, is_booted, set_of, in_set, at_work, match_a_row, garbage_a_row, match_read_row, stop_a_row, next_a_row, boot_in}
 use Rattle.cx_model.specs.Member.{Member}
 use Rattle.cx_model.specs.Names.{names}
-use Rattle.cx_model.specs.Outcome.{Outcome, by_test, either_way}
+use Rattle.cx_model.specs.Outcome.{Outcome, answered, by_test, either_way}
 use Rattle.cx_model.specs.Reader.{reader_rules}
+use Rattle.cx_model.specs.Replacer.{replacer_rules}
 use Rattle.cx_model.specs.Replica.{replica_rules}
 use Rattle.cx_model.specs.Request.{request}
 use Rattle.cx_model.specs.World.{run}
 use Rattle.cx_inv_run.specs.Kinds.{IsSender, OfKind}
 use Rattle.cx_inv_run.specs.Laws.{Lands, Laws}
-use Rattle.cx_inv_run.specs.States.{State, BatcherIn, LeaderIn, ProxyIn, ReplicaIn, ReaderIn, plain, entry_by, snap_by, with_record, durable_of, HoldsIn}
+use Rattle.cx_inv_run.specs.States.{State, BatcherIn, LeaderIn, ProxyIn, ReplicaIn, ReaderIn, ReplacerIn, plain, entry_by, snap_by, with_record, durable_of, HoldsIn}
 use Rattle.cx_inv_run.proofs.Histories.{kept_longer}
 use Rattle.cx_inv_run.proofs.Members.{Member-both, Member-one, filter-Member}
 use Rattle.cx_inv_run.proofs.Rounds.{before_cases, before-both, same_round-true}
-use Rattle.cx_inv_run.proofs.Senders.{batcher_kinds, leader_kinds, proxy_kinds, replica_kinds, unbatcher_kinds, reader_kinds}
+use Rattle.cx_inv_run.proofs.Senders.{batcher_kinds, leader_kinds, proxy_kinds, replica_kinds, unbatcher_kinds, reader_kinds, replacer_kinds}
 use Rattle.cx_inv_run.proofs.Steps.{always}
 use Rattle.cx_inv_match.specs.Facts.{Facts}
 use Rattle.cx_inv_match.specs.Words.{HasMark, HasPromise}
@@ -159,7 +163,7 @@ module _ (c : Cluster) (history : List KeptRecord) (sent : List Letter) (states 
   Answers o = (d : Letter) → Member d o.sends → AnswerSays (with_record matchmaker o.kept history) d.from d.msg
 
   entry_there : (log.watermark ≡ no_round) ⊎ HasEntry log.watermark log.entries
-  entry_there = elim (facts.logs matchmaker).raised [ inl x ↦ inl x.0 | inr x ↦ inr x.1 ]
+  entry_there = elim (facts.logs matchmaker).raised [ inl e ↦ inl e | inr x ↦ inr x.1 ]
 
   entry_before : (i : Round) → is_before i log.watermark ≡ false
       → (log.watermark ≡ no_round) ⊎ ((log.watermark ≡ i) ⊎ HasEntry log.watermark (entries_before i log.entries))
@@ -171,19 +175,45 @@ module _ (c : Cluster) (history : List KeptRecord) (sent : List Letter) (states 
       go x (inr (inl e)) = inl e
       go x (inr (inr l)) = absurd (before-both i log.watermark l from)
 
-  matchmaker_told : (from : RoleId) (x : Msg) → Answers (matchmaker_takes matchmaker log from x)
+  one_more : (r : Record) (x : Letter) → AnswerSays (entry_by matchmaker r ∷ history) x.from x.msg
+      → (d : Letter) → Member d (x ∷ []) → AnswerSays (entry_by matchmaker r ∷ history) d.from d.msg
+  one_more r x h = Member-one (λ (d : Letter). AnswerSays (entry_by matchmaker r ∷ history) d.from d.msg) x h
+
+  one : (x : Letter) → AnswerSays history x.from x.msg → (d : Letter) → Member d (x ∷ []) → AnswerSays history d.from d.msg
+  one x h = Member-one (λ (d : Letter). AnswerSays history d.from d.msg) x h
+
+  in_set_told : (o : Outcome (Unit {0})) → Answers o → Answers (in_set c matchmaker log o)
+  in_set_told o h = either_way Answers (is_booted c matchmaker log) _ _ h (λ d n. absurd n)
+
+  at_work_told : (o : Outcome (Unit {0})) → Answers o → Answers (at_work c matchmaker log o)
+  at_work_told o h =
+      in_set_told (if is_stopped log then answered why.Stopped tt else o) (either_way Answers (is_stopped log) _ _ (λ d n. absurd n) h)
+
+  begins_told : (from : RoleId) (s : List ℕ) (w : Round) (es : List Entry) (o : Option (List ℕ)) → Answers (boot_in matchmaker from s w es o)
+  begins_told from s w es None = one_more (kept.Boot s w es) _ tt
+  begins_told from s w es (Some t) = either_way Answers (bytes_eq s t) _ _ (one _ tt) (λ d n. absurd n)
+
+  matchmaker_told : (from : RoleId) (x : Msg) → Answers (matchmaker_takes c matchmaker log from x)
   matchmaker_told from (msg.MatchA i g) =
-      by_test Answers (is_before i log.watermark) _ _ (λ t. Member-one (λ (d : Letter). AnswerSays history d.from d.msg) _ tt)
-      (λ low. either_way Answers (list_any (λ (e : Entry). is_before i e.round) log.entries) _ _
-      (Member-one (λ (d : Letter). AnswerSays history d.from d.msg) _ tt)
-      (either_way Answers (has_round i log.entries) _ _ (Member-one (λ (d : Letter). AnswerSays history d.from d.msg) _ (entry_before i low))
-      (either_way Answers (nat_le 16 (length log.entries)) _ _ (Member-one (λ (d : Letter). AnswerSays history d.from d.msg) _ tt)
-      (Member-one (λ (d : Letter). AnswerSays (entry_by matchmaker (kept.Match i g) ∷ history) d.from d.msg) _ (entry_before i low)))))
+      at_work_told (match_a_row matchmaker log from i g)
+      (by_test Answers (is_before i log.watermark) _ _ (λ t. one _ tt)
+      (λ low. either_way Answers (list_any (λ (e : Entry). is_before i e.round) log.entries) _ _ (one _ tt)
+      (either_way Answers (has_round i log.entries) _ _ (one _ (entry_before i low))
+      (either_way Answers (nat_le 16 (length log.entries)) _ _ (one _ tt) (one_more (kept.Match i g) _ (entry_before i low))))))
   matchmaker_told from (msg.GarbageA i g) =
-      either_way Answers (is_before log.watermark i) _ _
-      (Member-one (λ (d : Letter). AnswerSays (entry_by matchmaker (kept.Garbage i g) ∷ history) d.from d.msg) _ tt)
-      (Member-one (λ (d : Letter). AnswerSays history d.from d.msg) _ tt)
-  matchmaker_told from (msg.MatchRead u) = Member-one (λ (d : Letter). AnswerSays history d.from d.msg) _ entry_there
+      at_work_told (garbage_a_row matchmaker log from i g)
+      (either_way Answers (is_before log.watermark i) _ _ (one_more (kept.Garbage i g) _ tt) (one _ tt))
+  matchmaker_told from (msg.MatchRead u) = at_work_told (match_read_row matchmaker log from u) (one _ entry_there)
+  matchmaker_told from (msg.StopA b) =
+      in_set_told (stop_a_row matchmaker log from b)
+      (either_way Answers (is_before b log.ballot) _ _ (one _ tt)
+      (either_way Answers (same_round b log.ballot) _ _ (one _ tt) (one_more (kept.Stop b) _ tt)))
+  matchmaker_told from (msg.NextA b s) =
+      in_set_told (next_a_row matchmaker log from b s)
+      (either_way Answers (is_before b log.ballot) _ _ (one _ tt)
+      (either_way Answers (same_round b log.accepted) _ _ (one _ tt) (one_more (kept.Next b s) _ tt)))
+  matchmaker_told from (msg.BootA s w es) =
+      either_way Answers (is_in m s) _ _ (begins_told from s w es (set_of c matchmaker log.booted)) (λ d n. absurd n)
   matchmaker_told from other = λ d n. absurd n
 
   matchmaker_row-told : (i : Input) → Answers (matchmaker_row c matchmaker log tt i)
@@ -219,6 +249,8 @@ answer_laws c = record {
       calm history sent states h (role kind.Unbatcher u) plain _ tt (unbatcher_kinds c (role kind.Unbatcher u) refl i);
   reader = λ history sent states r v i facts h is given.
       calm history sent states h (role kind.Reader r) ReaderIn _ tt (reader_kinds c (role kind.Reader r) refl (durable_of reader_rules (role kind.Reader r) history) v i);
+  replacer = λ history sent states x v i facts h is given.
+      calm history sent states h (role kind.Replacer x) ReplacerIn _ tt (replacer_kinds c (role kind.Replacer x) refl (durable_of replacer_rules (role kind.Replacer x) history) v i);
 }
 
 pub answers_say : (c : Cluster) (es : List Event) → HoldsIn AnswersSay (run c es)

@@ -29,16 +29,17 @@ use Rattle.cx_model.specs.Member.{Member}
 use Rattle.cx_model.specs.Outcome.{Outcome}
 use Rattle.cx_model.specs.Promises.{HasKept, IsConfig}
 use Rattle.cx_model.specs.Reader.{reader_rules}
+use Rattle.cx_model.specs.Replacer.{replacer_rules}
 use Rattle.cx_model.specs.Replica.{replica_rules}
 use Rattle.cx_model.specs.Request.{request}
 use Rattle.cx_inv_run.specs.Kinds.{IsSender, IsKept, OfKind}
 use Rattle.cx_inv_run.specs.Laws.{Lands, Laws}
-use Rattle.cx_inv_run.specs.States.{State, Down, BatcherIn, LeaderIn, ProxyIn, ReplicaIn, ReaderIn, plain, fresh_state, set_state, entry_by, snap_by, with_record, durable_of, Given}
+use Rattle.cx_inv_run.specs.States.{State, Down, BatcherIn, LeaderIn, ProxyIn, ReplicaIn, ReaderIn, ReplacerIn, plain, fresh_state, set_state, entry_by, snap_by, with_record, durable_of, Given}
 use Rattle.cx_inv_run.proofs.Histories.{durable_own, durable_other, set_running, kept_longer}
 use Rattle.cx_inv_run.proofs.Members.{Member-first, Member-one}
 use Rattle.cx_inv_run.proofs.Rounds.{before-itself}
 use Rattle.cx_inv_run.proofs.Snaps.{snap_same}
-use Rattle.cx_inv_run.proofs.Senders.{batcher_kinds, leader_kinds, proxy_kinds, acceptor_kinds, matchmaker_kinds, replica_kinds, unbatcher_kinds, reader_kinds}
+use Rattle.cx_inv_run.proofs.Senders.{batcher_kinds, leader_kinds, proxy_kinds, acceptor_kinds, matchmaker_kinds, replica_kinds, unbatcher_kinds, reader_kinds, replacer_kinds}
 use Rattle.cx_inv_match.specs.Facts.{InState}
 use Rattle.cx_inv_match.specs.Words.{IsChosenIn}
 use Rattle.cx_inv_vote.proofs.Leaders.{leader_lands}
@@ -177,7 +178,7 @@ module _ (i : Round) (cw end : ℕ) where
           let owner : me ≡ role kind.Leader k.id = after.owner me k h (inl refl) in
           let same : config.0 ≡ me = known.facts.owner config.0 i g (known.has _ config.1) ∙ ap (λ (x : Round). role kind.Leader x.id)
           (sym p) ∙ sym owner in
-          before-itself i (subst (λ x. is_before i x ≡ true) p (next i g (subst (λ a. HasKept history a (kept.Round i g)) same (known.has _ config.1))))
+          before-itself i (subst (λ x. is_before i x ≡ true) p (next.1 i g (subst (λ a. HasKept history a (kept.Round i g)) same (known.has _ config.1))))
       not_again r s e p = cc
 
       knows : InState c history sent me (LeaderIn v)
@@ -254,4 +255,6 @@ module _ (i : Round) (cw end : ℕ) where
           calm history sent states (h known.has) (role kind.Unbatcher u) plain _ (λ p. cc) (unbatcher_kinds c (role kind.Unbatcher u) refl j) tt;
       reader = λ history sent states r v j known h at given.
           calm history sent states (h known.has) (role kind.Reader r) ReaderIn _ (λ p. cc) (reader_kinds c (role kind.Reader r) refl (durable_of reader_rules (role kind.Reader r) history) v j) tt;
+      replacer = λ history sent states x v j known h at given.
+          calm history sent states (h known.has) (role kind.Replacer x) ReplacerIn _ (λ p. cc) (replacer_kinds c (role kind.Replacer x) refl (durable_of replacer_rules (role kind.Replacer x) history) v j) tt;
     }

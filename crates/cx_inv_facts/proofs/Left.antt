@@ -23,16 +23,17 @@ use Rattle.cx_model.specs.Member.{Member}
 use Rattle.cx_model.specs.Outcome.{Outcome}
 use Rattle.cx_model.specs.Promises.{HasKept}
 use Rattle.cx_model.specs.Reader.{reader_rules}
+use Rattle.cx_model.specs.Replacer.{replacer_rules}
 use Rattle.cx_model.specs.Replica.{replica_rules}
 use Rattle.cx_model.specs.Request.{request}
 use Rattle.cx_model.specs.World.{World, run}
 use Rattle.cx_inv_run.specs.Kinds.{OfKind}
 use Rattle.cx_inv_run.specs.Laws.{Lands, Laws, HoldsAlong}
-use Rattle.cx_inv_run.specs.States.{State, BatcherIn, LeaderIn, ProxyIn, ReplicaIn, ReaderIn, plain, durable_of, HoldsIn}
+use Rattle.cx_inv_run.specs.States.{State, BatcherIn, LeaderIn, ProxyIn, ReplicaIn, ReaderIn, ReplacerIn, plain, durable_of, HoldsIn}
 use Rattle.cx_inv_run.proofs.KindLaws.{kinds_hold}
 use Rattle.cx_inv_run.proofs.Members.{Member-second}
 use Rattle.cx_inv_run.proofs.Rounds.{before-both}
-use Rattle.cx_inv_run.proofs.Senders.{batcher_kinds, proxy_kinds, acceptor_kinds, matchmaker_kinds, replica_kinds, unbatcher_kinds, reader_kinds}
+use Rattle.cx_inv_run.proofs.Senders.{batcher_kinds, proxy_kinds, acceptor_kinds, matchmaker_kinds, replica_kinds, unbatcher_kinds, reader_kinds, replacer_kinds}
 use Rattle.cx_inv_run.proofs.Steps.{run_append, run_cluster, run_from_keeps, all_allowed}
 use Rattle.cx_inv_match.specs.Facts.{IsLast}
 use Rattle.cx_inv_match.specs.Words.{IsLeft}
@@ -62,6 +63,7 @@ request_proposes n (event.Session client seq floor replica key) j s v (from, to,
 request_proposes n (event.Deliver number cut) j s v x = x.4
 request_proposes n (event.Tick r) j s v x = x.4
 request_proposes n (event.Order leader order cut) j s v x = x.4
+request_proposes n (event.Replace replacer set cut) j s v x = x.4
 request_proposes n (event.Crash r) j s v x = x.4
 request_proposes n (event.Snap replica cut) j s v x = x.4
 request_proposes n (event.Restart r) j s v x = x.4
@@ -128,6 +130,8 @@ module _ (past : List KeptRecord) (told : List Letter) where
         calm history sent states h (role kind.Unbatcher u) plain _ (λ p. cc) (unbatcher_kinds c (role kind.Unbatcher u) refl i);
     reader = λ history sent states r v i known h at given.
         calm history sent states h (role kind.Reader r) ReaderIn _ (λ p. cc) (reader_kinds c (role kind.Reader r) refl (durable_of reader_rules (role kind.Reader r) history) v i);
+    replacer = λ history sent states x v i known h at given.
+        calm history sent states h (role kind.Replacer x) ReplacerIn _ (λ p. cc) (replacer_kinds c (role kind.Replacer x) refl (durable_of replacer_rules (role kind.Replacer x) history) v i);
   }
 
 -- the records of a run are among those of each longer one

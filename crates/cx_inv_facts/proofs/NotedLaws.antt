@@ -8,13 +8,16 @@ use Rattle.cx_base.specs.declared.role.RoleId.{RoleId}
 use Rattle.cx_base.specs.declared.round.Round.{Round}
 use Rattle.cx_base.specs.Grid.{Shape}
 use Rattle.cx_base.specs.Role.{role, same_role}
+use Rattle.cx_base.specs.Round.{same_round}
+use Rattle.cx_field.specs.declared.parts.Entry.{Entry}
 use Rattle.cx_msg.specs.Letter.{Letter}
 use Rattle.cx_msg.specs.declared.input.Input.{Input}
 use Rattle.cx_msg.specs.declared.input.KeptRecord.{KeptRecord}
 use Rattle.cx_msg.specs.declared.kept.Record.{Record}
 use Rattle.cx_msg.specs.declared.kept.Record.TheVariants as kept
-use Rattle.cx_model.specs.Facts.{has_matched, is_match_of}
+use Rattle.cx_model.specs.Facts.{HasRound, has_recorded, is_round_in}
 use Rattle.cx_model.specs.Leader.{LeaderDurable, LeaderVolatile, leader_rules, leader_row, round_of}
+use Rattle.cx_model.specs.Matchmaker.{entry}
 use Rattle.cx_model.specs.Member.{Member}
 use Rattle.cx_model.specs.Outcome.{Outcome}
 use Rattle.cx_model.specs.Promises.{HasKept, IsConfig}
@@ -22,7 +25,7 @@ use Rattle.cx_model.specs.Proxy.{ProxyVolatile, proxy_row}
 use Rattle.cx_model.specs.Request.{request}
 use Rattle.cx_model.specs.World.{World, run, records_of}
 use Rattle.cx_inv_run.specs.Laws.{Lands, Laws}
-use Rattle.cx_inv_run.specs.States.{State, Down, BatcherIn, LeaderIn, ProxyIn, ReplicaIn, ReaderIn, plain, state_found, fresh_state, set_state, snap_by, with_record, durable_of, Given, HoldsIn}
+use Rattle.cx_inv_run.specs.States.{State, Down, BatcherIn, LeaderIn, ProxyIn, ReplicaIn, ReaderIn, ReplacerIn, plain, state_found, fresh_state, set_state, snap_by, with_record, durable_of, Given, HoldsIn}
 use Rattle.cx_inv_run.proofs.Histories.{durable_by_time, durable_other, set_running}
 use Rattle.cx_inv_run.proofs.KindLaws.{kinds_hold}
 use Rattle.cx_inv_run.proofs.Members.{Member-first, any-Member}
@@ -172,6 +175,7 @@ module _ (c : Cluster) where
         ((snap_same history known.kinds.keepers p first).leaders me) (states me) (h me);
     unbatcher = λ history sent states u j known h at given. landed history sent states h (role kind.Unbatcher u) plain _ tt;
     reader = λ history sent states r v j known h at given. landed history sent states h (role kind.Reader r) ReaderIn _ tt;
+    replacer = λ history sent states x v j known h at given. landed history sent states h (role kind.Replacer x) ReplacerIn _ tt;
   }
 
   all_noted : (es : List Event) → HoldsIn AreNoted (run c es)
@@ -199,22 +203,30 @@ module _ (c : Cluster) (es : List Event) where
   facts : HoldsIn (Facts c) w
   facts = facts_hold c es
 
-  -- a record of a match is of its own round
-  match_round : (i : Round) (r : Record) → is_match_of i r ≡ true → (g : Shape) × (r ≡ kept.Match i g)
-  match_round i (kept.Match j g) t = let e = same_round-true j i t in (g, ap (λ k. kept.Match k g) e)
-  match_round i r t = cc
+  -- by a record that gives a round a matchmaker has it
+  has_by : (m : ℕ) (i : Round) (r : Record) → is_round_in i r ≡ true → HasKept history (role kind.Matchmaker m) r
+      → (g : Shape) × HasRound history (role kind.Matchmaker m) i g
+  has_by m i (kept.Match j g) t x = (g, inl (subst (λ k. HasKept history (role kind.Matchmaker m) (kept.Match k g)) (same_round-true j i t) x))
+  has_by m i (kept.Boot s v es) t x =
+      let y = any-Member (λ (z : Entry). same_round z.round i) es t in
+      ((y.0).grid, inr (s, v, es, x, subst (λ (k : Round). Member (entry k (y.0).grid) es) (same_round-true (y.0).round i y.2) y.1))
+  has_by m i r t x = cc
 
-  recorded_own : (m : ℕ) (i : Round) (g : Shape) → has_matched history m i ≡ true → IsConfig history i g
-      → HasKept history (role kind.Matchmaker m) (kept.Match i g)
-  recorded_own m i g matched config =
+  -- and each round that it has was begun with that grid
+  had_config : (who : RoleId) (i : Round) (g : Shape) → HasRound history who i g → IsConfig (reverse history) i g
+  had_config who i g (inl x) = facts.asked who i g (to_turned history who (kept.Match i g) x)
+  had_config who i g (inr x) =
+      ((facts.sets.booted who x.0 x.1 x.2 (to_turned history who (kept.Boot x.0 x.1 x.2) x.3)).1.join.only (entry i g) x.4).0
+
+  recorded_own : (m : ℕ) (i : Round) (g : Shape) → has_recorded history m i ≡ true → IsConfig history i g
+      → HasRound history (role kind.Matchmaker m) i g
+  recorded_own m i g recorded config =
       let who = role kind.Matchmaker m in
-      let r = any-Member (λ x. is_match_of i x) (records_of who history) matched in
-      let x = match_round i r.0 r.2 in
-      let has = of_records who history (kept.Match i x.0) (subst (λ y. Member y (records_of who history)) x.1 r.1) in
+      let r = any-Member (λ x. is_round_in i x) (records_of who history) recorded in
+      let x = has_by m i r.0 r.2 (of_records who history r.0 r.1) in
       let same : x.0 ≡ g =
-      facts.one_grid i x.0 g (facts.asked who i x.0 (to_turned history who (kept.Match i x.0) has))
-      (config.0, to_turned history config.0 (kept.Round i g) config.1) in
-      subst (λ k. HasKept history who (kept.Match i k)) same has
+      facts.one_grid i x.0 g (had_config who i x.0 x.1) (config.0, to_turned history config.0 (kept.Round i g) config.1) in
+      subst (λ k. HasRound history who i k) same x.1
 
   pub order_facts : OrderFacts c es
   order_facts = record { own_grid = recorded_own; finished_before = λ e from to i g m. retires_after c es e _ m i g refl }

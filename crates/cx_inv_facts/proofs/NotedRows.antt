@@ -9,7 +9,7 @@ use Rattle.cx_base.specs.declared.command.Placed.{Placed}
 use Rattle.cx_base.specs.declared.command.Value.{Value}
 use Rattle.cx_base.specs.declared.command.Value.TheVariants.{Noop, Batch}
 use Rattle.cx_base.specs.declared.event.Order.{Order as OrderOf}
-use Rattle.cx_base.specs.declared.event.Order.TheVariants.{Lead, Change, Collect}
+use Rattle.cx_base.specs.declared.event.Order.TheVariants.{Lead, Change, Collect, Replace}
 use Rattle.cx_base.specs.declared.role.Kind.TheVariants as kind
 use Rattle.cx_base.specs.declared.role.RoleId.{RoleId}
 use Rattle.cx_base.specs.declared.round.Round.{Round}
@@ -18,6 +18,7 @@ use Rattle.cx_base.specs.declared.why.Why.TheVariants as why
 use Rattle.cx_base.specs.Grid.{Shape, is_in}
 use Rattle.cx_base.specs.Role.{role, same_role}
 use Rattle.cx_base.specs.Round.{is_before, same_round, no_round, lead_after, change_after}
+use Rattle.cx_base.specs.Sets.{is_above}
 use Rattle.cx_field.specs.declared.parts.Entry.{Entry}
 use Rattle.cx_field.specs.declared.parts.Vote.{Vote}
 use Rattle.cx_grid.specs.Quorum.{column_whole, with_mark}
@@ -35,7 +36,7 @@ use Rattle.cx_model.specs.declared.states.Promised.{Promised}
 use Rattle.cx_model.specs.declared.states.Stage.TheVariants.{Collecting, Retired}
 use Rattle.cx_model.specs.Collection.{Collection, collection_from, with_informed, with_forgotten, is_off, is_informing, is_collecting, is_retired}
 use Rattle.cx_model.specs.Facts.{LeaderWasTold}
-use Rattle.cx_model.specs.Leader.{LeaderDurable, LeaderVolatile, round_of, is_own, is_idle, is_matching, is_promising, is_leading, begin_in, finish, is_changed, matched_by, match_counted, promise_counted, with_seen, propose_in, collect_in, informed_counted, informed_in, forgotten_counted, is_past_window, is_settled, reaching, greatest_of, held_by, raised_to, leader_takes, tick_in, order_row, leader_row, has_no_room}
+use Rattle.cx_model.specs.Leader.{LeaderDurable, LeaderVolatile, round_of, is_own, is_idle, is_matching, is_promising, is_leading, begin_in, finish, is_changed, matched_by, match_counted, promise_counted, with_seen, propose_in, collect_in, informed_counted, informed_in, forgotten_counted, is_past_window, is_settled, reaching, greatest_of, held_by, raised_to, set_learnt, leader_takes, tick_in, order_row, leader_row, has_no_room}
 use Rattle.cx_model.specs.Matched.{enough, is_counted, live_entries, is_member_of, rows_whole}
 use Rattle.cx_model.specs.Member.{Member}
 use Rattle.cx_model.specs.Names.{names, names_grid}
@@ -310,16 +311,35 @@ module _ (c : Cluster) (history : List KeptRecord) (sent : List Letter) (states 
         | inr o ↦ told.forgotten n collecting o
       ]
 
+  -- it learns a set
+
+  known_as : (s : List ℕ) (told : List MatchAnswer) → Noted (record v { set = s; told = told })
+  known_as s told = record { seen = notes.seen; proposed = notes.proposed; cw = notes.cw; once = notes.once; retired = notes.retired }
+
+  learnt : (s : List ℕ) (m : Mode) (o : Option Entry) → NotesOn (set_learnt me (record v { set = s }) m o)
+  learnt s Matching (Some own) = goes_on why.Learnt (record v { set = s; told = [] }) _ (known_as s [])
+  learnt s Leading (Some own) =
+      by_test NotesOn (is_collecting v.collection.stage) _ _
+      (λ t. goes_on why.Learnt (record v { set = s; collection = record v.collection { counted = [] } }) _ record {
+        seen = notes.seen;
+        proposed = notes.proposed;
+        cw = notes.cw;
+        once = tt;
+        retired = λ r. absurd (true≢false (sym r ∙ ap is_retired (is_collecting-stage v.collection.stage t)));
+      })
+      (λ f. goes_on why.Learnt (record v { set = s }) [] (known_as s v.told))
+  learnt s m o = goes_on why.Learnt (record v { set = s }) [] (known_as s v.told)
+
   -- by the input
 
   took : (from : RoleId) (m : Msg) → Member (letter from me m) sent → NotesOn (leader_takes c me d v from m)
   took from (msg.MatchB j w es) is_sent =
-      either_way NotesOn (not (is_matching v.mode && is_own d j)) _ _ (stays why.Old)
+      either_way NotesOn (not (is_matching v.mode && is_own d j && is_in from.index v.set)) _ _ (stays why.Old)
       (either_way NotesOn (is_counted from.index v.told) _ _ (stays why.Same)
       (answers_counted d.own _ (alike v.mode _ v.promises v.next v.end v.chosen) old_told))
   took from (msg.MatchNack j reason other) is_sent =
       let named : IsNamed sent me other = inr (j, reason, (from, is_sent)) in
-      either_way NotesOn (is_idle v.mode || not (is_own d j)) _ _ (goes_on why.Old _ [] (heard v.mode other named))
+      either_way NotesOn (is_idle v.mode || not (is_own d j) || not (is_in from.index v.set)) _ _ (goes_on why.Old _ [] (heard v.mode other named))
       (either_way NotesOn (has_no_room reason) _ _ (goes_on why.Full _ [] (heard v.mode other named)) (goes_on why.Nacked _ [] (heard Idle other named)))
   took from (msg.Phase1B j low votes) is_sent =
       either_way NotesOn (not (is_promising v.mode && is_own d j)) _ _ (stays why.Old)
@@ -352,13 +372,15 @@ module _ (c : Cluster) (history : List KeptRecord) (sent : List Letter) (states 
       (λ f. let p = and_parts (is_leading v.mode && is_own d j && is_informing v.collection.stage) (nat_le v.collection.mark n) (not-false _ f) in
       informed_by from (and_parts (is_leading v.mode && is_own d j) (is_informing v.collection.stage) p.0).1 d.own)
   took from (msg.GarbageB j) is_sent =
-      by_test NotesOn (not (is_leading v.mode && is_own d j && is_collecting v.collection.stage)) _ _ (λ t. stays why.Old)
-      (λ f. let p = and_parts (is_leading v.mode && is_own d j) (is_collecting v.collection.stage) (not-false _ f) in
+      by_test NotesOn (not (is_leading v.mode && is_own d j && is_collecting v.collection.stage && is_in from.index v.set)) _ _ (λ t. stays why.Old)
+      (λ f. let o = and_parts (is_leading v.mode && is_own d j && is_collecting v.collection.stage) (is_in from.index v.set) (not-false _ f) in
+      let p = and_parts (is_leading v.mode && is_own d j) (is_collecting v.collection.stage) o.0 in
       let q = and_parts (is_leading v.mode) (is_own d j) p.0 in
       by_test NotesOn (is_in from.index v.collection.counted) _ _ (λ t. stays why.Same)
       (λ g. forgotten from.index p.1 g
       (subst (λ r. Member (letter (role kind.Matchmaker from.index) me (msg.GarbageB r)) sent) (same_round-true j (round_of d.own) q.1)
       (subst (λ k. Member (letter (role k from.index) me (msg.GarbageB j)) sent) (kinds.senders _ is_sent) is_sent))))
+  took from (msg.Sets s) is_sent = either_way NotesOn (is_above s v.set) _ _ (learnt s v.mode d.own) (stays why.Old)
   took from other is_sent = stays why.Stranger
 
   ticked : (m : Mode) → (o : Option Entry) → NotesOn (tick_in c me v m o)
@@ -374,6 +396,7 @@ module _ (c : Cluster) (history : List KeptRecord) (sent : List Letter) (states 
       either_way NotesOn (not (names_grid c g)) _ _ (stays why.Stranger)
       (either_way NotesOn (not (is_leading v.mode)) _ _ (stays why.Idle) (begun g (change_after (round_of d.own))))
   ordered Collect = either_way NotesOn (is_leading v.mode) _ _ (collection_begun d.own) (stays why.Idle)
+  ordered (Replace s) = stays why.Stranger
 
   pub notes_on : (j : Input) → Given sent me j → NotesOn (leader_row c me d v j)
   notes_on (Take x) given =

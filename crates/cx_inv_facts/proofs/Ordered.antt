@@ -17,7 +17,7 @@ use Rattle.cx_model.specs.Replica.{replica_rules}
 use Rattle.cx_model.specs.World.{run}
 use Rattle.cx_inv_run.specs.Kinds.{OfKind}
 use Rattle.cx_inv_run.specs.Laws.{Lands, Laws}
-use Rattle.cx_inv_run.specs.States.{State, BatcherIn, LeaderIn, ProxyIn, ReplicaIn, ReaderIn, plain, entry_by, with_record, durable_of, HoldsIn}
+use Rattle.cx_inv_run.specs.States.{State, BatcherIn, LeaderIn, ProxyIn, ReplicaIn, ReaderIn, ReplacerIn, plain, entry_by, with_record, durable_of, HoldsIn}
 use Rattle.cx_inv_run.proofs.Senders.{batcher_kinds, proxy_kinds, replica_kinds, unbatcher_kinds, reader_kinds}
 use Rattle.cx_inv_run.proofs.Steps.{always}
 use Rattle.cx_inv_match.specs.Facts.{Facts}
@@ -25,6 +25,7 @@ use Rattle.cx_inv_vote.proofs.Steps.{facts_hold}
 use Rattle.cx_inv_facts.specs.Order.{Each, IsLaterChange, LaterOfOne, Ordered}
 use Rattle.cx_inv_facts.proofs.LeaderRows.{leader_next}
 use Rattle.cx_inv_facts.proofs.Next.{IsNext, AllNext, KeepsNoRounds, is_later, no_rounds, acceptor_next, matchmaker_next}
+use Rattle.cx_inv_facts.proofs.Replacers.{replacer_next}
 
 module _ (history : List KeptRecord) (sent : List Letter) (states : RoleId → State) (h : Ordered history sent states) (me : RoleId) where
   one_more : (r : Record) → IsNext history me r → Each LaterOfOne (entry_by me r ∷ history)
@@ -77,6 +78,8 @@ ordered_laws c = record {
       calm history sent states h (role kind.Unbatcher u) plain _ tt (unbatcher_kinds c (role kind.Unbatcher u) refl i);
   reader = λ history sent states r v i facts h is given.
       calm history sent states h (role kind.Reader r) ReaderIn _ tt (reader_kinds c (role kind.Reader r) refl (durable_of reader_rules (role kind.Reader r) history) v i);
+  replacer = λ history sent states x v i facts h is given.
+      in_order history sent states h (role kind.Replacer x) ReplacerIn _ _ refl (replacer_next c history sent states facts x v i);
 }
 
 pub ordered : (c : Cluster) (es : List Event) → HoldsIn Ordered (run c es)

@@ -16,15 +16,14 @@ use Rattle.cx_base.specs.Round.{no_round}
 use Rattle.cx_field.specs.declared.parts.NackReason.{NackReason}
 use Rattle.cx_field.specs.declared.parts.Vote.{Vote}
 use Rattle.cx_msg.specs.Letter.{Letter, letter}
-use Rattle.cx_msg.specs.declared.kept.Record.TheVariants as kept
 use Rattle.cx_msg.specs.declared.message.Msg.{Msg}
 use Rattle.cx_msg.specs.declared.message.Msg.TheVariants as msg
 use Rattle.cx_model.specs.Collection.{is_retired}
-use Rattle.cx_model.specs.Facts.{IsFinished, has_matched, round_in}
+use Rattle.cx_model.specs.Facts.{HasRound, IsFinished, has_recorded, round_in}
 use Rattle.cx_model.specs.Leader.{LeaderVolatile, reaching}
 use Rattle.cx_model.specs.Matched.{enough}
 use Rattle.cx_model.specs.Member.{Member}
-use Rattle.cx_model.specs.Promises.{HasKept, IsConfig}
+use Rattle.cx_model.specs.Promises.{IsConfig}
 use Rattle.cx_model.specs.Proxy.{ProxyVolatile}
 use Rattle.cx_model.specs.World.{World, change, run}
 use Rattle.cx_inv_match.specs.Facts.{AreOnce}
@@ -78,10 +77,10 @@ pub record SourceFacts (c : Cluster) (w : World) : Type 0 where
       → LeaderNotes c w.sent (role kind.Leader l) (round_in w.kept (role kind.Leader l)) v
   pub proxies : (p : ℕ) (v : ProxyVolatile) → slice_get w.roles.proxies p ≡ Some (Some v) → ProxyNotes w.sent (role kind.Proxy p) v
 
--- Order: a matchmaker that counts as a recorder of a round recorded it with the round's own grid; and whoever asks matchmakers to forget the
+-- Order: a matchmaker that counts as a recorder of a round has it with the round's own grid; and whoever asks matchmakers to forget the
 -- rounds below one had finished that round before.
 pub record OrderFacts (c : Cluster) (es : List Event) : Type 0 where
-  pub own_grid : (m : ℕ) (i : Round) (g : Shape) → has_matched (run c es).kept m i ≡ true → IsConfig (run c es).kept i g
-      → HasKept (run c es).kept (role kind.Matchmaker m) (kept.Match i g)
+  pub own_grid : (m : ℕ) (i : Round) (g : Shape) → has_recorded (run c es).kept m i ≡ true → IsConfig (run c es).kept i g
+      → HasRound (run c es).kept (role kind.Matchmaker m) i g
   pub finished_before : (e : Event) (from to : RoleId) (i : Round) (g : Shape) → Member (letter from to (msg.GarbageA i g)) (change (run c es) e).sends
       → (cw : ℕ) × (end : ℕ) × IsFinished c es i cw end

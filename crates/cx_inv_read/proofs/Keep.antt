@@ -1,5 +1,5 @@
 -- The facts on a read after a step: what was said stays so, and what a row sends and leaves is added.
-use Rattle.std.proofs.Common.{◌≡◌, ℕ, Bool, true, false, ◌&&◌, ◌⊎◌, List, ◌∷◌, ◌++◌, inl, inr, ap, sym, subst, ◌∙◌}
+use Rattle.std.proofs.Common.{◌≡◌, ℕ, Bool, true, false, ◌&&◌, ◌⊎◌, List, ◌∷◌, ◌++◌, Option, None, Some, inl, inr, ap, sym, subst, ◌∙◌}
 use Rattle.std.specs.List.{list_any}
 use Rattle.std.proofs.lemmas.Bool.{true≢false, and_parts, and_from, cases_Bool}
 use Rattle.cx_base.specs.declared.cluster.Cluster.{Cluster}
@@ -17,16 +17,17 @@ use Rattle.cx_msg.specs.declared.message.Msg.TheVariants as msg
 use Rattle.cx_model.specs.Lists.{number_itself}
 use Rattle.cx_model.specs.Member.{Member}
 use Rattle.cx_model.specs.Outcome.{Outcome}
-use Rattle.cx_model.specs.Reader.{same_asking}
+use Rattle.cx_model.specs.Reader.{Batch, same_asking}
 use Rattle.cx_inv_run.specs.Kinds.{OfKind}
 use Rattle.cx_inv_run.specs.Laws.{Lands}
-use Rattle.cx_inv_run.specs.States.{State, Down, entry_by, with_record}
+use Rattle.cx_inv_run.specs.States.{State, Down, ReaderIn, entry_by, with_record}
 use Rattle.cx_inv_run.proofs.Members.{Member-cases, Member-first, Member-both, Member-any, any-Member}
 use Rattle.cx_inv_run.proofs.Histories.{kept_longer, set_running}
 use Rattle.cx_inv_run.proofs.Rounds.{same_round-true, same_round-itself}
 use Rattle.cx_inv_match.specs.Facts.{Facts}
+use Rattle.cx_inv_match.proofs.Grow.{more_nth}
 use Rattle.cx_inv_vote.proofs.Readers.{same_asking-true}
-use Rattle.cx_inv_read.specs.Reads.{Has, HasSent, Covers, IsRaised, IsReadAnswer, IsNew, ReadSays, IsAcked, HasEvidence, InReader, Reads}
+use Rattle.cx_inv_read.specs.Reads.{Has, HasSent, Covers, IsRaised, IsReadAnswer, IsNew, ReadSays, IsAcked, HasEvidence, HasBatch, InReader, Reads}
 use Rattle.cx_inv_read.proofs.Rows.{Each}
 
 -- from the asking on
@@ -43,20 +44,22 @@ module _ (history longer : List KeptRecord) (more : Has longer history) where
   pub still_raised : (w : Round) → IsRaised history w → IsRaised longer w
   still_raised w h = elim h [ inl e ↦ inl e | inr x ↦ inr (x.0, x.1, more _ x.2) ]
 
-  still_answer : (asked : List KeptRecord) (m : RoleId) (w : Round) (es : List Entry) → IsReadAnswer asked history m w es → IsReadAnswer asked longer m w es
-  still_answer asked m w es h = record {
+  still_answer : (c : Cluster) (asked : List KeptRecord) (m : RoleId) (w : Round) (es : List Entry) → IsReadAnswer c asked history m w es → IsReadAnswer c asked longer m w es
+  still_answer c asked m w es h = record {
+    running = h.running;
     all = h.all;
+    began = elim h.began [ inl x ↦ inl x | inr x ↦ inr (x.0, x.1, x.2, more _ x.3, x.4, x.5) ];
     only = λ e k. let x = h.only e k in (x.0, more _ x.1);
     raised = still_raised w h.raised;
     has_watermark = h.has_watermark;
   }
 
-  pub still_says : (asked : List KeptRecord) (t : Token) (from to : RoleId) (m : Msg) → ReadSays asked t history from to m → ReadSays asked t longer from to m
-  still_says asked t from to (msg.MatchReadAck u w es) h = λ e. still_answer asked from w es (h e)
-  still_says asked t from to (msg.PreRead u w) h = λ e. still_raised w (h e)
-  still_says asked t from to (msg.PreReadAck u w n) h = λ e. let x = h e in (x.0, still_raised w x.1)
-  still_says asked t from to (msg.Read u n key) h = h
-  still_says asked t from to other h = tt
+  pub still_says : (c : Cluster) (asked : List KeptRecord) (t : Token) (from to : RoleId) (m : Msg) → ReadSays c asked t history from to m → ReadSays c asked t longer from to m
+  still_says c asked t from to (msg.MatchReadAck u w es) h = λ e. still_answer c asked from w es (h e)
+  still_says c asked t from to (msg.PreRead u w) h = λ e. still_raised w (h e)
+  still_says c asked t from to (msg.PreReadAck u w n) h = λ e. let x = h e in (x.0, still_raised w x.1)
+  still_says c asked t from to (msg.Read u n key) h = h
+  still_says c asked t from to other h = tt
 
   pub still_evidence : (c : Cluster) (asked : List KeptRecord) (sent0 : List Letter) (u : Asking) (sent : List Letter) (w : Round) → HasEvidence c asked sent0 u history sent w
       → HasEvidence c asked sent0 u longer sent w
@@ -68,9 +71,25 @@ module _ (history longer : List KeptRecord) (more : Has longer history) where
     within = λ r m. more r (k.within r m);
     longer = k.longer;
     wider = k.wider;
+    sets = k.sets;
     collected = k.collected;
     covers = k.covers;
   }))
+
+  pub still_batch : (c : Cluster) (asked : List KeptRecord) (t : Token) (a : RoleId) (s : List ℕ) (o : Option Batch) → HasBatch c asked t history a s o → HasBatch c asked t longer a s o
+  still_batch c asked t a s None h = tt
+  still_batch c asked t a s (Some b) h = record {
+    set = h.set;
+    set_known = (h.set_known.0, more_nth c history longer more h.set_known.0 h.set h.set_known.1);
+    once = h.once;
+    known = h.known;
+    asking = h.asking;
+    under = h.under;
+  }
+
+  pub still_reader : (c : Cluster) (asked : List KeptRecord) (t : Token) (a : RoleId) (st : State) → InReader c asked t history a st → InReader c asked t longer a st
+  still_reader c asked t a (ReaderIn v) h = still_batch c asked t a v.set v.running h
+  still_reader c asked t a other h = tt
 
 -- whether a message is an acceptor's answer to this turn, with this watermark
 abbrev is_ack : Asking → Round → Msg → Bool
@@ -106,6 +125,7 @@ module _ (c : Cluster) (asked : List KeptRecord) (sent0 : List Letter) (t : Toke
         within = λ k m. m;
         longer = reads.has;
         wider = reads.has_sent;
+        sets = facts.sets;
         collected = (facts.garbaged x.0 w x.1 x.2).1;
         covers = λ a n y. elim (acked_cases sent ds u w a n y) [ inl z ↦ absurd (none a n z) | inr z ↦ (acks u new w a n z).0 ];
       }))
@@ -120,6 +140,7 @@ module _ (c : Cluster) (asked : List KeptRecord) (sent0 : List Letter) (t : Toke
         within = k.within;
         longer = k.longer;
         wider = k.wider;
+        sets = k.sets;
         collected = k.collected;
         covers = λ a n y. elim (acked_cases sent ds u w a n y) [ inl z ↦ k.covers a n z | inr z ↦ covers_older k.past history k.within a n (acks u new w a n z).0 ];
       }))
@@ -137,37 +158,40 @@ module _ (c : Cluster) (asked : List KeptRecord) (sent0 : List Letter) (t : Toke
   ]
 
   -- more datagrams, of no role's step
-  pub sent_more : (ds : List Letter) → Each (λ d. ReadSays asked t history d.from d.to d.msg) ds → AcksAreSo ds → Reads c asked sent0 t history (sent ++ ds) states
+  pub sent_more : (ds : List Letter) → Each (λ d. ReadSays c asked t history d.from d.to d.msg) ds → AcksAreSo ds → Reads c asked sent0 t history (sent ++ ds) states
   sent_more ds says acks = record {
     has = reads.has;
     has_sent = λ d m. Member-first d sent ds (reads.has_sent d m);
-    says = Member-both (λ (d : Letter). ReadSays asked t history d.from d.to d.msg) sent ds reads.says says;
+    says = Member-both (λ (d : Letter). ReadSays c asked t history d.from d.to d.msg) sent ds reads.says says;
     evidence = λ u new w. more_evidence ds acks u new w (reads.evidence u new w);
     readers = reads.readers;
   }
 
   -- a row lands whose datagrams say what is so
   pub lands : {V : Type 0} (me : RoleId) (make : V → State) (o : Outcome V)
-      → Each (λ d. ReadSays asked t history d.from d.to d.msg) o.sends → AcksAreSo o.sends → InReader c asked t me (make o.volatile)
+      → Each (λ d. ReadSays c asked t history d.from d.to d.msg) o.sends → AcksAreSo o.sends → InReader c asked t history me (make o.volatile)
       → Lands (Since c asked sent0 t) history sent states me make o
   lands me make o says acks state = record {
     whole = λ has has_sent. record {
       has = has;
       has_sent = has_sent;
-      says = Member-both (λ (d : Letter). ReadSays asked t (with_record me o.kept history) d.from d.to d.msg) sent o.sends
-          (λ d m. still_says history (with_record me o.kept history) (kept_longer me o.kept history) asked t d.from d.to d.msg (reads.says d m))
-          (λ d m. still_says history (with_record me o.kept history) (kept_longer me o.kept history) asked t d.from d.to d.msg (says d m));
+      says = Member-both (λ (d : Letter). ReadSays c asked t (with_record me o.kept history) d.from d.to d.msg) sent o.sends
+          (λ d m. still_says history (with_record me o.kept history) (kept_longer me o.kept history) c asked t d.from d.to d.msg (reads.says d m))
+          (λ d m. still_says history (with_record me o.kept history) (kept_longer me o.kept history) c asked t d.from d.to d.msg (says d m));
       evidence = λ u new w.
           still_evidence history (with_record me o.kept history) (kept_longer me o.kept history) c asked sent0 u (sent ++ o.sends) w
           (more_evidence o.sends acks u new w (reads.evidence u new w));
-      readers = set_running (λ a s. InReader c asked t a s) me (make o.volatile) states state (λ a e. reads.readers a);
+      readers = set_running (λ a s. InReader c asked t (with_record me o.kept history) a s) me (make o.volatile) states
+          (still_reader history (with_record me o.kept history) (kept_longer me o.kept history) c asked t me (make o.volatile) state)
+          (λ a e. still_reader history (with_record me o.kept history) (kept_longer me o.kept history) c asked t a (states a) (reads.readers a));
     };
     cut = λ r e has has_sent. record {
       has = has;
       has_sent = has_sent;
-      says = λ d m. still_says history (entry_by me r ∷ history) (λ k x. inr x) asked t d.from d.to d.msg (reads.says d m);
+      says = λ d m. still_says history (entry_by me r ∷ history) (λ k x. inr x) c asked t d.from d.to d.msg (reads.says d m);
       evidence = λ u new w. still_evidence history (entry_by me r ∷ history) (λ k x. inr x) c asked sent0 u sent w (reads.evidence u new w);
-      readers = set_running (λ a s. InReader c asked t a s) me Down states tt (λ a e. reads.readers a);
+      readers = set_running (λ a s. InReader c asked t (entry_by me r ∷ history) a s) me Down states tt
+          (λ a e. still_reader history (entry_by me r ∷ history) (λ k x. inr x) c asked t a (states a) (reads.readers a));
     };
   }
 

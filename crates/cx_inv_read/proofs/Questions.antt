@@ -22,6 +22,7 @@ use Rattle.cx_model.specs.Member.{Member}
 use Rattle.cx_model.specs.Names.{names}
 use Rattle.cx_model.specs.Outcome.{Outcome, either_way}
 use Rattle.cx_model.specs.Reader.{reader_rules}
+use Rattle.cx_model.specs.Replacer.{replacer_rules}
 use Rattle.cx_model.specs.Replica.{Machine, ReplicaDurable, ReplicaVolatile, held, replica_rules, read_answer_to, replica_row}
 use Rattle.cx_model.specs.Request.{request}
 use Rattle.cx_model.specs.World.{run}
@@ -29,7 +30,7 @@ use Rattle.cx_inv_run.specs.Kinds.{IsSender, OfKind}
 use Rattle.cx_inv_run.specs.Laws.{Lands, Laws}
 use Rattle.cx_inv_run.specs.States.{State, Given, durable_of, HoldsIn}
 use Rattle.cx_inv_run.proofs.Members.{Member-both, Member-first}
-use Rattle.cx_inv_run.proofs.Senders.{batcher_kinds, leader_kinds, proxy_kinds, acceptor_kinds, matchmaker_kinds, unbatcher_kinds, reader_kinds}
+use Rattle.cx_inv_run.proofs.Senders.{batcher_kinds, leader_kinds, proxy_kinds, acceptor_kinds, matchmaker_kinds, unbatcher_kinds, reader_kinds, replacer_kinds}
 use Rattle.cx_inv_run.proofs.Steps.{always}
 use Rattle.cx_inv_match.specs.Facts.{InState}
 use Rattle.cx_inv_read.specs.Reads.{AnswerSays, AreAnswers}
@@ -138,6 +139,9 @@ answer_laws c = record {
       other_lands history sent states h (role kind.Unbatcher u) _ _ (λ e. cc) (unbatcher_kinds c (role kind.Unbatcher u) refl i);
   reader = λ history sent states r v i known h up given.
       other_lands history sent states h (role kind.Reader r) _ _ (λ e. cc) (reader_kinds c (role kind.Reader r) refl (durable_of reader_rules (role kind.Reader r) history) v i);
+  replacer = λ history sent states x v i known h up given.
+      other_lands history sent states h (role kind.Replacer x) _ _ (λ e. cc)
+      (replacer_kinds c (role kind.Replacer x) refl (durable_of replacer_rules (role kind.Replacer x) history) v i);
 }
 
 pub answers_hold : (c : Cluster) (es : List Event) → HoldsIn AreAnswers (run c es)

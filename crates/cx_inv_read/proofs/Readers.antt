@@ -1,16 +1,17 @@
 -- Each row of a reader keeps the facts on a read: what it asks under a new turn is so, and when it asks a replica for the read, the number is above
 -- all that was chosen when the read was asked for.
-use Rattle.std.proofs.Common.{◌≡◌, ℕ, ◌+◌, ◌*◌, ◌<◌, Bool, true, false, not, ◌&&◌, map, List, [], ◌∷◌, ◌++◌, length, Option, None, Some, inl, inr, sym, subst, ◌∙◌, refl, arith}
+use Rattle.std.proofs.Common.{◌≡◌, ℕ, ◌+◌, ◌<◌, Bool, true, false, not, ◌&&◌, map, List, [], ◌∷◌, ◌++◌, length, Option, None, Some, inl, inr, sym, subst, ◌∙◌, refl, arith}
 use Rattle.std.specs.Prelude.{◌==◌, nat_lt, nat_le}
-use Rattle.std.proofs.lemmas.Bool.{true≢false, and_parts, not-false, ltb-true, leb-true}
+use Rattle.std.proofs.lemmas.Bool.{true≢false, and_parts, not-false, leb-true}
 use Rattle.cx_base.specs.declared.cluster.Cluster.{Cluster}
-use Rattle.cx_base.specs.declared.role.Kind.{Kind}
 use Rattle.cx_base.specs.declared.role.Kind.TheVariants as kind
 use Rattle.cx_base.specs.declared.role.RoleId.{RoleId}
 use Rattle.cx_base.specs.declared.round.Round.{Round}
 use Rattle.cx_base.specs.declared.why.Why.{Why}
+use Rattle.cx_base.specs.Grid.{is_in}
 use Rattle.cx_base.specs.Role.{role, same_role}
 use Rattle.cx_base.specs.Round.{no_round, same_round}
+use Rattle.cx_base.specs.Sets.{is_above}
 use Rattle.cx_field.specs.declared.parts.Asking.{Asking}
 use Rattle.cx_field.specs.declared.parts.Entry.{Entry}
 use Rattle.cx_field.specs.declared.parts.Token.{Token}
@@ -23,20 +24,20 @@ use Rattle.cx_msg.specs.declared.message.Msg.TheVariants as msg
 use Rattle.cx_model.specs.declared.states.Acked.{Acked}
 use Rattle.cx_model.specs.declared.states.MatchAnswer.{MatchAnswer}
 use Rattle.cx_model.specs.Facts.{ReaderWasTold}
-use Rattle.cx_model.specs.Matched.{enough, matchmakers, is_counted, is_member_of, greatest_watermark, live_entries, members_of, rows_whole}
+use Rattle.cx_model.specs.Matched.{enough, is_counted, is_member_of, greatest_watermark, live_entries, members_of, rows_whole}
 use Rattle.cx_model.specs.Matchmaker.{entry}
 use Rattle.cx_model.specs.Member.{Member}
-use Rattle.cx_base.specs.Cluster.{count_of}
-use Rattle.cx_model.specs.Names.{names, names_role, names_body}
+use Rattle.cx_model.specs.Names.{names}
 use Rattle.cx_model.specs.Outcome.{Outcome, answered, either_way, by_test}
-use Rattle.cx_model.specs.Reader.{Asked, Batch, ReaderDurable, ReaderVolatile, acked_by, ask_acceptors, ask_matchmakers, ask_replicas, asked_for, begin, begin_if, finish, greatest_mark, has_acked, is_among, is_first, is_matched, is_of_batch, last_turn, match_ack_counted, match_ack_row, match_read_to, matched, pre_read_ack_row, pre_read_counted, pre_read_to, read_to, reader_row, reader_rules, reader_takes, reader_tick, request_over, request_row, token, asking_of}
+use Rattle.cx_model.specs.Reader.{Asked, Batch, ReaderDurable, ReaderVolatile, acked_by, ask_acceptors, ask_matchmakers, ask_replicas, asked_anew, asked_for, begin, begin_if, finish, greatest_mark, has_acked, is_among, is_first, is_matched, is_of_batch, last_turn, match_ack_counted, match_ack_row, match_read_to, matched, pre_read_ack_row, pre_read_counted, pre_read_to, read_to, reader_row, reader_rules, reader_takes, reader_tick, request_over, request_row, sets_row, token, asking_of}
 use Rattle.cx_inv_run.specs.Laws.{Lands}
 use Rattle.cx_inv_run.specs.States.{State, ReaderIn, Given, durable_of}
-use Rattle.cx_inv_run.proofs.Members.{Member-both, Member-cases, Member-second, Member-one}
+use Rattle.cx_inv_run.proofs.Members.{is_in-Member, Member-both, Member-cases, Member-second, Member-one}
 use Rattle.cx_inv_run.proofs.Rounds.{itself-not_before, same_round-true}
 use Rattle.cx_inv_run.proofs.Senders.{reader_kinds}
 use Rattle.cx_inv_run.proofs.Sends.{named}
-use Rattle.cx_inv_match.specs.Facts.{AreAsking, AreOnce, told_by, InState, Facts}
+use Rattle.cx_inv_match.specs.Facts.{AreOnce, told_by, InState, Facts}
+use Rattle.cx_inv_match.specs.Words.{IsKnown}
 use Rattle.cx_inv_vote.proofs.Readers.{same_asking-true}
 use Rattle.cx_inv_vote.proofs.Searches.{told_by-counted, told_more, once_more, live_has, top_told}
 use Rattle.cx_inv_read.specs.Reads.{IsAbove, IsRaised, IsReadAnswer, IsNew, ReadSays, IsAcked, IsBatch, HasBatch, InReader, Reads}
@@ -45,13 +46,6 @@ use Rattle.cx_inv_read.proofs.Keep.{Since, lands, no_acks}
 use Rattle.cx_inv_read.proofs.Rows.{Each, each_mapped}
 use Rattle.cx_inv_read.proofs.Says.{Known}
 use Rattle.cx_inv_read.proofs.Turns.{next_is_new}
-
--- the sender of a datagram that is taken is one of the cluster's
-from_within : (c : Cluster) (d : Letter) (k : Kind) → names c d ≡ true → d.from.kind ≡ k → d.from.index < count_of c k
-from_within c d k h e =
-    let a = and_parts (names_role c d.from && names_role c d.to) (names_body c d.msg) h in
-    let b = and_parts (names_role c d.from) (names_role c d.to) a.0 in
-    ltb-true d.from.index (count_of c k) (subst (λ x. nat_lt d.from.index (count_of c x) ≡ true) e b.0)
 
 not-true : (b : Bool) → not b ≡ true → b ≡ false
 not-true true e = cc
@@ -63,12 +57,12 @@ module _ (c : Cluster) (asked : List KeptRecord) (sent0 : List Letter) (states0 
   facts = known.1
 
   abbrev Says : Letter → Type 0
-  Says d = ReadSays asked t history d.from d.to d.msg
+  Says d = ReadSays c asked t history d.from d.to d.msg
 
   -- ---- what the answers of a new turn come to
 
   abbrev Answers : List MatchAnswer → Type 0
-  Answers told = (a : MatchAnswer) → Member a told → IsReadAnswer asked history (role kind.Matchmaker a.matchmaker) a.watermark a.entries
+  Answers told = (a : MatchAnswer) → Member a told → IsReadAnswer c asked history (role kind.Matchmaker a.matchmaker) a.watermark a.entries
 
   -- the greatest watermark reported is none, or was raised
   top_raised : (told : List MatchAnswer) → Answers told → IsRaised history (greatest_watermark told)
@@ -89,10 +83,10 @@ module _ (c : Cluster) (asked : List KeptRecord) (sent0 : List Letter) (states0 
     ]
   ]
 
-  above_nothing : (told : List MatchAnswer) → AreOnce (told_by told) → ((m : ℕ) → Member m (told_by told) → m < 2 * c.f + 1) → c.f < length told → Answers told
+  above_nothing : (told : List MatchAnswer) → AreOnce (told_by told) → (set : List ℕ) → IsKnown c history set → ((m : ℕ) → Member m (told_by told) → Member m set) → c.f < length told → Answers told
       → live_entries told ≡ [] → IsAbove asked 0
-  above_nothing told once bound many answers e =
-      read_above c asked sent0 states0 facts0 history sent states facts reads.has told once bound many answers []
+  above_nothing told once set set_known bound many answers e =
+      read_above c asked sent0 states0 facts0 history sent states facts reads.has told once set set_known bound many answers []
       (record { covered = λ a m. absurd m; collected = inl (top_none told answers e) }) (subst (λ l. rows_whole l (acked_by []) ≡ true) (sym e) refl) 0 (λ a m. absurd m)
 
   -- acceptors that answered
@@ -103,17 +97,17 @@ module _ (c : Cluster) (asked : List KeptRecord) (sent0 : List Letter) (states0 
     collected = elim (reads.evidence u new w) [
       | inl e ↦ inl e
       | inr (inl none) ↦ absurd (none (role kind.Acceptor one.acceptor) one.mark (h one m))
-      | inr (inr k) ↦ inr (k.past, k.told, k.within, k.longer, k.wider, k.collected, λ a n. k.covers (role kind.Acceptor a.acceptor) a.mark (h a n))
+      | inr (inr k) ↦ inr (k.past, k.told, k.within, k.longer, k.wider, k.sets, k.collected, λ a n. k.covers (role kind.Acceptor a.acceptor) a.mark (h a n))
     ];
   }
 
   -- ---- a reader
 
-  module _ (me : RoleId) (d : ReaderDurable) (v : ReaderVolatile) (batch : HasBatch c asked t me v.running) (was_told : ReaderWasTold sent me v) (asking : AreAsking c v)
+  module _ (me : RoleId) (d : ReaderDurable) (v : ReaderVolatile) (batch : HasBatch c asked t history me v.set v.running) (was_told : ReaderWasTold sent me v) (now_known : IsKnown c history v.set)
       (next : IsNew asked (asking_of me (d.turn + 1))) where
     pub record Good (o : Outcome ReaderVolatile) : Type 0 where
       pub says : Each Says o.sends
-      pub runs : HasBatch c asked t me o.volatile.running
+      pub runs : HasBatch c asked t history me o.volatile.set o.volatile.running
 
     same : (w : Why) → Good (answered w v)
     same w = record { says = λ l m. absurd m; runs = batch }
@@ -121,23 +115,23 @@ module _ (c : Cluster) (asked : List KeptRecord) (sent0 : List Letter) (states0 
     waits : (w : Why) (rs : List Asked) → Good (answered w (record v { waiting = rs }))
     waits w rs = record { says = λ l m. absurd m; runs = batch }
 
-    asks_first : (turn : ℕ) → Each Says (ask_matchmakers c me turn)
-    asks_first turn = each_mapped Says (match_read_to me (asking_of me turn)) (matchmakers c) (λ m k. tt)
+    asks_first : (s : List ℕ) (turn : ℕ) → Each Says (ask_matchmakers me s turn)
+    asks_first s turn = each_mapped Says (match_read_to me (asking_of me turn)) s (λ m k. tt)
 
     -- a batch begins: its turn is a new one, whatever reads it has
-    begins : (w : Why) (first : List Letter) (rs : List Asked) → Each Says first → Good (begin c me d w first rs)
+    begins : (w : Why) (first : List Letter) (rs : List Asked) → Each Says first → Good (begin me d v w first rs)
     begins w first rs says = record {
-      says = Member-both Says first (ask_matchmakers c me (d.turn + 1)) says (asks_first (d.turn + 1));
-      runs = record { once = tt; known = λ m k. absurd k; under = λ r m e. next };
+      says = Member-both Says first (ask_matchmakers me v.set (d.turn + 1)) says (asks_first v.set (d.turn + 1));
+      runs = record { set = v.set; set_known = now_known; once = tt; known = λ m k. absurd k; asking = λ f m k. absurd k; under = λ r m e. next };
     }
 
-    begins_if : (w : Why) (rs : List Asked) → Good (begin_if c me d v w rs)
+    begins_if : (w : Why) (rs : List Asked) → Good (begin_if me d v w rs)
     begins_if w rs = either_way Good (d.turn == last_turn) _ _ (same _) (begins w [] rs (λ l m. absurd m))
 
-    request_good : (one : Asked) → Good (request_row c me d v one)
+    request_good : (one : Asked) → Good (request_row me d v one)
     request_good one = either_way Good (is_among one.read v.waiting) _ _ (waits _ _) (over v.running)
       where
-        over : (o : Option Batch) → Good (request_over c me d v one o)
+        over : (o : Option Batch) → Good (request_over me d v one o)
         over None = either_way Good (nat_le 64 (length v.waiting)) _ _ (same _) (begins_if _ _)
         over (Some b) =
             either_way Good (is_first one.read b.reads) _ _ (begins_if _ _)
@@ -145,7 +139,7 @@ module _ (c : Cluster) (asked : List KeptRecord) (sent0 : List Letter) (states0 
             (either_way Good (nat_le 64 (length v.waiting + length b.reads)) _ _ (same _) (waits _ _)))
 
     -- a batch has ended: the replicas are asked with a number that is above, for the read if it is in the batch
-    finishes : (b : Batch) (n : ℕ) → ((r : Asked) → Member r b.reads → r.read ≡ t → IsAbove asked n) → Good (finish c me d v b n)
+    finishes : (b : Batch) (n : ℕ) → ((r : Asked) → Member r b.reads → r.read ≡ t → IsAbove asked n) → Good (finish me d v b n)
     finishes b n above =
         let says : Each Says (ask_replicas me b n) = each_mapped Says (read_to me n) b.reads (λ r m e. above r m e) in
         either_way Good (nat_lt 0 (length v.waiting) && not (d.turn == last_turn)) _ _ (begins _ (ask_replicas me b n) v.waiting says)
@@ -155,7 +149,7 @@ module _ (c : Cluster) (asked : List KeptRecord) (sent0 : List Letter) (states0 
     matched_enough b h = let l = leb-true (enough c) (length b.told) h in omega arith
 
     -- a batch whose answers came under its turn
-    module _ (b : Batch) (is : IsBatch c asked t me b)
+    module _ (b : Batch) (is : IsBatch c asked t history me v.set b)
         (came : (a : MatchAnswer) → Member a b.told → Member (letter (role kind.Matchmaker a.matchmaker) me (msg.MatchReadAck (asking_of me b.turn) a.watermark a.entries)) sent) where
       batch_answers : IsNew asked (asking_of me b.turn) → Answers b.told
       batch_answers new a m = reads.says _ (came a m) new
@@ -165,7 +159,7 @@ module _ (c : Cluster) (asked : List KeptRecord) (sent0 : List Letter) (states0 
 
       matched_good : is_matched c b ≡ true → (es : List Entry) → live_entries b.told ≡ es → Good (matched c me d v b es)
       matched_good h [] e =
-          finishes b 0 (λ r m p. above_nothing b.told is.once is.known (matched_enough b h) (batch_answers (is.under r m p)) e)
+          finishes b 0 (λ r m p. above_nothing b.told is.once is.set is.set_known is.known (matched_enough b h) (batch_answers (is.under r m p)) e)
       matched_good h (x ∷ es) e = record { says = asks_second (members_of c (x ∷ es)); runs = is }
 
       match_counted : Good (match_ack_counted c me d v b)
@@ -179,23 +173,32 @@ module _ (c : Cluster) (asked : List KeptRecord) (sent0 : List Letter) (states0 
           by_test Good (rows_whole (live_entries b.told) (acked_by b.acks)) _ _
           (λ whole. finishes b (greatest_mark b.acks) (λ r m p.
           let new = is.under r m p in
-          read_above c asked sent0 states0 facts0 history sent states facts reads.has b.told is.once is.known (matched_enough b h) (batch_answers new) b.acks
+          read_above c asked sent0 states0 facts0 history sent states facts reads.has b.told is.once is.set is.set_known is.known (matched_enough b h) (batch_answers new) b.acks
           (row_acks (asking_of me b.turn) new (greatest_watermark b.told) b.acks one there acked) whole (greatest_mark b.acks) (mark_above b.acks)))
           (λ f. record { says = λ l m. absurd m; runs = is })
 
-    match_good : (from to : RoleId) (u : Asking) (w : Round) (es : List Entry) → to ≡ me → Member (letter from to (msg.MatchReadAck u w es)) sent → from.index < 2 * c.f + 1
-        → (o : Option Batch) → v.running ≡ o → HasBatch c asked t me o → Good (match_ack_row c me d v from u w es o)
-    match_good from to u w es mine is_sent within None e is = same _
-    match_good from to u w es mine is_sent within (Some b) e is =
-        by_test Good (not (is_of_batch me b u && not (is_matched c b))) _ _ (λ f. same _)
+    match_good : (from to : RoleId) (u : Asking) (w : Round) (es : List Entry) → to ≡ me → Member (letter from to (msg.MatchReadAck u w es)) sent
+        → (o : Option Batch) → v.running ≡ o → HasBatch c asked t history me v.set o → Good (match_ack_row c me d v from u w es o)
+    match_good from to u w es mine is_sent None e is = same _
+    match_good from to u w es mine is_sent (Some b) e is =
+        by_test Good (not (is_of_batch me b u && not (is_matched c b) && is_in from.index v.set)) _ _ (λ f. same _)
         (λ f. by_test Good (is_counted from.index b.told) _ _ (λ g. same _)
         (λ g. (
         let new : MatchAnswer = record { matchmaker = from.index; watermark = w; entries = es } in
-        let ours : u ≡ asking_of me b.turn = same_asking-true u (asking_of me b.turn) (and_parts (is_of_batch me b u) (not (is_matched c b)) (not-false (is_of_batch me b u && not (is_matched c b)) f)).0 in
+        let tests = and_parts (is_of_batch me b u && not (is_matched c b)) (is_in from.index v.set) (not-false (is_of_batch me b u && not (is_matched c b) && is_in from.index v.set) f) in
+        let both = and_parts (is_of_batch me b u) (not (is_matched c b)) tests.0 in
+        let ours : u ≡ asking_of me b.turn = same_asking-true u (asking_of me b.turn) both.0 in
+        let inside : (m : ℕ) → Member m (told_by (b.told ++ new ∷ [])) → Member m v.set = λ m k. elim (told_more b.told new m k) [
+          | inl x ↦ is.asking (not-true (is_matched c b) both.1) m x
+          | inr x ↦ subst (λ n. Member n v.set) (sym x) (is_in-Member from.index v.set tests.1)
+        ] in
         let is_matchmaker : from ≡ role kind.Matchmaker from.index = named kind.Matchmaker from (known.0.senders _ is_sent) in
         match_counted (record b { told = b.told ++ new ∷ [] }) (record {
+          set = v.set;
+          set_known = now_known;
           once = once_more b.told new (λ m. true≢false (sym (told_by-counted from.index b.told m) ∙ g)) is.once;
-          known = λ m k. elim (told_more b.told new m k) [ inl x ↦ is.known m x | inr x ↦ subst (λ n. n < 2 * c.f + 1) (sym x) within ];
+          known = inside;
+          asking = λ f. inside;
           under = is.under;
         }) (λ a m. elim (Member-cases a b.told (new ∷ []) m) [
           | inl k ↦ (was_told.batch b e).answers a k
@@ -207,7 +210,7 @@ module _ (c : Cluster) (asked : List KeptRecord) (sent0 : List Letter) (states0 
         )))
 
     ack_good : (from to : RoleId) (u : Asking) (w : Round) (n : ℕ) → to ≡ me → Member (letter from to (msg.PreReadAck u w n)) sent
-        → (o : Option Batch) → v.running ≡ o → HasBatch c asked t me o → Good (pre_read_ack_row c me d v from u w n o)
+        → (o : Option Batch) → v.running ≡ o → HasBatch c asked t history me v.set o → Good (pre_read_ack_row c me d v from u w n o)
     ack_good from to u w n mine is_sent None e is = same _
     ack_good from to u w n mine is_sent (Some b) e is =
         by_test Good (not (is_of_batch me b u && is_matched c b && is_member_of (live_entries b.told) from.index)) _ _ (λ f. same _)
@@ -220,7 +223,7 @@ module _ (c : Cluster) (asked : List KeptRecord) (sent0 : List Letter) (states0 
         let ours : u ≡ asking_of me b.turn = same_asking-true u (asking_of me b.turn) both.0 in
         let asked_with : w ≡ greatest_watermark b.told = same_round-true w (greatest_watermark b.told) (not-false (same_round w (greatest_watermark b.told)) g) in
         let is_acceptor : from ≡ role kind.Acceptor from.index = named kind.Acceptor from (known.0.senders _ is_sent) in
-        ack_counted (record b { acks = b.acks ++ new ∷ [] }) (record { once = is.once; known = is.known; under = is.under }) (λ a m. (was_told.batch b e).answers a m)
+        ack_counted (record b { acks = b.acks ++ new ∷ [] }) (record { set = is.set; set_known = is.set_known; once = is.once; known = is.known; asking = is.asking; under = is.under }) (λ a m. (was_told.batch b e).answers a m)
         both.1 new (Member-second new b.acks (new ∷ []) (inl refl))
         (λ a m. elim (Member-cases a b.acks (new ∷ []) m) [
           | inl k ↦ (me, (was_told.batch b e).acks a k)
@@ -234,27 +237,52 @@ module _ (c : Cluster) (asked : List KeptRecord) (sent0 : List Letter) (states0 
         )))
 
     -- what the running batch asks again
-    asks_again : (b : Batch) → v.running ≡ Some b → HasBatch c asked t me (Some b) → Each Says (ask_acceptors c me b)
+    asks_again : (b : Batch) → v.running ≡ Some b → HasBatch c asked t history me v.set (Some b) → Each Says (ask_acceptors c me b)
     asks_again b e is = asks_second b is (λ a m. (was_told.batch b e).answers a m) (members_of c (live_entries b.told))
 
-    ticks_good : (o : Option Batch) → v.running ≡ o → HasBatch c asked t me o → Good (reader_tick c me v o)
+    ticks_good : (o : Option Batch) → v.running ≡ o → HasBatch c asked t history me v.set o → Good (reader_tick c me v o)
     ticks_good None e is = same _
     ticks_good (Some b) e is = record {
-      says = either_way (Each Says) (is_matched c b) (ask_acceptors c me b) (ask_matchmakers c me b.turn) (asks_again b e is) (asks_first b.turn);
+      says = either_way (Each Says) (is_matched c b) (ask_acceptors c me b) (ask_matchmakers me v.set b.turn) (asks_again b e is) (asks_first v.set b.turn);
       runs = batch;
     }
 
-    takes_good : (from to : RoleId) (m : Msg) → to ≡ me → Member (letter from to m) sent → (from.kind ≡ kind.Matchmaker → from.index < 2 * c.f + 1) → Good (reader_takes c me d v from m)
-    takes_good from to (msg.ReadReq seq replica key) mine is_sent within = request_good (asked_for (token from.index seq) replica key)
-    takes_good from to (msg.MatchReadAck u w es) mine is_sent within = match_good from to u w es mine is_sent (within (known.0.senders _ is_sent)) v.running refl batch
-    takes_good from to (msg.PreReadAck u w n) mine is_sent within = ack_good from to u w n mine is_sent v.running refl batch
-    takes_good from to other mine is_sent within = same _
+    -- another set took over: what was counted of a batch in its first stage goes
+    anew_good : (s : List ℕ) → IsKnown c history s → (o : Option Batch) → v.running ≡ o → HasBatch c asked t history me v.set o → Good (asked_anew c me (record v { set = s }) o)
+    anew_good s next_known None e is = record { says = λ l m. absurd m; runs = subst (λ o. HasBatch c asked t history me s o) (sym e) tt }
+    anew_good s next_known (Some b) e is =
+        by_test Good (is_matched c b) _ _
+        (λ h. record {
+          says = λ l m. absurd m;
+          runs = subst (λ o. HasBatch c asked t history me s o) (sym e) (record {
+            set = is.set;
+            set_known = is.set_known;
+            once = is.once;
+            known = is.known;
+            asking = λ f. absurd (true≢false (sym h ∙ f));
+            under = is.under;
+          });
+        })
+        (λ f. record {
+          says = asks_first s b.turn;
+          runs = record { set = s; set_known = next_known; once = tt; known = λ m k. absurd k; asking = λ g m k. absurd k; under = is.under };
+        })
+
+    sets_good : (s : List ℕ) → IsKnown c history s → Good (sets_row c me v s)
+    sets_good s next_known = either_way Good (is_above s v.set) _ _ (anew_good s next_known v.running refl batch) (same _)
+
+    takes_good : (from to : RoleId) (m : Msg) → to ≡ me → Member (letter from to m) sent → Good (reader_takes c me d v from m)
+    takes_good from to (msg.ReadReq seq replica key) mine is_sent = request_good (asked_for (token from.index seq) replica key)
+    takes_good from to (msg.MatchReadAck u w es) mine is_sent = match_good from to u w es mine is_sent v.running refl batch
+    takes_good from to (msg.PreReadAck u w n) mine is_sent = ack_good from to u w n mine is_sent v.running refl batch
+    takes_good from to (msg.Sets s) mine is_sent = sets_good s (facts.says _ is_sent)
+    takes_good from to other mine is_sent = same _
 
     -- whatever a reader is given
     reader_good : (i : Input) → Given sent me i → Good (reader_row c me d v i)
     reader_good (input.Take l) given =
         by_test Good (same_role l.to me && names c l) _ _
-        (λ h. takes_good l.from l.to l.msg given.0 given.1 (λ e. from_within c l kind.Matchmaker (and_parts (same_role l.to me) (names c l) h).1 e))
+        (λ h. takes_good l.from l.to l.msg given.0 given.1)
         (λ f. same _)
     reader_good input.Tick given = ticks_good v.running refl batch
     reader_good (input.Order order) given = same _
@@ -265,6 +293,6 @@ module _ (c : Cluster) (asked : List KeptRecord) (sent0 : List Letter) (states0 
       let me : RoleId = role kind.Reader r in
       let d : ReaderDurable = durable_of reader_rules me history in
       let state = subst (λ s. InState c history sent me s) up (facts.running me) in
-      let good = reader_good me d v (subst (λ s. InReader c asked t me s) up (reads.readers me)) state.0 state.1 (next_is_new r history asked known.0.keepers reads.has) i given in
+      let good = reader_good me d v (subst (λ s. InReader c asked t history me s) up (reads.readers me)) state.0 state.2 (next_is_new r history asked known.0.keepers reads.has) i given in
       lands c asked sent0 t history sent states facts reads me ReaderIn _ good.says
       (no_acks c asked sent0 t history sent states facts reads me _ (λ e. cc) (reader_kinds c me refl d v i)) good.runs

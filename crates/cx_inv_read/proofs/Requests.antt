@@ -160,5 +160,6 @@ requested P submit read session n (event.Deliver k cut) = λ d m. absurd m
 requested P submit read session n (event.Tick r) = λ d m. absurd m
 requested P submit read session n (event.Order l order cut) = λ d m. absurd m
 requested P submit read session n (event.Snap p cut) = λ d m. absurd m
+requested P submit read session n (event.Replace x set cut) = λ d m. absurd m
 requested P submit read session n (event.Crash r) = λ d m. absurd m
 requested P submit read session n (event.Restart r) = λ d m. absurd m

@@ -1,9 +1,10 @@
 -- Each row of an acceptor and of a matchmaker keeps the facts on a read.
-use Rattle.std.proofs.Common.{◌≡◌, ℕ, ◌&&◌, max, List, [], inl, inr, sym, subst, refl, arith}
+use Rattle.std.proofs.Common.{◌≡◌, ℕ, true, false, ◌&&◌, max, List, [], inl, inr, sym, subst, refl, arith}
 use Rattle.cx_base.specs.declared.cluster.Cluster.{Cluster}
 use Rattle.cx_base.specs.declared.role.Kind.TheVariants as kind
 use Rattle.cx_base.specs.declared.role.RoleId.{RoleId}
 use Rattle.cx_base.specs.declared.round.Round.{Round}
+use Rattle.cx_base.specs.Grid.{Shape}
 use Rattle.cx_base.specs.Role.{role, same_role}
 use Rattle.cx_field.specs.declared.parts.Asking.{Asking}
 use Rattle.cx_field.specs.declared.parts.Token.{Token}
@@ -14,27 +15,30 @@ use Rattle.cx_msg.specs.declared.input.KeptRecord.{KeptRecord}
 use Rattle.cx_msg.specs.declared.message.Msg.{Msg}
 use Rattle.cx_msg.specs.declared.message.Msg.TheVariants as msg
 use Rattle.cx_model.specs.Acceptor.{acceptor_rules, acceptor_row}
-use Rattle.cx_model.specs.Matchmaker.{matchmaker_rules, matchmaker_row}
+use Rattle.cx_model.specs.Matchmaker.{entry, is_booted, is_stopped, matchmaker_rules, matchmaker_row}
 use Rattle.cx_model.specs.Member.{Member}
 use Rattle.cx_model.specs.Names.{names}
 use Rattle.cx_model.specs.Outcome.{Outcome, either_way}
+use Rattle.cx_model.specs.Promises.{IsConfig}
 use Rattle.cx_inv_run.specs.Laws.{Lands}
 use Rattle.cx_inv_run.specs.States.{State, plain, Given, durable_of}
 use Rattle.cx_inv_run.proofs.Senders.{matchmaker_kinds}
 use Rattle.cx_inv_match.specs.Facts.{Facts}
+use Rattle.cx_inv_match.specs.Words.{HasRound, HasStopped}
+use Rattle.cx_inv_vote.proofs.Matchmakers.{booted_member, running_log}
 use Rattle.cx_inv_read.specs.Reads.{Covers, IsNew, IsRaised, IsReadAnswer, ReadSays, Reads}
 use Rattle.cx_inv_read.proofs.Keep.{Since, covers_older, lands, no_acks}
 use Rattle.cx_inv_read.proofs.Rows.{IsPlain, Each, acceptor_tells, matchmaker_tells}
 use Rattle.cx_inv_read.proofs.Says.{Known}
 
-pub plain_says : (asked : List KeptRecord) (t : Token) (history : List KeptRecord) (from to : RoleId) (m : Msg) → IsPlain m → ReadSays asked t history from to m
-plain_says asked t history from to (msg.ReadReq seq replica key) h = absurd h
-plain_says asked t history from to (msg.MatchRead u) h = absurd h
-plain_says asked t history from to (msg.MatchReadAck u w es) h = absurd h
-plain_says asked t history from to (msg.PreRead u w) h = absurd h
-plain_says asked t history from to (msg.PreReadAck u w n) h = absurd h
-plain_says asked t history from to (msg.Read u n key) h = absurd h
-plain_says asked t history from to other h = tt
+pub plain_says : (c : Cluster) (asked : List KeptRecord) (t : Token) (history : List KeptRecord) (from to : RoleId) (m : Msg) → IsPlain m → ReadSays c asked t history from to m
+plain_says c asked t history from to (msg.ReadReq seq replica key) h = absurd h
+plain_says c asked t history from to (msg.MatchRead u) h = absurd h
+plain_says c asked t history from to (msg.MatchReadAck u w es) h = absurd h
+plain_says c asked t history from to (msg.PreRead u w) h = absurd h
+plain_says c asked t history from to (msg.PreReadAck u w n) h = absurd h
+plain_says c asked t history from to (msg.Read u n key) h = absurd h
+plain_says c asked t history from to other h = tt
 
 module _ (c : Cluster) (asked : List KeptRecord) (sent0 : List Letter) (states0 : RoleId → State) (facts0 : Facts c asked sent0 states0) (t : Token)
     (history : List KeptRecord) (sent : List Letter) (states : RoleId → State) (known : Known c history sent states) (reads : Reads c asked sent0 t history sent states) where
@@ -42,7 +46,7 @@ module _ (c : Cluster) (asked : List KeptRecord) (sent0 : List Letter) (states0 
   facts = known.1
 
   abbrev Says : Letter → Type 0
-  Says d = ReadSays asked t history d.from d.to d.msg
+  Says d = ReadSays c asked t history d.from d.to d.msg
 
   abbrev SaysAll : {V : Type 0} → Outcome V → Type 0
   SaysAll o = Each Says o.sends
@@ -64,8 +68,8 @@ module _ (c : Cluster) (asked : List KeptRecord) (sent0 : List Letter) (states0 
   acceptor_says : (me : RoleId) (i : Input) → Given sent me i → Each Says (acceptor_row c me (durable_of acceptor_rules me history) tt i).sends
   acceptor_says me (input.Take l) given =
       either_way SaysAll (same_role l.to me && names c l) _ _
-      (acceptor_tells Says me (plain_says asked t history me) (durable_of acceptor_rules me history) l.from l.msg
-      (λ u w e p. (covers_older asked history reads.has me _ (covers_all me), subst (λ m. ReadSays asked t history l.from l.to m) e (reads.says l given.1) p)))
+      (acceptor_tells Says me (plain_says c asked t history me) (durable_of acceptor_rules me history) l.from l.msg
+      (λ u w e p. (covers_older asked history reads.has me _ (covers_all me), subst (λ m. ReadSays c asked t history l.from l.to m) e (reads.says l given.1) p)))
       nothing
   acceptor_says me input.Tick given = nothing
   acceptor_says me (input.Order order) given = nothing
@@ -83,7 +87,7 @@ module _ (c : Cluster) (asked : List KeptRecord) (sent0 : List Letter) (states0 
           let b : y ≡ w = cc in
           let k : n ≡ max (durable_of acceptor_rules me history).cw (durable_of acceptor_rules me history).top = cc in (
             subst (λ z. Covers history me z) (sym k) (covers_all me),
-            subst (λ z. IsRaised history z) (sym b) (subst (λ m. ReadSays asked t history l.from l.to m) e (reads.says l m) (subst (IsNew asked) a p)),
+            subst (λ z. IsRaised history z) (sym b) (subst (λ m. ReadSays c asked t history l.from l.to m) e (reads.says l m) (subst (IsNew asked) a p)),
           )
   acceptor_acks me input.Tick given = λ d m. absurd m
   acceptor_acks me (input.Order order) given = λ d m. absurd m
@@ -96,24 +100,46 @@ module _ (c : Cluster) (asked : List KeptRecord) (sent0 : List Letter) (states0 
 
   -- a matchmaker
 
-  log_answer : (me : RoleId) → IsReadAnswer asked history me (durable_of matchmaker_rules me history).watermark (durable_of matchmaker_rules me history).entries
-  log_answer me = record {
-    all = λ j g from x. (facts.logs me).all j g from (reads.has _ x);
-    only = λ e m. elim ((facts.logs me).only e m) [ inl x ↦ facts.asked me e.round e.grid x | inr x ↦ (facts.garbaged me e.round e.grid x).0 ];
-    raised = elim (facts.logs me).raised [ inl x ↦ inl x.0 | inr x ↦ inr (me, x.0.0, x.0.1) ];
-    has_watermark = elim (facts.logs me).raised [ inl x ↦ inl x.0 | inr x ↦ inr x.1 ];
+  log_answer : (m : ℕ) → is_booted c (role kind.Matchmaker m) (durable_of matchmaker_rules (role kind.Matchmaker m) history) ≡ true
+      → is_stopped (durable_of matchmaker_rules (role kind.Matchmaker m) history) ≡ false
+      → IsReadAnswer c asked history (role kind.Matchmaker m) (durable_of matchmaker_rules (role kind.Matchmaker m) history).watermark (durable_of matchmaker_rules (role kind.Matchmaker m) history).entries
+  log_answer m booted running = record {
+    running = λ x. running_log c history sent m (durable_of matchmaker_rules me history) (facts.logs me) running (stopped x);
+    all = λ j g from x. (facts.logs me).all j g from (still j g x);
+    began = elim (booted_member c history sent m (durable_of matchmaker_rules me history) (facts.logs me) booted) [
+      | inl x ↦ inl x
+      | inr x ↦ inr (x.0, x.1, x.2, x.3, (facts.logs me).boots x.0 x.1 x.2 x.3, λ e k l. (facts.logs me).all e.round e.grid l (inr (x.0, x.1, x.2, x.3, k)))
+    ];
+    only = λ e k. elim ((facts.logs me).only e k) [ inl x ↦ had e.round e.grid x | inr x ↦ (facts.garbaged me e.round e.grid x).0 ];
+    raised = elim (facts.logs me).raised [ inl x ↦ inl x | inr x ↦ inr x.0 ];
+    has_watermark = elim (facts.logs me).raised [ inl x ↦ inl x | inr x ↦ inr x.1 ];
   }
+    where
+      me : RoleId
+      me = role kind.Matchmaker m
 
-  matchmaker_says : (me : RoleId) (i : Input) → Each Says (matchmaker_row c me (durable_of matchmaker_rules me history) tt i).sends
-  matchmaker_says me (input.Take l) =
-      either_way SaysAll (same_role l.to me && names c l) _ _
-      (matchmaker_tells Says me (plain_says asked t history me) (durable_of matchmaker_rules me history) l.from l.msg (λ u e p. log_answer me)) nothing
-  matchmaker_says me input.Tick = nothing
-  matchmaker_says me (input.Order order) = nothing
+      still : (j : Round) (g : Shape) → HasRound asked (role kind.Matchmaker m) j g → HasRound history (role kind.Matchmaker m) j g
+      still j g (inl x) = inl (reads.has _ x)
+      still j g (inr x) = inr (x.0, x.1, x.2, reads.has _ x.3, x.4)
+
+      stopped : HasStopped asked (role kind.Matchmaker m) → HasStopped history (role kind.Matchmaker m)
+      stopped (b, inl x) = (b, inl (reads.has _ x))
+      stopped (b, inr x) = (b, inr (x.0, reads.has _ x.1))
+
+      had : (j : Round) (g : Shape) → HasRound history (role kind.Matchmaker m) j g → IsConfig history j g
+      had j g (inl x) = facts.asked (role kind.Matchmaker m) j g x
+      had j g (inr x) = ((facts.sets.booted (role kind.Matchmaker m) x.0 x.1 x.2 x.3).1.join.only (entry j g) x.4).0
+
+  matchmaker_says : (m : ℕ) (i : Input) → Each Says (matchmaker_row c (role kind.Matchmaker m) (durable_of matchmaker_rules (role kind.Matchmaker m) history) tt i).sends
+  matchmaker_says m (input.Take l) =
+      either_way SaysAll (same_role l.to (role kind.Matchmaker m) && names c l) _ _
+      (matchmaker_tells Says c (role kind.Matchmaker m) (plain_says c asked t history (role kind.Matchmaker m)) (durable_of matchmaker_rules (role kind.Matchmaker m) history) l.from l.msg (λ u e b f p. log_answer m b f)) nothing
+  matchmaker_says m input.Tick = nothing
+  matchmaker_says m (input.Order order) = nothing
 
   pub matchmaker_lands : (m : ℕ) (i : Input)
       → Lands (Since c asked sent0 t) history sent states (role kind.Matchmaker m) plain (matchmaker_row c (role kind.Matchmaker m) (durable_of matchmaker_rules (role kind.Matchmaker m) history) tt i)
   matchmaker_lands m i =
-      lands c asked sent0 t history sent states facts reads (role kind.Matchmaker m) plain _ (matchmaker_says (role kind.Matchmaker m) i)
+      lands c asked sent0 t history sent states facts reads (role kind.Matchmaker m) plain _ (matchmaker_says m i)
       (no_acks c asked sent0 t history sent states facts reads (role kind.Matchmaker m) _ (λ e. cc)
       (matchmaker_kinds c (role kind.Matchmaker m) refl (durable_of matchmaker_rules (role kind.Matchmaker m) history) i)) tt

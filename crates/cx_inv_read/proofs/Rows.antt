@@ -1,6 +1,6 @@
 -- What the rows of the roles that take part in reads send: what is true of their other datagrams, and of each step of a read, is true of all.
-use Rattle.std.proofs.Common.{◌≡◌, ℕ, ◌+◌, ◌-◌, ◌≤◌, not, ◌&&◌, max, map, filter, ◌⊎◌, List, [], ◌∷◌, ◌++◌, length, Option, None, Some, inl, inr, sym, subst, refl}
-use Rattle.std.specs.Prelude.{◌==◌, ◌%◌, nat_lt, nat_le, slice_get}
+use Rattle.std.proofs.Common.{◌≡◌, ℕ, ◌+◌, ◌-◌, ◌≤◌, true, false, not, ◌&&◌, max, map, filter, ◌⊎◌, List, [], ◌∷◌, ◌++◌, length, Option, None, Some, inl, inr, sym, subst, refl}
+use Rattle.std.specs.Prelude.{◌==◌, ◌%◌, nat_lt, nat_le, bytes_eq, slice_get, if◌then◌else◌}
 use Rattle.std.specs.List.{list_any}
 use Rattle.std.proofs.lemmas.Bool.{leb-true}
 use Rattle.cx_base.specs.declared.cluster.Cluster.{Cluster}
@@ -10,13 +10,15 @@ use Rattle.cx_base.specs.declared.role.RoleId.{RoleId}
 use Rattle.cx_base.specs.declared.round.Round.{Round}
 use Rattle.cx_base.specs.declared.role.Kind.TheVariants as kind
 use Rattle.cx_base.specs.declared.why.Why.{Why}
-use Rattle.cx_base.specs.declared.why.Why.TheVariants.{Sent}
+use Rattle.cx_base.specs.declared.why.Why.TheVariants.{Sent, Stopped}
+use Rattle.cx_base.specs.Grid.{is_in}
 use Rattle.cx_base.specs.Lists.{below}
 use Rattle.cx_base.specs.Role.{role, same_role}
 use Rattle.cx_model.specs.Names.{names}
 use Rattle.cx_msg.specs.declared.input.Input.{Input}
 use Rattle.cx_msg.specs.declared.input.Input.TheVariants as input
 use Rattle.cx_base.specs.Log.{ready_values}
+use Rattle.cx_base.specs.Sets.{is_above}
 use Rattle.cx_base.specs.Round.{is_before, same_round}
 use Rattle.cx_field.specs.declared.parts.Asking.{Asking}
 use Rattle.cx_field.specs.declared.parts.Entry.{Entry}
@@ -25,13 +27,14 @@ use Rattle.cx_msg.specs.declared.message.Msg.{Msg}
 use Rattle.cx_msg.specs.declared.message.Msg.TheVariants as msg
 use Rattle.cx_model.specs.declared.states.Deferred.{Deferred}
 use Rattle.cx_model.specs.Acceptor.{AcceptorDurable, is_of, vote_at, acceptor_takes}
-use Rattle.cx_model.specs.Matched.{matchmakers, is_counted, greatest_watermark, live_entries, is_member_of, members_of, rows_whole}
-use Rattle.cx_model.specs.Matchmaker.{MatchmakerDurable, has_round, matchmaker_takes}
+use Rattle.cx_model.specs.Matched.{is_counted, greatest_watermark, live_entries, is_member_of, members_of, rows_whole}
+use Rattle.cx_model.specs.Matchmaker.{MatchmakerDurable, at_work, boot_in, garbage_a_row, has_round, in_set, is_booted, is_stopped, match_a_row, match_read_row, matchmaker_takes, next_a_row, set_of, stop_a_row}
 use Rattle.cx_model.specs.Member.{Member}
-use Rattle.cx_model.specs.Outcome.{Outcome, either_way, by_test}
-use Rattle.cx_model.specs.Reader.{Asked, Batch, ReaderDurable, ReaderVolatile, acked_by, ask_acceptors, ask_matchmakers, ask_replicas, asked_for, begin, begin_if, finish, greatest_mark, has_acked, is_among, is_first, is_matched, is_of_batch, last_turn, match_ack_row, match_read_to, matched, pre_read_ack_row, pre_read_to, read_to, reader_row, reader_takes, reader_tick, request_over, request_row, token, asking_of}
+use Rattle.cx_model.specs.Outcome.{Outcome, answered, either_way, by_test}
+use Rattle.cx_model.specs.Reader.{Asked, Batch, ReaderDurable, ReaderVolatile, acked_by, ask_acceptors, ask_matchmakers, ask_replicas, asked_anew, asked_for, begin, begin_if, finish, greatest_mark, has_acked, is_among, is_first, is_matched, is_of_batch, last_turn, match_ack_row, match_read_to, matched, pre_read_ack_row, pre_read_to, read_to, reader_row, reader_takes, reader_tick, request_over, request_row, token, asking_of}
 use Rattle.cx_model.specs.Replica.{ReplicaDurable, ReplicaVolatile, Machine, held, execute_value, machine_from, results_at, results_from, read_answer_to, read_answers, fetched_by, fetch_found, read_row, replica_takes, held_to, fetch_to, replica_tick}
 use Rattle.cx_model.specs.Request.{same_read}
+use Rattle.cx_inv_run.specs.Kinds.{IsSender}
 use Rattle.cx_inv_run.proofs.Members.{Member-both, Member-one, Member-map, Member-filter}
 
 -- a message that is of no read
@@ -81,21 +84,43 @@ module _ (P : Letter → Type 0) (me : RoleId) (plain : (to : RoleId) (m : Msg) 
 
 -- a matchmaker
 
-module _ (P : Letter → Type 0) (me : RoleId) (plain : (to : RoleId) (m : Msg) → IsPlain m → P (letter me to m)) (d : MatchmakerDurable) (from : RoleId) where
+module _ (P : Letter → Type 0) (c : Cluster) (me : RoleId) (plain : (to : RoleId) (m : Msg) → IsPlain m → P (letter me to m)) (d : MatchmakerDurable) (from : RoleId) where
   abbrev MatchmakerTells : Outcome (Unit {0}) → Type 0
   MatchmakerTells o = Each P o.sends
 
   matchmaker_one : (to : RoleId) (m : Msg) → IsPlain m → Each P (letter me to m ∷ [])
   matchmaker_one to m h = Member-one P (letter me to m) (plain to m h)
 
-  pub matchmaker_tells : (m : Msg) → ((u : Asking) → m ≡ msg.MatchRead u → P (letter me from (msg.MatchReadAck u d.watermark d.entries))) → MatchmakerTells (matchmaker_takes me d from m)
+  in_set_tells : (o : Outcome (Unit {0})) → (is_booted c me d ≡ true → MatchmakerTells o) → MatchmakerTells (in_set c me d o)
+  in_set_tells o h = by_test MatchmakerTells (is_booted c me d) _ _ h (λ f. none P)
+
+  at_work_tells : (o : Outcome (Unit {0})) → (is_booted c me d ≡ true → is_stopped d ≡ false → MatchmakerTells o) → MatchmakerTells (at_work c me d o)
+  at_work_tells o h = in_set_tells (if is_stopped d then answered Stopped tt else o) (λ b. by_test MatchmakerTells (is_stopped d) _ _ (λ t. none P) (λ f. h b f))
+
+  boot_tells : (s : List ℕ) (w : Round) (es : List Entry) (o : Option (List ℕ)) → MatchmakerTells (boot_in me from s w es o)
+  boot_tells s w es None = matchmaker_one _ _ tt
+  boot_tells s w es (Some t) = either_way MatchmakerTells (bytes_eq s t) _ _ (matchmaker_one _ _ tt) (none P)
+
+  pub matchmaker_tells : (m : Msg) → ((u : Asking) → m ≡ msg.MatchRead u → is_booted c me d ≡ true → is_stopped d ≡ false → P (letter me from (msg.MatchReadAck u d.watermark d.entries)))
+      → MatchmakerTells (matchmaker_takes c me d from m)
   matchmaker_tells (msg.MatchA i g) ack =
-      either_way MatchmakerTells (is_before i d.watermark) _ _ (matchmaker_one _ _ tt)
+      at_work_tells (match_a_row me d from i g)
+      (λ b f. either_way MatchmakerTells (is_before i d.watermark) _ _ (matchmaker_one _ _ tt)
       (either_way MatchmakerTells (list_any (λ (e : Entry). is_before i e.round) d.entries) _ _ (matchmaker_one _ _ tt)
       (either_way MatchmakerTells (has_round i d.entries) _ _ (matchmaker_one _ _ tt)
-      (either_way MatchmakerTells (nat_le 16 (length d.entries)) _ _ (matchmaker_one _ _ tt) (matchmaker_one _ _ tt))))
-  matchmaker_tells (msg.GarbageA i g) ack = either_way MatchmakerTells (is_before d.watermark i) _ _ (matchmaker_one _ _ tt) (matchmaker_one _ _ tt)
-  matchmaker_tells (msg.MatchRead u) ack = Member-one P _ (ack u refl)
+      (either_way MatchmakerTells (nat_le 16 (length d.entries)) _ _ (matchmaker_one _ _ tt) (matchmaker_one _ _ tt)))))
+  matchmaker_tells (msg.GarbageA i g) ack =
+      at_work_tells (garbage_a_row me d from i g) (λ b f. either_way MatchmakerTells (is_before d.watermark i) _ _ (matchmaker_one _ _ tt) (matchmaker_one _ _ tt))
+  matchmaker_tells (msg.MatchRead u) ack = at_work_tells (match_read_row me d from u) (λ b f. Member-one P _ (ack u refl b f))
+  matchmaker_tells (msg.StopA b) ack =
+      in_set_tells (stop_a_row me d from b)
+      (λ y. either_way MatchmakerTells (is_before b d.ballot) _ _ (matchmaker_one _ _ tt)
+      (either_way MatchmakerTells (same_round b d.ballot) _ _ (matchmaker_one _ _ tt) (matchmaker_one _ _ tt)))
+  matchmaker_tells (msg.NextA b s) ack =
+      in_set_tells (next_a_row me d from b s)
+      (λ y. either_way MatchmakerTells (is_before b d.ballot) _ _ (matchmaker_one _ _ tt)
+      (either_way MatchmakerTells (same_round b d.accepted) _ _ (matchmaker_one _ _ tt) (matchmaker_one _ _ tt)))
+  matchmaker_tells (msg.BootA s w es) ack = either_way MatchmakerTells (is_in me.index s) _ _ (boot_tells s w es (set_of c me d.booted)) (none P)
   matchmaker_tells other ack = none P
 
 -- a replica
@@ -176,23 +201,23 @@ module _ (P : Letter → Type 0) (c : Cluster) (me : RoleId) (d : ReaderDurable)
   abbrev ReaderTells : Outcome ReaderVolatile → Type 0
   ReaderTells o = Each P o.sends
 
-  begun : (w : Why) (ds : List Letter) (rs : List Asked) → Each P ds → ReaderTells (begin c me d w ds rs)
-  begun w ds rs told = Member-both P ds (ask_matchmakers c me (d.turn + 1)) told (each_mapped P (match_read_to me (asking_of me (d.turn + 1))) (matchmakers c) (λ m k. next m))
+  begun : (w : Why) (ds : List Letter) (rs : List Asked) → Each P ds → ReaderTells (begin me d v w ds rs)
+  begun w ds rs told = Member-both P ds (ask_matchmakers me v.set (d.turn + 1)) told (each_mapped P (match_read_to me (asking_of me (d.turn + 1))) v.set (λ m k. next m))
 
-  begun_if : (w : Why) (rs : List Asked) → ReaderTells (begin_if c me d v w rs)
+  begun_if : (w : Why) (rs : List Asked) → ReaderTells (begin_if me d v w rs)
   begun_if w rs = either_way ReaderTells (d.turn == last_turn) _ _ (none P) (begun w [] rs (none P))
 
-  requested : (one : Asked) → ReaderTells (request_row c me d v one)
+  requested : (one : Asked) → ReaderTells (request_row me d v one)
   requested one = either_way ReaderTells (is_among one.read v.waiting) _ _ (none P) (over v.running)
     where
-      over : (o : Option Batch) → ReaderTells (request_over c me d v one o)
+      over : (o : Option Batch) → ReaderTells (request_over me d v one o)
       over None = either_way ReaderTells (nat_le 64 (length v.waiting)) _ _ (none P) (begun_if _ _)
       over (Some b) =
           either_way ReaderTells (is_first one.read b.reads) _ _ (begun_if _ _)
           (either_way ReaderTells (is_among one.read b.reads) _ _ (none P) (either_way ReaderTells (nat_le 64 (length v.waiting + length b.reads)) _ _ (none P) (none P)))
 
   module _ (b : Batch) (is : v.running ≡ Some b) where
-    finished : (next : Batch) → next.reads ≡ b.reads → (n : ℕ) → ReaderTells (finish c me d v next n)
+    finished : (next : Batch) → next.reads ≡ b.reads → (n : ℕ) → ReaderTells (finish me d v next n)
     finished next same n =
         let told : Each P (ask_replicas me next n) = each_mapped P (read_to me n) next.reads (λ r m. last b is r (subst (λ l. Member r l) same m) n) in
         either_way ReaderTells (nat_lt 0 (length v.waiting) && not (d.turn == last_turn)) _ _ (begun Sent (ask_replicas me next n) v.waiting told) told
@@ -207,7 +232,7 @@ module _ (P : Letter → Type 0) (c : Cluster) (me : RoleId) (d : ReaderDurable)
   told from u w es None is = none P
   told from u w es (Some b) is =
       let one : Batch = record b { told = b.told ++ record { matchmaker = from.index; watermark = w; entries = es } ∷ [] } in
-      either_way ReaderTells (not (is_of_batch me b u && not (is_matched c b))) _ _ (none P)
+      either_way ReaderTells (not (is_of_batch me b u && not (is_matched c b) && is_in from.index v.set)) _ _ (none P)
       (either_way ReaderTells (is_counted from.index b.told) _ _ (none P)
       (either_way ReaderTells (is_matched c one) _ _ (matched_on b is one refl refl (live_entries one.told)) (none P)))
 
@@ -220,20 +245,38 @@ module _ (P : Letter → Type 0) (c : Cluster) (me : RoleId) (d : ReaderDurable)
       (either_way ReaderTells (has_acked from.index b.acks) _ _ (none P)
       (either_way ReaderTells (rows_whole (live_entries one.told) (acked_by one.acks)) _ _ (finished b is one refl (greatest_mark one.acks)) (none P))))
 
+  -- another set took over
+  anew : (s : List ℕ) (o : Option Batch) → v.running ≡ o → ReaderTells (asked_anew c me (record v { set = s }) o)
+  anew s None is = none P
+  anew s (Some b) is = either_way ReaderTells (is_matched c b) _ _ (none P) (each_mapped P (match_read_to me (asking_of me b.turn)) s (λ m k. first b is m))
+
   took : (from : RoleId) (m : Msg) → ReaderTells (reader_takes c me d v from m)
   took from (msg.ReadReq seq replica key) = requested (asked_for (token from.index seq) replica key)
   took from (msg.MatchReadAck u w es) = told from u w es v.running refl
   took from (msg.PreReadAck u w n) = acked from u w n v.running refl
+  took from (msg.Sets s) = either_way ReaderTells (is_above s v.set) _ _ (anew s v.running refl) (none P)
   took from other = none P
 
   ticked : (o : Option Batch) → v.running ≡ o → ReaderTells (reader_tick c me v o)
   ticked None is = none P
   ticked (Some b) is =
-      either_way (Each P) (is_matched c b) (ask_acceptors c me b) (ask_matchmakers c me b.turn)
+      either_way (Each P) (is_matched c b) (ask_acceptors c me b) (ask_matchmakers me v.set b.turn)
       (each_mapped P (pre_read_to me b) (members_of c (live_entries b.told)) (λ a m. second b is (greatest_watermark b.told) a))
-      (each_mapped P (match_read_to me (asking_of me b.turn)) (matchmakers c) (λ m k. first b is m))
+      (each_mapped P (match_read_to me (asking_of me b.turn)) v.set (λ m k. first b is m))
 
   pub reader_tells : (i : Input) → Each P (reader_row c me d v i).sends
   reader_tells (input.Take l) = either_way ReaderTells (same_role l.to me && names c l) _ _ (took l.from l.msg) (none P)
   reader_tells input.Tick = ticked v.running refl
   reader_tells (input.Order order) = none P
+
+-- a replacer
+
+pub replacer_sends : (P : Msg → Type 0) → ((b : Round) → P (msg.StopA b)) → ((b : Round) (s : List ℕ) → P (msg.NextA b s)) → ((s : List ℕ) (w : Round) (es : List Entry) → P (msg.BootA s w es))
+    → ((s : List ℕ) → P (msg.Sets s)) → (m : Msg) → IsSender kind.Replacer m → P m
+replacer_sends P stop_a next_a boot_a sets (msg.StopA b) s = stop_a b
+replacer_sends P stop_a next_a boot_a sets (msg.NextA b t) s = next_a b t
+replacer_sends P stop_a next_a boot_a sets (msg.BootA t w es) s = boot_a t w es
+replacer_sends P stop_a next_a boot_a sets (msg.Sets t) s = sets t
+replacer_sends P stop_a next_a boot_a sets (msg.Chosen t v) (inl e) = cc
+replacer_sends P stop_a next_a boot_a sets (msg.Chosen t v) (inr e) = cc
+replacer_sends P stop_a next_a boot_a sets other s = cc

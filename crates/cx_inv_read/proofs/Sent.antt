@@ -22,6 +22,7 @@ use Rattle.cx_model.specs.Member.{Member}
 use Rattle.cx_model.specs.Names.{names}
 use Rattle.cx_model.specs.Outcome.{Outcome, either_way}
 use Rattle.cx_model.specs.Reader.{reader_rules}
+use Rattle.cx_model.specs.Replacer.{replacer_rules}
 use Rattle.cx_model.specs.Replica.{replica_rules}
 use Rattle.cx_model.specs.Request.{request}
 use Rattle.cx_model.specs.World.{change, step, run}
@@ -29,7 +30,7 @@ use Rattle.cx_inv_run.specs.Kinds.{IsSender, OfKind}
 use Rattle.cx_inv_run.specs.Laws.{Lands, Laws}
 use Rattle.cx_inv_run.specs.States.{State, durable_of, HoldsIn}
 use Rattle.cx_inv_run.proofs.Members.{Member-second}
-use Rattle.cx_inv_run.proofs.Senders.{batcher_kinds, leader_kinds, proxy_kinds, matchmaker_kinds, replica_kinds, unbatcher_kinds, reader_kinds}
+use Rattle.cx_inv_run.proofs.Senders.{batcher_kinds, leader_kinds, proxy_kinds, matchmaker_kinds, replica_kinds, unbatcher_kinds, reader_kinds, replacer_kinds}
 use Rattle.cx_inv_run.proofs.Steps.{step_keeps, run_cluster}
 use Rattle.cx_inv_match.specs.Facts.{Facts}
 use Rattle.cx_inv_read.proofs.Fresh.{known_holds}
@@ -115,6 +116,9 @@ module _ (c : Cluster) (before : List KeptRecord) (earlier : List Letter) where
         lands history sent states known.1 (role kind.Unbatcher u) _ _ (others (role kind.Unbatcher u) _ (λ e. cc) (unbatcher_kinds c (role kind.Unbatcher u) refl i));
     reader = λ history sent states r v i known h up given.
         lands history sent states known.1 (role kind.Reader r) _ _ (others (role kind.Reader r) _ (λ e. cc) (reader_kinds c (role kind.Reader r) refl (durable_of reader_rules (role kind.Reader r) history) v i));
+    replacer = λ history sent states x v i known h up given.
+        lands history sent states known.1 (role kind.Replacer x) _ _
+        (others (role kind.Replacer x) _ (λ e. cc) (replacer_kinds c (role kind.Replacer x) refl (durable_of replacer_rules (role kind.Replacer x) history) v i));
   }
 
 -- the answers that an event of a run sends

@@ -17,6 +17,7 @@ use Rattle.cx_model.specs.Leader.{leader_rules}
 use Rattle.cx_model.specs.Matchmaker.{matchmaker_rules}
 use Rattle.cx_model.specs.Outcome.{Outcome}
 use Rattle.cx_model.specs.Reader.{reader_rules}
+use Rattle.cx_model.specs.Replacer.{replacer_rules}
 use Rattle.cx_model.specs.Replica.{replica_rules}
 use Rattle.cx_model.specs.Request.{request}
 use Rattle.cx_model.specs.World.{run}
@@ -24,7 +25,7 @@ use Rattle.cx_inv_run.specs.Kinds.{IsSender, OfKind}
 use Rattle.cx_inv_run.specs.Laws.{Lands, Laws, AllAllowed, anything}
 use Rattle.cx_inv_run.specs.States.{State, durable_of, HoldsIn}
 use Rattle.cx_inv_run.proofs.Members.{Member-both, Member-one}
-use Rattle.cx_inv_run.proofs.Senders.{batcher_kinds, leader_kinds, proxy_kinds, acceptor_kinds, matchmaker_kinds, replica_kinds, unbatcher_kinds, reader_kinds}
+use Rattle.cx_inv_run.proofs.Senders.{batcher_kinds, leader_kinds, proxy_kinds, acceptor_kinds, matchmaker_kinds, replica_kinds, unbatcher_kinds, reader_kinds, replacer_kinds}
 use Rattle.cx_inv_run.proofs.Steps.{run_keeps, run_from_keeps, run_append, run_cluster, along_anything}
 use Rattle.cx_inv_read.specs.Reads.{SessionSays, Sessions}
 use Rattle.cx_inv_read.proofs.Requests.{IsSessionFor}
@@ -56,6 +57,7 @@ module _ (t : Token) (Marks : ℕ → Type 0) where
   asks n (event.Tick r) marked = λ d m. absurd m
   asks n (event.Order l order cut) marked = λ d m. absurd m
   asks n (event.Snap p cut) marked = λ d m. absurd m
+  asks n (event.Replace x set cut) marked = λ d m. absurd m
   asks n (event.Crash r) marked = λ d m. absurd m
   asks n (event.Restart r) marked = λ d m. absurd m
 
@@ -87,6 +89,9 @@ module _ (t : Token) (Marks : ℕ → Type 0) where
         lands history sent states h (role kind.Unbatcher u) _ _ (λ e. cc) (unbatcher_kinds c (role kind.Unbatcher u) refl i);
     reader = λ history sent states r v i known h up given.
         lands history sent states h (role kind.Reader r) _ _ (λ e. cc) (reader_kinds c (role kind.Reader r) refl (durable_of reader_rules (role kind.Reader r) history) v i);
+    replacer = λ history sent states x v i known h up given.
+        lands history sent states h (role kind.Replacer x) _ _ (λ e. cc)
+        (replacer_kinds c (role kind.Replacer x) refl (durable_of replacer_rules (role kind.Replacer x) history) v i);
   }
 
   pub sessions_hold : (c : Cluster) (es : List Event) → AllAllowed IsMarked (run c []) es → HoldsIn (Sessions t Marks) (run c es)

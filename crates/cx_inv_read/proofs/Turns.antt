@@ -11,8 +11,10 @@ use Rattle.cx_base.specs.declared.role.RoleId.{RoleId}
 use Rattle.cx_base.specs.declared.round.Round.{Round}
 use Rattle.cx_base.specs.declared.why.Why.{Why}
 use Rattle.cx_base.specs.declared.why.Why.TheVariants.{Sent}
+use Rattle.cx_base.specs.Grid.{is_in}
 use Rattle.cx_base.specs.Role.{role, same_role}
 use Rattle.cx_base.specs.Round.{same_round}
+use Rattle.cx_base.specs.Sets.{is_above}
 use Rattle.cx_field.specs.declared.parts.Asking.{Asking}
 use Rattle.cx_field.specs.declared.parts.Entry.{Entry}
 use Rattle.cx_msg.specs.Letter.{Letter}
@@ -27,27 +29,28 @@ use Rattle.cx_msg.specs.declared.message.Msg.{Msg}
 use Rattle.cx_msg.specs.declared.message.Msg.TheVariants as msg
 use Rattle.cx_model.specs.Acceptor.{AcceptorDurable, acceptor_rules, acceptor_row}
 use Rattle.cx_model.specs.Leader.{leader_rules}
-use Rattle.cx_model.specs.Matched.{matchmakers, is_counted, is_member_of, greatest_watermark, live_entries, members_of, rows_whole}
+use Rattle.cx_model.specs.Matched.{is_counted, is_member_of, greatest_watermark, live_entries, members_of, rows_whole}
 use Rattle.cx_model.specs.Matchmaker.{MatchmakerDurable, matchmaker_rules, matchmaker_row}
 use Rattle.cx_model.specs.Member.{Member}
 use Rattle.cx_model.specs.Names.{names}
 use Rattle.cx_model.specs.Outcome.{Outcome, answered, either_way}
 use Rattle.cx_model.specs.Promises.{HasKept, HasTurn}
-use Rattle.cx_model.specs.Reader.{Asked, Batch, ReaderDurable, ReaderVolatile, acked_by, ask_acceptors, ask_matchmakers, ask_replicas, asked_for, begin, begin_if, finish, greatest_mark, has_acked, is_among, is_first, is_matched, is_of_batch, last_turn, match_ack_counted, match_ack_row, match_read_to, matched, new_batch, pre_read_ack_row, pre_read_counted, pre_read_to, read_to, reader_after, reader_row, reader_rules, reader_takes, reader_tick, request_over, request_row, token, asking_of}
+use Rattle.cx_model.specs.Reader.{Asked, Batch, ReaderDurable, ReaderVolatile, acked_by, ask_acceptors, ask_matchmakers, ask_replicas, asked_anew, asked_for, begin, begin_if, finish, greatest_mark, has_acked, is_among, is_first, is_matched, is_of_batch, last_turn, match_ack_counted, match_ack_row, match_read_to, matched, new_batch, pre_read_ack_row, pre_read_counted, pre_read_to, read_to, reader_after, reader_row, reader_rules, reader_takes, reader_tick, request_over, request_row, token, asking_of}
+use Rattle.cx_model.specs.Replacer.{replacer_rules}
 use Rattle.cx_model.specs.Replica.{replica_rules}
 use Rattle.cx_model.specs.Request.{request}
 use Rattle.cx_model.specs.World.{run}
 use Rattle.cx_inv_run.specs.Kinds.{IsWriter}
 use Rattle.cx_inv_run.specs.Laws.{Lands, Laws, anything}
-use Rattle.cx_inv_run.specs.States.{State, Down, BatcherIn, LeaderIn, ProxyIn, ReplicaIn, ReaderIn, plain, Given, durable_of, entry_by, snap_by, fresh_state, with_record, HoldsIn}
+use Rattle.cx_inv_run.specs.States.{State, Down, BatcherIn, LeaderIn, ProxyIn, ReplicaIn, ReaderIn, ReplacerIn, plain, Given, durable_of, entry_by, snap_by, fresh_state, with_record, HoldsIn}
 use Rattle.cx_inv_run.proofs.Histories.{durable_else, durable_other, durable_own, kept_cases, kept_longer, kept_other, no_snap, same_role-true, set_running}
 use Rattle.cx_inv_run.proofs.Members.{Member-both}
-use Rattle.cx_inv_run.proofs.Senders.{batcher_kinds, leader_kinds, proxy_kinds, replica_kinds, unbatcher_kinds}
+use Rattle.cx_inv_run.proofs.Senders.{batcher_kinds, leader_kinds, proxy_kinds, replica_kinds, unbatcher_kinds, replacer_kinds}
 use Rattle.cx_inv_run.proofs.Sends.{batcher_sends, leader_sends, proxy_sends, replica_sends, unbatcher_sends, sends_only}
 use Rattle.cx_inv_run.proofs.Steps.{run_keeps, along_anything, all_allowed}
 use Rattle.cx_inv_read.specs.Reads.{Has, IsNew, TurnSays, BatchIsKept, TurnsKept}
 use Rattle.cx_inv_read.proofs.Requests.{requested}
-use Rattle.cx_inv_read.proofs.Rows.{IsPlain, Each, acceptor_tells, matchmaker_tells, each_mapped}
+use Rattle.cx_inv_read.proofs.Rows.{IsPlain, Each, acceptor_tells, matchmaker_tells, replacer_sends, each_mapped}
 
 -- ---- no turn that was kept is above the last one
 
@@ -145,27 +148,27 @@ module _ (r : ℕ) (history : List KeptRecord) (d : ReaderDurable) (v : ReaderVo
   abbrev Next : List KeptRecord
   Next = entry_by mine (kept.Turn (d.turn + 1)) ∷ history
 
-  begins : (w : Why) (first : List Letter) (rs : List Asked) → Each (λ l. TurnSays Next l.msg) first → Good (begin c mine d w first rs)
+  begins : (w : Why) (first : List Letter) (rs : List Asked) → Each (λ l. TurnSays Next l.msg) first → Good (begin mine d v w first rs)
   begins w first rs told = record {
-    says = Member-both (λ l. TurnSays Next l.msg) first (ask_matchmakers c mine (d.turn + 1)) told
-        (each_mapped (λ l. TurnSays Next l.msg) (match_read_to mine (asking_of mine (d.turn + 1))) (matchmakers c) (λ m k. inl refl));
+    says = Member-both (λ l. TurnSays Next l.msg) first (ask_matchmakers mine v.set (d.turn + 1)) told
+        (each_mapped (λ l. TurnSays Next l.msg) (match_read_to mine (asking_of mine (d.turn + 1))) v.set (λ m k. inl refl));
     runs = λ b e. subst (λ (x : Batch). HasTurn Next (asking_of mine x.turn)) (same_Some (new_batch (d.turn + 1) rs) b e) (inl refl);
   }
 
-  begins_if : (w : Why) (rs : List Asked) → Good (begin_if c mine d v w rs)
+  begins_if : (w : Why) (rs : List Asked) → Good (begin_if mine d v w rs)
   begins_if w rs = either_way Good (d.turn == last_turn) _ _ (same _) (begins w [] rs (λ l m. absurd m))
 
-  request_good : (one : Asked) → Good (request_row c mine d v one)
+  request_good : (one : Asked) → Good (request_row mine d v one)
   request_good one = either_way Good (is_among one.read v.waiting) _ _ (waits _ _) (over v.running)
     where
-      over : (o : Option Batch) → Good (request_over c mine d v one o)
+      over : (o : Option Batch) → Good (request_over mine d v one o)
       over None = either_way Good (nat_le 64 (length v.waiting)) _ _ (same _) (begins_if _ _)
       over (Some b) =
           either_way Good (is_first one.read b.reads) _ _ (begins_if _ _)
           (either_way Good (is_among one.read b.reads) _ _ (same _)
           (either_way Good (nat_le 64 (length v.waiting + length b.reads)) _ _ (same _) (waits _ _)))
 
-  finishes : (b : Batch) (n : ℕ) → Good (finish c mine d v b n)
+  finishes : (b : Batch) (n : ℕ) → Good (finish mine d v b n)
   finishes b n =
       either_way Good (nat_lt 0 (length v.waiting) && not (d.turn == last_turn)) _ _
       (begins Sent (ask_replicas mine b n) v.waiting (each_mapped (λ l. TurnSays Next l.msg) (read_to mine n) b.reads (λ x m. tt)))
@@ -189,7 +192,7 @@ module _ (r : ℕ) (history : List KeptRecord) (d : ReaderDurable) (v : ReaderVo
   match_good : (from : RoleId) (u : Asking) (w : Round) (es : List Entry) (o : Option Batch) → v.running ≡ o → Good (match_ack_row c mine d v from u w es o)
   match_good from u w es None is = same _
   match_good from u w es (Some b) is =
-      either_way Good (not (is_of_batch mine b u && not (is_matched c b))) _ _ (same _)
+      either_way Good (not (is_of_batch mine b u && not (is_matched c b) && is_in from.index v.set)) _ _ (same _)
       (either_way Good (is_counted from.index b.told) _ _ (same _)
       (match_counted (record b { told = b.told ++ record { matchmaker = from.index; watermark = w; entries = es } ∷ [] }) (kept_so b is)))
 
@@ -201,18 +204,29 @@ module _ (r : ℕ) (history : List KeptRecord) (d : ReaderDurable) (v : ReaderVo
       (either_way Good (has_acked from.index b.acks) _ _ (same _)
       (ack_counted (record b { acks = b.acks ++ record { acceptor = from.index; mark = n } ∷ [] }) (kept_so b is))))
 
+  -- another set took over: a batch in its first stage is asked anew, under its turn
+  anew_good : (s : List ℕ) (o : Option Batch) → v.running ≡ o → Good (asked_anew c mine (record v { set = s }) o)
+  anew_good s None is = record { says = λ l m. absurd m; runs = kept_so }
+  anew_good s (Some b) is =
+      either_way Good (is_matched c b) _ _ (record { says = λ l m. absurd m; runs = kept_so })
+      (record {
+        says = each_mapped (λ l. TurnSays history l.msg) (match_read_to mine (asking_of mine b.turn)) s (λ m k. kept_so b is);
+        runs = goes_on (record b { told = [] }) (kept_so b is);
+      })
+
   takes_good : (from : RoleId) (m : Msg) → Good (reader_takes c mine d v from m)
   takes_good from (msg.ReadReq seq replica key) = request_good (asked_for (token from.index seq) replica key)
   takes_good from (msg.MatchReadAck u w es) = match_good from u w es v.running refl
   takes_good from (msg.PreReadAck u w n) = ack_good from u w n v.running refl
+  takes_good from (msg.Sets s) = either_way Good (is_above s v.set) _ _ (anew_good s v.running refl) (same _)
   takes_good from other = same _
 
   ticks_good : (o : Option Batch) → v.running ≡ o → Good (reader_tick c mine v o)
   ticks_good None is = same _
   ticks_good (Some b) is = record {
-    says = either_way (Each (λ l. TurnSays history l.msg)) (is_matched c b) (ask_acceptors c mine b) (ask_matchmakers c mine b.turn)
+    says = either_way (Each (λ l. TurnSays history l.msg)) (is_matched c b) (ask_acceptors c mine b) (ask_matchmakers mine v.set b.turn)
         (each_mapped (λ l. TurnSays history l.msg) (pre_read_to mine b) (members_of c (live_entries b.told)) (λ a m. kept_so b is))
-        (each_mapped (λ l. TurnSays history l.msg) (match_read_to mine (asking_of mine b.turn)) (matchmakers c) (λ m k. kept_so b is));
+        (each_mapped (λ l. TurnSays history l.msg) (match_read_to mine (asking_of mine b.turn)) v.set (λ m k. kept_so b is));
     runs = kept_so;
   }
 
@@ -233,6 +247,7 @@ fresh_kept c history a kind.Matchmaker = tt
 fresh_kept c history a kind.Replica = tt
 fresh_kept c history a kind.Unbatcher = tt
 fresh_kept c history a kind.Reader = λ b e. absurd (none-some b e)
+fresh_kept c history a kind.Replacer = tt
 
 module _ (history : List KeptRecord) (sent : List Letter) (states : RoleId → State) (h : TurnsKept history sent states) where
   lands : {V : Type 0} (me : RoleId) (make : V → State) (o : Outcome V) → Each (λ d. TurnSays (with_record me o.kept history) d.msg) o.sends
@@ -265,7 +280,7 @@ module _ (history : List KeptRecord) (sent : List Letter) (states : RoleId → S
   matchmaker_says : (c : Cluster) (me : RoleId) (d : MatchmakerDurable) (i : Input) → Given sent me i → Each (λ x. TurnSays history x.msg) (matchmaker_row c me d tt i).sends
   matchmaker_says c me d (input.Take l) given =
       either_way (λ (o : Outcome (Unit {0})). Each (λ x. TurnSays history x.msg) o.sends) (same_role l.to me && names c l) _ _
-      (matchmaker_tells (λ x. TurnSays history x.msg) me (λ to m p. plain_turn history m p) d l.from l.msg (λ u e. subst (λ m. TurnSays history m) e (h.says l given.1))) (λ x m. absurd m)
+      (matchmaker_tells (λ x. TurnSays history x.msg) c me (λ to m p. plain_turn history m p) d l.from l.msg (λ u e b f. subst (λ m. TurnSays history m) e (h.says l given.1))) (λ x m. absurd m)
   matchmaker_says c me d input.Tick given = λ x m. absurd m
   matchmaker_says c me d (input.Order order) given = λ x m. absurd m
 
@@ -311,6 +326,10 @@ turns_laws c = record {
   reader = λ history sent states r v i known h up given.
       let good = turns_good r history (durable_of reader_rules (reader r) history) v c (subst (λ s. BatchIsKept history (reader r) s) up (h.running (reader r))) i in
       lands history sent states h (reader r) ReaderIn _ good.says good.runs;
+  replacer = λ history sent states x v i known h up given.
+      plainly history sent states h (role kind.Replacer x) ReplacerIn _
+      (sends_only (λ d. TurnSays history d.msg) (role kind.Replacer x) _ (replacer_kinds c (role kind.Replacer x) refl (durable_of replacer_rules (role kind.Replacer x) history) v i)
+      (λ to. replacer_sends (λ m. TurnSays history m) (λ b. tt) (λ b s. tt) (λ s w es. tt) (λ s. tt))) tt;
 }
 
 pub turns_hold : (c : Cluster) (es : List Event) → HoldsIn TurnsKept (run c es)

@@ -16,17 +16,18 @@ use Rattle.cx_model.specs.Leader.{leader_rules}
 use Rattle.cx_model.specs.Matchmaker.{matchmaker_rules}
 use Rattle.cx_model.specs.Outcome.{Outcome}
 use Rattle.cx_model.specs.Reader.{ReaderDurable, ReaderVolatile, reader_rules, reader_row}
+use Rattle.cx_model.specs.Replacer.{replacer_rules}
 use Rattle.cx_model.specs.Replica.{replica_rules}
 use Rattle.cx_model.specs.Request.{request}
 use Rattle.cx_inv_run.specs.Laws.{Lands, Laws}
 use Rattle.cx_inv_run.specs.States.{State, durable_of}
 use Rattle.cx_inv_run.proofs.Members.{Member-cases, Member-one}
-use Rattle.cx_inv_run.proofs.Senders.{batcher_kinds, leader_kinds, proxy_kinds, acceptor_kinds, matchmaker_kinds, replica_kinds, unbatcher_kinds}
+use Rattle.cx_inv_run.proofs.Senders.{batcher_kinds, leader_kinds, proxy_kinds, acceptor_kinds, matchmaker_kinds, replica_kinds, unbatcher_kinds, replacer_kinds}
 use Rattle.cx_inv_run.proofs.Sends.{batcher_sends, leader_sends, proxy_sends, acceptor_sends, matchmaker_sends, replica_sends, unbatcher_sends, sends_only}
 use Rattle.cx_inv_match.specs.Facts.{InState}
 use Rattle.cx_inv_read.specs.Reads.{IsElse, Unread}
 use Rattle.cx_inv_read.proofs.Requests.{IsReadFor}
-use Rattle.cx_inv_read.proofs.Rows.{Each, reader_tells}
+use Rattle.cx_inv_read.proofs.Rows.{Each, reader_tells, replacer_sends}
 use Rattle.cx_inv_read.proofs.Says.{Known, told_lands}
 
 module _ (t : Token) where
@@ -56,6 +57,7 @@ module _ (t : Token) where
   asked_fresh n (event.Tick r) other = λ d m. absurd m
   asked_fresh n (event.Order l order cut) other = λ d m. absurd m
   asked_fresh n (event.Snap p cut) other = λ d m. absurd m
+  asked_fresh n (event.Replace x set cut) other = λ d m. absurd m
   asked_fresh n (event.Crash r) other = λ d m. absurd m
   asked_fresh n (event.Restart r) other = λ d m. absurd m
 
@@ -89,7 +91,7 @@ module _ (t : Token) where
     matchmaker = λ history sent states m i known h up given.
         lands history sent states h (role kind.Matchmaker m) _ _
         (sends_only Fresh (role kind.Matchmaker m) _ (matchmaker_kinds c (role kind.Matchmaker m) refl (durable_of matchmaker_rules (role kind.Matchmaker m) history) i)
-        (λ to. matchmaker_sends (λ x. IsElse t (role kind.Matchmaker m) to x) (λ j w entries. tt) (λ j reason other. tt) (λ j. tt) (λ u w entries. tt)));
+        (λ to. matchmaker_sends (λ x. IsElse t (role kind.Matchmaker m) to x) (λ j w entries. tt) (λ j reason other. tt) (λ j. tt) (λ u w entries. tt) (λ b w entries a s. tt) (λ b other. tt) (λ b. tt) (λ s. tt)));
     replica = λ history sent states p v i known h up given.
         lands history sent states h (role kind.Replica p) _ _
         (sends_only Fresh (role kind.Replica p) _ (replica_kinds c (role kind.Replica p) refl (durable_of replica_rules (role kind.Replica p) history) v i)
@@ -103,4 +105,8 @@ module _ (t : Token) where
         lands history sent states h (role kind.Reader r) _ _
         (reader_fresh c r (durable_of reader_rules (role kind.Reader r) history) v sent h
         (subst (λ s. InState c history sent (role kind.Reader r) s) up (known.1.running (role kind.Reader r))).0 i);
+    replacer = λ history sent states x v i known h up given.
+        lands history sent states h (role kind.Replacer x) _ _
+        (sends_only Fresh (role kind.Replacer x) _ (replacer_kinds c (role kind.Replacer x) refl (durable_of replacer_rules (role kind.Replacer x) history) v i)
+        (λ to. replacer_sends (λ m. IsElse t (role kind.Replacer x) to m) (λ b. tt) (λ b s. tt) (λ s w es. tt) (λ s. tt)));
   }

@@ -31,6 +31,7 @@ use Rattle.cx_model.specs.Acceptor.{acceptor_rules}
 use Rattle.cx_model.specs.Leader.{leader_rules}
 use Rattle.cx_model.specs.Matchmaker.{matchmaker_rules}
 use Rattle.cx_model.specs.Member.{Member}
+use Rattle.cx_model.specs.Replacer.{replacer_rules}
 use Rattle.cx_model.specs.Names.{names}
 use Rattle.cx_model.specs.Outcome.{Outcome, either_way}
 use Rattle.cx_model.specs.Reader.{reader_rules, token}
@@ -43,14 +44,14 @@ use Rattle.cx_inv_run.specs.States.{State, Given, entry_by, snap_by, with_record
 use Rattle.cx_inv_run.specs.Ties.{Ties}
 use Rattle.cx_inv_run.proofs.Histories.{log_other, log_own, log_snap, same_role-true}
 use Rattle.cx_inv_run.proofs.Members.{Member-both, Member-filter, Member-map, Member-one}
-use Rattle.cx_inv_run.proofs.Senders.{batcher_kinds, leader_kinds, proxy_kinds, acceptor_kinds, matchmaker_kinds, reader_kinds}
+use Rattle.cx_inv_run.proofs.Senders.{batcher_kinds, leader_kinds, proxy_kinds, acceptor_kinds, matchmaker_kinds, reader_kinds, replacer_kinds}
 use Rattle.cx_inv_run.proofs.Sends.{batcher_sends, leader_sends, proxy_sends, acceptor_sends, matchmaker_sends, reader_sends, sends_only}
 use Rattle.cx_inv_run.proofs.Steps.{along, run_keeps, all_allowed}
 use Rattle.cx_inv_run.proofs.TieLaws.{ties_hold}
 use Rattle.cx_inv_run.proofs.Tying.{held_is}
 use Rattle.cx_inv_read.specs.Reads.{IsWithin, TellsWithin, Within}
 use Rattle.cx_inv_read.proofs.Requests.{requested}
-use Rattle.cx_inv_read.proofs.Rows.{Each}
+use Rattle.cx_inv_read.proofs.Rows.{Each, replacer_sends}
 use Rattle.cx_inv_read.proofs.Says.{told_lands}
 
 -- a replica's values only grow
@@ -270,7 +271,7 @@ within_laws c = record {
   matchmaker = λ history sent states m i known h up given.
       lands history sent states h (role kind.Matchmaker m) _ _
       (sends_only _ (role kind.Matchmaker m) _ (matchmaker_kinds c (role kind.Matchmaker m) refl (durable_of matchmaker_rules (role kind.Matchmaker m) history) i)
-      (λ to. matchmaker_sends (TellsWithin _) (λ j w entries. tt) (λ j reason other. tt) (λ j. tt) (λ t w entries. tt)));
+      (λ to. matchmaker_sends (TellsWithin _) (λ j w entries. tt) (λ j reason other. tt) (λ j. tt) (λ t w entries. tt) (λ b w entries a s. tt) (λ b other. tt) (λ b. tt) (λ s. tt)));
   replica = λ history sent states p v i known h up given.
       lands history sent states h (role kind.Replica p) _ _ (replica_good c history p (known.tied p) v i);
   snap = λ history sent states p v first known h up e d m.
@@ -281,6 +282,10 @@ within_laws c = record {
   reader = λ history sent states r v i known h up given.
       lands history sent states h (role kind.Reader r) _ _
       (sends_only _ (role kind.Reader r) _ (reader_kinds c (role kind.Reader r) refl (durable_of reader_rules (role kind.Reader r) history) v i) (λ to. reader_sends (TellsWithin _) (λ t. tt) (λ t w. tt) (λ t n key. tt)));
+  replacer = λ history sent states x v i known h up given.
+      lands history sent states h (role kind.Replacer x) _ _
+      (sends_only _ (role kind.Replacer x) _ (replacer_kinds c (role kind.Replacer x) refl (durable_of replacer_rules (role kind.Replacer x) history) v i)
+      (λ to. replacer_sends (TellsWithin _) (λ b. tt) (λ b s. tt) (λ s w es. tt) (λ s. tt)));
 }
 
 pub within_holds : (c : Cluster) (es : List Event) → HoldsIn Within (run c es)

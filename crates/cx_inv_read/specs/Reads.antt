@@ -1,7 +1,7 @@
 -- What the datagrams of a turn and of a read say: of the history as it was at a moment before the read was first asked for, and of a read that
 -- was not asked for; that turns were kept; what the datagrams of a session say; on which question to a replica an answer stands, and how many
 -- values some replica kept.
-use Rattle.std.specs.Prelude.{◌≡◌, ◌⊎◌, ℕ, ◌+◌, ◌*◌, ◌<◌, ◌≤◌, false, List, length, Option, None, Some}
+use Rattle.std.specs.Prelude.{◌≡◌, ◌⊎◌, ℕ, ◌<◌, ◌≤◌, false, List, length, Option, None, Some}
 use Rattle.cx_base.specs.declared.cluster.Cluster.{Cluster}
 use Rattle.cx_base.specs.declared.command.Answered.{Answered}
 use Rattle.cx_base.specs.declared.command.Value.{Value}
@@ -20,13 +20,14 @@ use Rattle.cx_msg.specs.declared.message.Msg.{Msg}
 use Rattle.cx_msg.specs.declared.message.Msg.TheVariants as msg
 use Rattle.cx_model.specs.declared.states.Deferred.{Deferred}
 use Rattle.cx_model.specs.Facts.{HasVoted, IsReadOf}
+use Rattle.cx_model.specs.Matched.{first_set}
 use Rattle.cx_model.specs.Matchmaker.{entry}
 use Rattle.cx_model.specs.Member.{Member}
 use Rattle.cx_model.specs.Promises.{HasTurn, IsConfig}
-use Rattle.cx_model.specs.Reader.{Asked, Batch, asking_of, token}
+use Rattle.cx_model.specs.Reader.{Asked, Batch, asking_of, is_matched, token}
 use Rattle.cx_inv_run.specs.States.{State, ReaderIn, log_in}
 use Rattle.cx_inv_match.specs.Facts.{AreOnce, told_by}
-use Rattle.cx_inv_match.specs.Words.{HasMatch, HasGarbage, HasMark, IsChosenIn, IsCollected}
+use Rattle.cx_inv_match.specs.Words.{HasGarbage, HasRound, HasBoot, HasStopped, HasMark, IsChosenIn, IsCollected, IsKnown, SetFacts}
 
 -- the longer history has all of the shorter
 abbrev pub Has : List KeptRecord → List KeptRecord → Type 0
@@ -49,9 +50,14 @@ IsAbove history n = (j : Round) (s : ℕ) (v : Value) → IsChosenIn history j s
 abbrev pub IsRaised : List KeptRecord → Round → Type 0
 IsRaised history w = (w ≡ no_round) ⊎ ((m : RoleId) × (g : Shape) × HasGarbage history m w g)
 
--- a matchmaker's answer has each round that was recorded there at the earlier moment, unless its watermark is above it
-pub record IsReadAnswer (asked history : List KeptRecord) (m : RoleId) (water : Round) (entries : List Entry) : Type 0 where
-  pub all : (j : Round) (g : Shape) → is_before j water ≡ false → HasMatch asked m j g → Member (entry j g) entries
+-- A matchmaker that hadn't stopped at the earlier moment answers. It tells each round that it had then, unless its watermark is above it. It is one of
+-- the first set; or it tells all that it began with, unless its watermark, which isn't below that one, is above it.
+pub record IsReadAnswer (c : Cluster) (asked history : List KeptRecord) (m : RoleId) (water : Round) (entries : List Entry) : Type 0 where
+  pub running : HasStopped asked m → ⊥
+  pub all : (j : Round) (g : Shape) → is_before j water ≡ false → HasRound asked m j g → Member (entry j g) entries
+  pub began : Member m.index (first_set c)
+      ⊎ ((t : List ℕ) × (v : Round) × (xs : List Entry) × HasBoot history m t v xs × (is_before water v ≡ false)
+      × ((e : Entry) → Member e xs → is_before e.round water ≡ false → Member e entries))
   pub only : (e : Entry) → Member e entries → IsConfig history e.round e.grid
   pub raised : IsRaised history water
   pub has_watermark : (water ≡ no_round) ⊎ ((g : Shape) × Member (entry water g) entries)
@@ -62,12 +68,12 @@ IsNew asked u = HasTurn asked u → ⊥
 
 -- What a datagram says where its turn is new, or where it is of the read, up to the question to a replica. A kind that isn't named says nothing
 -- here: of what a replica answers, and of a session, see below.
-abbrev pub ReadSays : List KeptRecord → Token → List KeptRecord → RoleId → RoleId → Msg → Type 0
-ReadSays asked t history from to (msg.MatchReadAck u w entries) = IsNew asked u → IsReadAnswer asked history from w entries
-ReadSays asked t history from to (msg.PreRead u w) = IsNew asked u → IsRaised history w
-ReadSays asked t history from to (msg.PreReadAck u w n) = IsNew asked u → Covers asked from n × IsRaised history w
-ReadSays asked t history from to (msg.Read u n key) = u ≡ t → IsAbove asked n
-ReadSays asked t history from to other = Unit {0}
+abbrev pub ReadSays : Cluster → List KeptRecord → Token → List KeptRecord → RoleId → RoleId → Msg → Type 0
+ReadSays c asked t history from to (msg.MatchReadAck u w entries) = IsNew asked u → IsReadAnswer c asked history from w entries
+ReadSays c asked t history from to (msg.PreRead u w) = IsNew asked u → IsRaised history w
+ReadSays c asked t history from to (msg.PreReadAck u w n) = IsNew asked u → Covers asked from n × IsRaised history w
+ReadSays c asked t history from to (msg.Read u n key) = u ≡ t → IsAbove asked n
+ReadSays c asked t history from to other = Unit {0}
 
 -- an acceptor answered a turn, asked with this watermark, by this number
 abbrev pub IsAcked : List Letter → Asking → Round → RoleId → ℕ → Type 0
@@ -81,6 +87,7 @@ pub record IsSeen (c : Cluster) (asked : List KeptRecord) (sent0 : List Letter) 
   pub within : Has history past
   pub longer : Has past asked
   pub wider : HasSent told sent0
+  pub sets : SetFacts c past
   pub collected : IsCollected c past told w
   pub covers : (a : RoleId) (n : ℕ) → IsAcked sent u w a n → Covers past a n
 
@@ -89,27 +96,31 @@ abbrev pub HasEvidence : Cluster → List KeptRecord → List Letter → Asking 
 HasEvidence c asked sent0 u history sent w =
     (w ≡ no_round) ⊎ (((a : RoleId) (n : ℕ) → IsAcked sent u w a n → ⊥) ⊎ IsSeen c asked sent0 u history sent w)
 
--- No matchmaker was counted twice for a batch, and each is one of the cluster's; and where the read is one of the batch, the batch's turn is a new one.
-pub record IsBatch (c : Cluster) (asked : List KeptRecord) (t : Token) (me : RoleId) (b : Batch) : Type 0 where
+-- No matchmaker was counted twice for a batch, and each is a member of one known set; while more are counted, of the set that the reader knows. And
+-- where the read is one of the batch, the batch's turn is a new one.
+pub record IsBatch (c : Cluster) (asked : List KeptRecord) (t : Token) (history : List KeptRecord) (me : RoleId) (s : List ℕ) (b : Batch) : Type 0 where
+  pub set : List ℕ
+  pub set_known : IsKnown c history set
   pub once : AreOnce (told_by b.told)
-  pub known : (m : ℕ) → Member m (told_by b.told) → m < 2 * c.f + 1
+  pub known : (m : ℕ) → Member m (told_by b.told) → Member m set
+  pub asking : is_matched c b ≡ false → (m : ℕ) → Member m (told_by b.told) → Member m s
   pub under : (r : Asked) → Member r b.reads → r.read ≡ t → IsNew asked (asking_of me b.turn)
 
-abbrev pub HasBatch : Cluster → List KeptRecord → Token → RoleId → Option Batch → Type 0
-HasBatch c asked t me None = Unit {0}
-HasBatch c asked t me (Some b) = IsBatch c asked t me b
+abbrev pub HasBatch : Cluster → List KeptRecord → Token → List KeptRecord → RoleId → List ℕ → Option Batch → Type 0
+HasBatch c asked t history me s None = Unit {0}
+HasBatch c asked t history me s (Some b) = IsBatch c asked t history me s b
 
-abbrev pub InReader : Cluster → List KeptRecord → Token → RoleId → State → Type 0
-InReader c asked t me (ReaderIn v) = HasBatch c asked t me v.running
-InReader c asked t me other = Unit {0}
+abbrev pub InReader : Cluster → List KeptRecord → Token → List KeptRecord → RoleId → State → Type 0
+InReader c asked t history me (ReaderIn v) = HasBatch c asked t history me v.set v.running
+InReader c asked t history me other = Unit {0}
 
 -- the facts on new turns and on a read, from a moment on that had these records and datagrams
 pub record Reads (c : Cluster) (asked : List KeptRecord) (sent0 : List Letter) (t : Token) (history : List KeptRecord) (sent : List Letter) (states : RoleId → State) : Type 0 where
   pub has : Has history asked
   pub has_sent : HasSent sent sent0
-  pub says : (d : Letter) → Member d sent → ReadSays asked t history d.from d.to d.msg
+  pub says : (d : Letter) → Member d sent → ReadSays c asked t history d.from d.to d.msg
   pub evidence : (u : Asking) → IsNew asked u → (w : Round) → HasEvidence c asked sent0 u history sent w
-  pub readers : (me : RoleId) → InReader c asked t me (states me)
+  pub readers : (me : RoleId) → InReader c asked t history me (states me)
 
 -- what a datagram of a turn says: the turn was kept
 abbrev pub TurnSays : List KeptRecord → Msg → Type 0

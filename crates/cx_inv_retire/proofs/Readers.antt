@@ -1,7 +1,7 @@
 -- The rows of a reader: a turn that is fresh asks only in grids of rounds that weren't retired before.
-use Rattle.std.proofs.Common.{◌≡◌, ℕ, ◌+◌, ◌*◌, ◌<◌, true, not, ◌&&◌, map, List, [], ◌∷◌, ◌++◌, length, Option, Some, None, sym, subst, refl, arith}
+use Rattle.std.proofs.Common.{◌≡◌, ℕ, ◌+◌, ◌<◌, Bool, true, false, not, ◌&&◌, map, List, [], ◌∷◌, ◌++◌, length, Option, Some, None, sym, subst, refl, arith}
 use Rattle.std.specs.Prelude.{◌==◌, nat_lt, nat_le}
-use Rattle.std.proofs.lemmas.Bool.{and_parts, not-false, ltb-true, leb-true}
+use Rattle.std.proofs.lemmas.Bool.{and_parts, not-false, leb-true}
 use Rattle.std.proofs.lemmas.Option.{none-some, same_Some}
 use Rattle.cx_base.specs.declared.cluster.Cluster.{Cluster}
 use Rattle.cx_base.specs.declared.role.Kind.TheVariants as kind
@@ -9,8 +9,10 @@ use Rattle.cx_base.specs.declared.role.RoleId.{RoleId}
 use Rattle.cx_base.specs.declared.round.Round.{Round}
 use Rattle.cx_base.specs.declared.why.Why.{Why}
 use Rattle.cx_base.specs.declared.why.Why.TheVariants as why
+use Rattle.cx_base.specs.Grid.{is_in}
 use Rattle.cx_base.specs.Role.{role, same_role}
 use Rattle.cx_base.specs.Round.{same_round}
+use Rattle.cx_base.specs.Sets.{is_above}
 use Rattle.cx_field.specs.declared.parts.Asking.{Asking}
 use Rattle.cx_field.specs.declared.parts.Entry.{Entry}
 use Rattle.cx_field.specs.declared.parts.Token.{Token}
@@ -22,20 +24,20 @@ use Rattle.cx_msg.specs.declared.kept.Record.TheVariants as kept
 use Rattle.cx_msg.specs.declared.message.Msg.{Msg}
 use Rattle.cx_msg.specs.declared.message.Msg.TheVariants as msg
 use Rattle.cx_model.specs.declared.states.MatchAnswer.{MatchAnswer}
-use Rattle.cx_model.specs.Matched.{enough, matchmakers, is_counted, greatest_watermark, live_entries, is_member_of, members_of, rows_whole}
+use Rattle.cx_model.specs.Matched.{enough, is_counted, greatest_watermark, live_entries, is_member_of, members_of, rows_whole}
 use Rattle.cx_model.specs.Member.{Member}
-use Rattle.cx_base.specs.Cluster.{count_of}
-use Rattle.cx_model.specs.Names.{names, names_role, names_body}
+use Rattle.cx_model.specs.Names.{names}
 use Rattle.cx_model.specs.Outcome.{Outcome, answered, replied, either_way, by_test}
-use Rattle.cx_model.specs.Reader.{Asked, Batch, ReaderDurable, ReaderVolatile, acked_by, ask_acceptors, ask_matchmakers, ask_replicas, asked_for, begin, begin_if, finish, greatest_mark, has_acked, is_among, is_first, is_matched, is_of_batch, last_turn, match_ack_counted, match_ack_row, match_read_to, matched, pre_read_ack_row, pre_read_to, read_to, reader_row, reader_rules, reader_takes, reader_tick, request_over, request_row, token, asking_of}
+use Rattle.cx_model.specs.Reader.{Asked, Batch, ReaderDurable, ReaderVolatile, acked_by, ask_acceptors, ask_matchmakers, ask_replicas, asked_anew, asked_for, begin, begin_if, finish, greatest_mark, has_acked, is_among, is_first, is_matched, is_of_batch, last_turn, match_ack_counted, match_ack_row, match_read_to, matched, pre_read_ack_row, pre_read_to, read_to, reader_row, reader_rules, reader_takes, reader_tick, request_over, request_row, token, asking_of}
 use Rattle.cx_inv_run.specs.Laws.{Lands}
 use Rattle.cx_inv_run.specs.States.{State, ReaderIn, Given, durable_of, entry_by}
-use Rattle.cx_inv_run.proofs.Members.{Member-both, Member-one}
+use Rattle.cx_inv_run.proofs.Members.{is_in-Member, Member-both, Member-one}
 use Rattle.cx_inv_match.specs.Facts.{told_by, InState}
+use Rattle.cx_inv_match.specs.Words.{IsKnown}
 use Rattle.cx_inv_vote.proofs.Readers.{same_asking-true}
 use Rattle.cx_inv_vote.proofs.Rows.{is_role}
-use Rattle.cx_inv_read.specs.Reads.{HasBatch, InReader}
-use Rattle.cx_inv_retire.specs.Retire.{AreMatchmakers, RetireSays, RetireFacts, Known}
+use Rattle.cx_inv_read.specs.Reads.{HasBatch, InReader, IsBatch}
+use Rattle.cx_inv_retire.specs.Retire.{AreMembers, RetireSays, RetireFacts, Known}
 use Rattle.cx_inv_retire.proofs.Keep.{IsRetiring, lands, silent, sending}
 use Rattle.cx_inv_retire.proofs.Live.{each, each_member, one_more_told, live_from_retired}
 
@@ -51,12 +53,16 @@ module _ (c : Cluster) (past : List KeptRecord) (fresh : Asking → Type 0) (his
   abbrev WereSent : Batch → Type 0
   WereSent b = (a : MatchAnswer) → Member a b.told → Member (letter (role kind.Matchmaker a.matchmaker) me (msg.MatchReadAck (asking_of me b.turn) a.watermark a.entries)) sent
 
-  abbrev IsKnown : Batch → Type 0
-  IsKnown b = AreMatchmakers c (told_by b.told) × WereSent b
+  -- so of a batch: who was counted for it are members of one known set
+  record IsCounted (b : Batch) : Type 0 where
+    set : List ℕ
+    set_known : IsKnown c history set
+    members : AreMembers set (told_by b.told)
+    were : WereSent b
 
-  -- so is known of the running batch
+  -- so is known of the running batch; in its first stage who was counted are members of the set that the reader knows
   abbrev AreKnown : ReaderVolatile → Type 0
-  AreKnown v = (b : Batch) → v.running ≡ Some b → IsKnown b
+  AreKnown v = (b : Batch) → v.running ≡ Some b → IsCounted b × (is_matched c b ≡ false → (m : ℕ) → Member m (told_by b.told) → Member m v.set)
 
   -- what a datagram says by whatever history
   abbrev Says : List KeptRecord → Letter → Type 0
@@ -65,8 +71,8 @@ module _ (c : Cluster) (past : List KeptRecord) (fresh : Asking → Type 0) (his
   quiet : (w : Why) (v : ReaderVolatile) → Good (answered w v)
   quiet w v = silent c past fresh history me ReaderIn w v tt
 
-  asks_matchmakers : (longer : List KeptRecord) (turn : ℕ) (x : Letter) → Member x (ask_matchmakers c me turn) → Says longer x
-  asks_matchmakers longer turn = each (Says longer) (match_read_to me (asking_of me turn)) (matchmakers c) (λ m. tt)
+  asks_matchmakers : (longer : List KeptRecord) (set : List ℕ) (turn : ℕ) (x : Letter) → Member x (ask_matchmakers me set turn) → Says longer x
+  asks_matchmakers longer set turn = each (Says longer) (match_read_to me (asking_of me turn)) set (λ m. tt)
 
   asks_replicas : (longer : List KeptRecord) (b : Batch) (n : ℕ) (x : Letter) → Member x (ask_replicas me b n) → Says longer x
   asks_replicas longer b n = each (Says longer) (read_to me n) b.reads (λ r. tt)
@@ -74,25 +80,25 @@ module _ (c : Cluster) (past : List KeptRecord) (fresh : Asking → Type 0) (his
   module _ (d : ReaderDurable) (v : ReaderVolatile) where
     -- a batch begins
 
-    begins : (w : Why) (first : List Letter) (rs : List Asked) → ((longer : List KeptRecord) (x : Letter) → Member x first → Says longer x) → Good (begin c me d w first rs)
+    begins : (w : Why) (first : List Letter) (rs : List Asked) → ((longer : List KeptRecord) (x : Letter) → Member x first → Says longer x) → Good (begin me d v w first rs)
     begins w first rs says =
         let longer : List KeptRecord = entry_by me (kept.Turn (d.turn + 1)) ∷ history in
-        record { says = Member-both (Says longer) first (ask_matchmakers c me (d.turn + 1)) (says longer) (asks_matchmakers longer (d.turn + 1)); counted = tt }
+        record { says = Member-both (Says longer) first (ask_matchmakers me v.set (d.turn + 1)) (says longer) (asks_matchmakers longer v.set (d.turn + 1)); counted = tt }
 
-    begins_if : (w : Why) (rs : List Asked) → Good (begin_if c me d v w rs)
+    begins_if : (w : Why) (rs : List Asked) → Good (begin_if me d v w rs)
     begins_if w rs = either_way Good (d.turn == last_turn) _ _ (quiet _ v) (begins w [] rs (λ longer x m. absurd m))
 
-    request_good : (one : Asked) → Good (request_row c me d v one)
+    request_good : (one : Asked) → Good (request_row me d v one)
     request_good one = either_way Good (is_among one.read v.waiting) _ _ (quiet _ _) (over v.running)
       where
-        over : (o : Option Batch) → Good (request_over c me d v one o)
+        over : (o : Option Batch) → Good (request_over me d v one o)
         over None = either_way Good (nat_le 64 (length v.waiting)) _ _ (quiet _ v) (begins_if _ _)
         over (Some b) =
             either_way Good (is_first one.read b.reads) _ _ (begins_if _ _)
             (either_way Good (is_among one.read b.reads) _ _ (quiet _ v)
             (either_way Good (nat_le 64 (length v.waiting + length b.reads)) _ _ (quiet _ v) (quiet _ _)))
 
-    finish_good : (b : Batch) (n : ℕ) → Good (finish c me d v b n)
+    finish_good : (b : Batch) (n : ℕ) → Good (finish me d v b n)
     finish_good b n =
         either_way Good (nat_lt 0 (length v.waiting) && not (d.turn == last_turn)) _ _
         (begins _ (ask_replicas me b n) v.waiting (λ longer. asks_replicas longer b n))
@@ -100,41 +106,51 @@ module _ (c : Cluster) (past : List KeptRecord) (fresh : Asking → Type 0) (his
 
     -- a matchmaker's answer
 
-    asks_acceptors : (b : Batch) (es : List Entry) → live_entries b.told ≡ es → IsKnown b → c.f < length b.told
+    asks_acceptors : (b : Batch) (es : List Entry) → live_entries b.told ≡ es → IsCounted b → c.f < length b.told
         → (x : Letter) → Member x (map (pre_read_to me b) (members_of c es)) → Says history x
     asks_acceptors b es e is most =
         each_member (Says history) (pre_read_to me b) c es
-        (λ a t n. live_from_retired c past history b.told is.0 most (λ x m. (h.says _ (is.1 x m)).0) (λ x m. (h.says _ (is.1 x m)).1 n) a
+        (λ a t n. live_from_retired c past history known.has sent known.then known.facts.sets b.told is.set is.set_known is.members most
+        (λ x m. (h.says _ (is.were x m)).0) (λ x m. (h.says _ (is.were x m)).1 n) a
         (subst (λ l. is_member_of l a ≡ true) (sym e) t))
 
-    matched_good : (b : Batch) (es : List Entry) → live_entries b.told ≡ es → IsKnown b → c.f < length b.told → Good (matched c me d v b es)
+    matched_good : (b : Batch) (es : List Entry) → live_entries b.told ≡ es → IsCounted b → c.f < length b.told → Good (matched c me d v b es)
     matched_good b [] e is most = finish_good b 0
     matched_good b (x ∷ es) e is most = sending c past fresh history me ReaderIn why.Asking _ _ tt (asks_acceptors b (x ∷ es) e is most)
 
     enough_told : (b : Batch) → is_matched c b ≡ true → c.f < length b.told
     enough_told b t = let l = leb-true (enough c) (length b.told) t in omega arith
 
-    answered_good : (b : Batch) → IsKnown b → Good (match_ack_counted c me d v b)
+    answered_good : (b : Batch) → IsCounted b → Good (match_ack_counted c me d v b)
     answered_good b is =
         by_test Good (is_matched c b) _ _ (λ t. matched_good b (live_entries b.told) refl is (enough_told b t)) (λ f. quiet why.Counted _)
 
-    match_ack_good : AreKnown v → (from : RoleId) (u : Asking) (w : Round) (es : List Entry) (o : Option Batch) → v.running ≡ o
-        → Member (letter from me (msg.MatchReadAck u w es)) sent → from.index < 2 * c.f + 1 → Good (match_ack_row c me d v from u w es o)
-    match_ack_good are from u w es None e x low = quiet why.Unasked v
-    match_ack_good are from u w es (Some b) e x low =
-        by_test Good (not (is_of_batch me b u && not (is_matched c b))) _ _ (λ f. quiet why.Unasked v)
+    not_true : (b : Bool) → not b ≡ true → b ≡ false
+    not_true true e = cc
+    not_true false e = refl
+
+    match_ack_good : AreKnown v → IsKnown c history v.set → (from : RoleId) (u : Asking) (w : Round) (es : List Entry) (o : Option Batch) → v.running ≡ o
+        → Member (letter from me (msg.MatchReadAck u w es)) sent → Good (match_ack_row c me d v from u w es o)
+    match_ack_good are now from u w es None e x = quiet why.Unasked v
+    match_ack_good are now from u w es (Some b) e x =
+        by_test Good (not (is_of_batch me b u && not (is_matched c b) && is_in from.index v.set)) _ _ (λ f. quiet why.Unasked v)
         (λ f. by_test Good (is_counted from.index b.told) _ _ (λ y. quiet why.Same v)
         (λ g. (
         let answer : MatchAnswer = record { matchmaker = from.index; watermark = w; entries = es } in
-        let ours : u ≡ asking_of me b.turn = same_asking-true u (asking_of me b.turn) (and_parts (is_of_batch me b u) (not (is_matched c b)) (not-false (is_of_batch me b u && not (is_matched c b)) f)).0 in
+        let tests = and_parts (is_of_batch me b u && not (is_matched c b)) (is_in from.index v.set) (not-false (is_of_batch me b u && not (is_matched c b) && is_in from.index v.set) f) in
+        let both = and_parts (is_of_batch me b u) (not (is_matched c b)) tests.0 in
+        let ours : u ≡ asking_of me b.turn = same_asking-true u (asking_of me b.turn) both.0 in
         let told : Member (letter (role kind.Matchmaker from.index) me (msg.MatchReadAck (asking_of me b.turn) w es)) sent =
         subst (λ y. Member (letter y me (msg.MatchReadAck (asking_of me b.turn) w es)) sent) (is_role from kind.Matchmaker (known.kinds.senders _ x))
         (subst (λ y. Member (letter from me (msg.MatchReadAck y w es)) sent) ours x) in
-        answered_good (record b { told = b.told ++ answer ∷ [] }) (
-          one_more_told c b.told answer g low (are b e).0,
-          Member-both (λ (a : MatchAnswer). Member (letter (role kind.Matchmaker a.matchmaker) me (msg.MatchReadAck (asking_of me b.turn) a.watermark a.entries)) sent) b.told (answer ∷ []) (are b e).1
-              (Member-one (λ (a : MatchAnswer). Member (letter (role kind.Matchmaker a.matchmaker) me (msg.MatchReadAck (asking_of me b.turn) a.watermark a.entries)) sent) answer told),
-        )
+        let before : AreMembers v.set (told_by b.told) = record { once = (are b e).0.members.once; known = (are b e).1 (not_true (is_matched c b) both.1) } in
+        answered_good (record b { told = b.told ++ answer ∷ [] }) (record {
+          set = v.set;
+          set_known = now;
+          members = one_more_told v.set b.told answer g (is_in-Member from.index v.set tests.1) before;
+          were = Member-both (λ (a : MatchAnswer). Member (letter (role kind.Matchmaker a.matchmaker) me (msg.MatchReadAck (asking_of me b.turn) a.watermark a.entries)) sent) b.told (answer ∷ []) (are b e).0.were
+              (Member-one (λ (a : MatchAnswer). Member (letter (role kind.Matchmaker a.matchmaker) me (msg.MatchReadAck (asking_of me b.turn) a.watermark a.entries)) sent) answer told);
+        })
         )))
 
     -- an acceptor's answer
@@ -148,42 +164,51 @@ module _ (c : Cluster) (past : List KeptRecord) (fresh : Asking → Type 0) (his
         (let one : Batch = record b { acks = b.acks ++ record { acceptor = from.index; mark = n } ∷ [] } in
         either_way Good (rows_whole (live_entries one.told) (acked_by one.acks)) _ _ (finish_good one (greatest_mark one.acks)) (quiet why.Counted _))))
 
-    takes_good : AreKnown v → (from : RoleId) (m : Msg) → Member (letter from me m) sent → names_role c from ≡ true → Good (reader_takes c me d v from m)
-    takes_good are from (msg.ReadReq seq replica key) x named = request_good (asked_for (token from.index seq) replica key)
-    takes_good are from (msg.MatchReadAck u w es) x named =
-        let k : from.kind ≡ kind.Matchmaker = known.kinds.senders _ x in
-        match_ack_good are from u w es v.running refl x
-        (ltb-true from.index (2 * c.f + 1) (subst (λ j. nat_lt from.index (count_of c j) ≡ true) k named))
-    takes_good are from (msg.PreReadAck u w n) x named = pre_read_ack_good from u w n v.running
-    takes_good are from other x named = quiet why.Stranger v
+    -- another set took over
+
+    anew_good : (set : List ℕ) (o : Option Batch) → Good (asked_anew c me (record v { set = set }) o)
+    anew_good set None = quiet why.Learnt _
+    anew_good set (Some b) =
+        either_way Good (is_matched c b) _ _ (quiet why.Learnt _)
+        (sending c past fresh history me ReaderIn why.Learnt _ (ask_matchmakers me set b.turn) tt (asks_matchmakers history set b.turn))
+
+    takes_good : AreKnown v → IsKnown c history v.set → (from : RoleId) (m : Msg) → Member (letter from me m) sent → Good (reader_takes c me d v from m)
+    takes_good are now from (msg.ReadReq seq replica key) x = request_good (asked_for (token from.index seq) replica key)
+    takes_good are now from (msg.MatchReadAck u w es) x = match_ack_good are now from u w es v.running refl x
+    takes_good are now from (msg.PreReadAck u w n) x = pre_read_ack_good from u w n v.running
+    takes_good are now from (msg.Sets s) x = either_way Good (is_above s v.set) _ _ (anew_good s v.running) (quiet why.Old v)
+    takes_good are now from other x = quiet why.Stranger v
 
     ticks_good : AreKnown v → (o : Option Batch) → v.running ≡ o → Good (reader_tick c me v o)
     ticks_good are None e = quiet why.Idle v
     ticks_good are (Some b) e =
-        by_test (λ ds. Good (replied why.Resent v ds)) (is_matched c b) (ask_acceptors c me b) (ask_matchmakers c me b.turn)
-        (λ t. sending c past fresh history me ReaderIn why.Resent v _ tt (asks_acceptors b (live_entries b.told) refl (are b e) (enough_told b t)))
-        (λ f. sending c past fresh history me ReaderIn why.Resent v _ tt (asks_matchmakers history b.turn))
+        by_test (λ ds. Good (replied why.Resent v ds)) (is_matched c b) (ask_acceptors c me b) (ask_matchmakers me v.set b.turn)
+        (λ t. sending c past fresh history me ReaderIn why.Resent v _ tt (asks_acceptors b (live_entries b.told) refl (are b e).0 (enough_told b t)))
+        (λ f. sending c past fresh history me ReaderIn why.Resent v _ tt (asks_matchmakers history v.set b.turn))
 
-    row_good : AreKnown v → (i : Input) → Given sent me i → Good (reader_row c me d v i)
-    row_good are (input.Take l) given =
+    row_good : AreKnown v → IsKnown c history v.set → (i : Input) → Given sent me i → Good (reader_row c me d v i)
+    row_good are now (input.Take l) given =
         by_test Good (same_role l.to me && names c l) _ _
-        (λ t. let p = and_parts (names_role c l.from && names_role c l.to) (names_body c l.msg) (and_parts (same_role l.to me) (names c l) t).1 in
-        takes_good are l.from l.msg (subst (λ a. Member (letter l.from a l.msg) sent) given.0 given.1) (and_parts (names_role c l.from) (names_role c l.to) p.0).0)
+        (λ t. takes_good are now l.from l.msg (subst (λ a. Member (letter l.from a l.msg) sent) given.0 given.1))
         (λ f. quiet why.Stranger v)
-    row_good are input.Tick given = ticks_good are v.running refl
-    row_good are (input.Order order) given = quiet why.Stranger v
+    row_good are now input.Tick given = ticks_good are v.running refl
+    row_good are now (input.Order order) given = quiet why.Stranger v
 
   -- the running batch is as is known of all readers
-  batch_known : (t : Token) (o : Option Batch) → HasBatch c [] t me o → (b : Batch) → o ≡ Some b → AreMatchmakers c (told_by b.told)
-  batch_known t None is b e = absurd (none-some b e)
-  batch_known t (Some x) is b e =
-      subst (λ (y : Batch). AreMatchmakers c (told_by y.told)) (same_Some x b e) (record { once = is.once; known = is.known })
+  batch_known : (t : Token) (s : List ℕ) (o : Option Batch) → HasBatch c [] t history me s o → (b : Batch) → o ≡ Some b → IsBatch c [] t history me s b
+  batch_known t s None is b e = absurd (none-some b e)
+  batch_known t s (Some x) is b e = subst (λ (y : Batch). IsBatch c [] t history me s y) (same_Some x b e) is
+
+  known_so : (t : Token) (v : ReaderVolatile) → HasBatch c [] t history me v.set v.running → ((b : Batch) → v.running ≡ Some b → WereSent b) → AreKnown v
+  known_so t v is were b e =
+      let x = batch_known t v.set v.running is b e in
+      (record { set = x.set; set_known = x.set_known; members = record { once = x.once; known = x.known }; were = were b e }, x.asking)
 
   pub reader_lands : (v : ReaderVolatile) (i : Input) → states me ≡ ReaderIn v → Given sent me i
       → Lands (RetireFacts c past fresh) history sent states me ReaderIn (reader_row c me (durable_of reader_rules me history) v i)
   reader_lands v i up given =
       let state : InState c history sent me (ReaderIn v) = subst (λ s. InState c history sent me s) up (known.facts.running me) in
       let any : Token = token 0 0 in
-      let counted : InReader c [] any me (ReaderIn v) = subst (λ s. InReader c [] any me s) up (known.readers me any) in
+      let counted : InReader c [] any history me (ReaderIn v) = subst (λ s. InReader c [] any history me s) up (known.readers me any) in
       lands c past fresh history sent states h me ReaderIn (reader_row c me (durable_of reader_rules me history) v i)
-      (row_good (durable_of reader_rules me history) v (λ b e. (batch_known any v.running counted b e, λ a k. (state.0.batch b e).answers a k)) i given)
+      (row_good (durable_of reader_rules me history) v (known_so any v counted (λ b e a k. (state.0.batch b e).answers a k)) state.2 i given)

@@ -1,5 +1,5 @@
 -- The facts on retirement hold of every run; and any moment of a run is a past, from which on they hold.
-use Rattle.std.proofs.Common.{List, [], ◌∷◌, ◌++◌, reverse, inl, inr, sym, subst, refl}
+use Rattle.std.proofs.Common.{◌⊎◌, List, [], ◌∷◌, ◌++◌, reverse, inl, inr, sym, subst, refl}
 use Rattle.cx_base.specs.declared.cluster.Cluster.{Cluster}
 use Rattle.cx_base.specs.declared.event.Event.{Event}
 use Rattle.cx_base.specs.declared.role.Kind.{Kind}
@@ -15,19 +15,22 @@ use Rattle.cx_msg.specs.declared.message.Msg.{Msg}
 use Rattle.cx_msg.specs.declared.message.Msg.TheVariants as msg
 use Rattle.cx_model.specs.Acceptor.{acceptor_rules, acceptor_row}
 use Rattle.cx_model.specs.Batcher.{batcher_row}
+use Rattle.cx_model.specs.Matchmaker.{entry}
 use Rattle.cx_model.specs.Member.{Member}
+use Rattle.cx_model.specs.Promises.{IsConfig}
 use Rattle.cx_model.specs.Proxy.{proxy_row}
+use Rattle.cx_model.specs.Replacer.{replacer_rules, replacer_row}
 use Rattle.cx_model.specs.Replica.{replica_rules, replica_row}
 use Rattle.cx_model.specs.Unbatcher.{unbatcher_row}
 use Rattle.cx_model.specs.World.{World, change, step, run, run_from}
 use Rattle.cx_inv_run.specs.Laws.{Laws, HoldsAlong}
-use Rattle.cx_inv_run.specs.States.{State, Down, BatcherIn, ProxyIn, ReplicaIn, plain, states_of, fresh_state, snap_by, durable_of, HoldsIn}
+use Rattle.cx_inv_run.specs.States.{State, Down, BatcherIn, ProxyIn, ReplicaIn, ReplacerIn, plain, states_of, fresh_state, snap_by, durable_of, HoldsIn}
 use Rattle.cx_inv_run.proofs.KindLaws.{kinds_hold}
 use Rattle.cx_inv_run.proofs.Members.{Member-first, Member-reverse, Member-turned}
-use Rattle.cx_inv_run.proofs.Senders.{acceptor_kinds, batcher_kinds, unbatcher_kinds, proxy_kinds, replica_kinds}
+use Rattle.cx_inv_run.proofs.Senders.{acceptor_kinds, batcher_kinds, unbatcher_kinds, proxy_kinds, replica_kinds, replacer_kinds}
 use Rattle.cx_inv_run.proofs.Steps.{run_from_keeps, always, run_append, run_cluster, all_allowed}
 use Rattle.cx_inv_match.specs.Facts.{Facts}
-use Rattle.cx_inv_match.specs.Words.{HasLog}
+use Rattle.cx_inv_match.specs.Words.{HasLog, HasRound, HasGarbage, SetFacts}
 use Rattle.cx_inv_vote.proofs.Steps.{facts_hold}
 use Rattle.cx_inv_read.proofs.Fresh.{reads_always}
 use Rattle.cx_inv_read.specs.Reads.{Has}
@@ -41,13 +44,14 @@ use Rattle.cx_inv_retire.proofs.Readers.{reader_lands}
 fresh_counted : (c : Cluster) (k : Kind) → HasCounted c (fresh_state c k)
 fresh_counted c kind.Client = tt
 fresh_counted c kind.Batcher = tt
-fresh_counted c kind.Leader = λ t. cc
+fresh_counted c kind.Leader = λ n t. cc
 fresh_counted c kind.Proxy = tt
 fresh_counted c kind.Acceptor = tt
 fresh_counted c kind.Matchmaker = tt
 fresh_counted c kind.Replica = tt
 fresh_counted c kind.Unbatcher = tt
 fresh_counted c kind.Reader = tt
+fresh_counted c kind.Replacer = tt
 
 pub retire_laws : (c : Cluster) (past : List KeptRecord) (fresh : Asking → Type 0) → Laws c (λ n e. Unit {0}) (Known c past) (RetireFacts c past fresh)
 retire_laws c past fresh = record {
@@ -80,6 +84,10 @@ retire_laws c past fresh = record {
       quiet_lands c past fresh history sent states h (role kind.Unbatcher u) plain kind.Unbatcher (λ e. cc) (λ e. cc) (λ e. cc) refl
       (unbatcher_row c (role kind.Unbatcher u) tt tt i) (unbatcher_kinds c (role kind.Unbatcher u) refl i) tt;
   reader = λ history sent states r v i known h. reader_lands c past fresh history sent states known h r v i;
+  replacer = λ history sent states x v i known h is given.
+      quiet_lands c past fresh history sent states h (role kind.Replacer x) ReplacerIn kind.Replacer (λ e. cc) (λ e. cc) (λ e. cc) refl
+      (replacer_row c (role kind.Replacer x) (durable_of replacer_rules (role kind.Replacer x) history) v i)
+      (replacer_kinds c (role kind.Replacer x) refl (durable_of replacer_rules (role kind.Replacer x) history) v i) tt;
 }
 
 -- what is known along a run, from a past of it on
@@ -95,14 +103,14 @@ has_from w (e ∷ es) k m = has_from (step w e) es k (step_has w e k m)
 pub has_run : (c : Cluster) (es more : List Event) → Has (reverse (run c (es ++ more)).kept) (reverse (run c es).kept)
 has_run c es more = subst (λ (w : World). Has (reverse w.kept) (reverse (run c es).kept)) (sym (run_append c es more)) (has_from (run c es) more)
 
-knows : (c : Cluster) (past : List KeptRecord) (es : List Event) → Has (reverse (run c es).kept) past → HoldsIn (Known c past) (run c es)
-knows c past es has = record { kinds = kinds_hold c es; facts = facts_hold c es; readers = λ me t. (reads_always c es t).readers me; has = has }
+knows : (c : Cluster) (past : List KeptRecord) → SetFacts c past → (es : List Event) → Has (reverse (run c es).kept) past → HoldsIn (Known c past) (run c es)
+knows c past then es has = record { kinds = kinds_hold c es; facts = facts_hold c es; readers = λ me t. (reads_always c es t).readers me; has = has; then = then }
 
-knows_along : (c : Cluster) (past : List KeptRecord) (es more : List Event) → Has (reverse (run c es).kept) past → HoldsAlong (Known c past) (run c es) more
-knows_along c past es [] has = knows c past es has
-knows_along c past es (e ∷ more) has = (
-  knows c past es has,
-  subst (λ w. HoldsAlong (Known c past) w more) (run_append c es (e ∷ [])) (knows_along c past (es ++ e ∷ []) more (λ k m. has_run c es (e ∷ []) k (has k m))),
+knows_along : (c : Cluster) (past : List KeptRecord) → SetFacts c past → (es more : List Event) → Has (reverse (run c es).kept) past → HoldsAlong (Known c past) (run c es) more
+knows_along c past then es [] has = knows c past then es has
+knows_along c past then es (e ∷ more) has = (
+  knows c past then es has,
+  subst (λ w. HoldsAlong (Known c past) w more) (run_append c es (e ∷ [])) (knows_along c past then (es ++ e ∷ []) more (λ k m. has_run c es (e ∷ []) k (has k m))),
 )
 
 -- from the start on there is no past, and no turn is fresh
@@ -111,7 +119,7 @@ abbrev pub no_turn : Asking → Type 0
 no_turn u = ⊥
 
 pub knows_nothing : (c : Cluster) (es : List Event) → HoldsIn (Known c []) (run c es)
-knows_nothing c es = knows c [] es (λ k m. absurd m)
+knows_nothing c es = knows c [] (facts_hold c []).sets es (λ k m. absurd m)
 
 pub retire_holds : (c : Cluster) (es : List Event) → HoldsIn (RetireFacts c [] no_turn) (run c es)
 retire_holds c es = always c (Known c []) (RetireFacts c [] no_turn) (retire_laws c [] no_turn) (knows_nothing c) es
@@ -125,7 +133,12 @@ pub record IsFresh (sent : List Letter) (u : Asking) : Type 0 where
 
 module _ (c : Cluster) (history : List KeptRecord) (sent : List Letter) (states : RoleId → State) (facts : Facts c history sent states) (h : RetireFacts c [] no_turn history sent states) where
   not_new : (m : RoleId) (k : Round) → HasLog history m k → IsNewRound history k → ⊥
-  not_new m k x new = new x.0 (elim x.1 [ inl y ↦ facts.asked m k x.0 y | inr y ↦ (facts.garbaged m k x.0 y).0 ])
+  not_new m k x new = new x.0 (logged x.1)
+    where
+      logged : HasRound history m k x.0 ⊎ HasGarbage history m k x.0 → IsConfig history k x.0
+      logged (inl (inl y)) = facts.asked m k x.0 y
+      logged (inl (inr y)) = ((facts.sets.booted m y.0 y.1 y.2 y.3).1.join.only (entry k x.0) y.4).0
+      logged (inr y) = (facts.garbaged m k x.0 y).0
 
   now_says : (from to : RoleId) (m : Msg) → Member (letter from to m) sent → RetireSays c [] no_turn history from to m → RetireSays c history (IsFresh sent) history from to m
   now_says from to (msg.MatchB k w es) x says = λ new. absurd (not_new from k (facts.says _ x).matched new)
@@ -145,4 +158,4 @@ since c es more =
     let past = reverse w.kept in
     subst (λ x. HoldsIn (RetireFacts c past (IsFresh w.sent)) x) (sym (run_append c es more))
     (run_from_keeps c (λ n e. Unit {0}) (Known c past) (RetireFacts c past (IsFresh w.sent)) (retire_laws c past (IsFresh w.sent)) w (run_cluster c es)
-    (now c past w.sent (states_of w.roles) (facts_hold c es) (retire_holds c es)) more (knows_along c past es more (λ k m. m)) (all_allowed w more))
+    (now c past w.sent (states_of w.roles) (facts_hold c es) (retire_holds c es)) more (knows_along c past (facts_hold c es).sets es more (λ k m. m)) (all_allowed w more))

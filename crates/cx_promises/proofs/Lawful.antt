@@ -5,6 +5,7 @@ use Rattle.cx_base.specs.declared.event.Event.{Event}
 use Rattle.cx_model.specs.Chosen.{chosen_prefix}
 use Rattle.cx_model.specs.World.{run, log_of}
 use Rattle.cx_inv_vote.proofs.Agree.{agreement}
+use Rattle.cx_inv_vote.proofs.OneSet.{one_next_set, sets_are_decided}
 use Rattle.cx_inv_announce.proofs.Steps.{announced}
 use Rattle.cx_inv_bypass.proofs.Steps.{bypassed_rounds}
 use Rattle.cx_inv_held.proofs.Steps.{kept_watermarks, safe_snapshots}
@@ -38,6 +39,8 @@ lawful c es = record {
   rounds_ask_later = rounds_ask_later c es;
   turns_ask_later = turns_ask_later c es;
   reads_ask_later = reads_ask_later c es;
+  one_next_set = one_next_set c es;
+  sets_are_decided = sets_are_decided c es;
   nothing_is_lost = safe_snapshots.nothing_is_lost c es;
   forgotten_is_kept = safe_snapshots.forgotten_is_kept c es;
   announced = announced c es;

@@ -30,6 +30,8 @@ use Rattle.cx_model.specs.Promises.{
   RoundsAskLater,
   TurnsAskLater,
   ReadsAskLater,
+  OneNextSet,
+  SetsAreDecided,
   NothingIsLost,
   ForgottenIsKept,
 }
@@ -64,6 +66,9 @@ pub record IsLawful (c : Cluster) (es : List Event) : Type 0 where
   pub rounds_ask_later : RoundsAskLater c es
   pub turns_ask_later : TurnsAskLater c es
   pub reads_ask_later : ReadsAskLater c es
+  -- sets of matchmakers
+  pub one_next_set : OneNextSet c es
+  pub sets_are_decided : SetsAreDecided c es
   -- safe snapshots
   pub nothing_is_lost : NothingIsLost c es
   pub forgotten_is_kept : ForgottenIsKept c es
