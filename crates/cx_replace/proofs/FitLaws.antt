@@ -1,0 +1,56 @@
+-- What a replacer takes, it keeps no record of.
+use Rattle.cx_role.proofs.Common.{◌≡◌, ◌&&◌, ◌||◌, not, nat_lt, List, ℕ, length, Option, refl, subst, sym, Cluster, RoleId, Round}
+use Rattle.cx_role.proofs.Common.{same_role, same_round, is_in, Letter, Record, Entry, Msg, names, Outcome, either_way, IsFit}
+use Rattle.cx_role.proofs.Common.msg
+use Rattle.std.specs.Prelude.{None, bytes_eq}
+use Rattle.cx_base.specs.Sets.{is_above}
+use Rattle.cx_grid.specs.Quorum.{with_mark}
+use Rattle.cx_msg.specs.declared.input.Input.TheVariants as input
+use Rattle.cx_model.specs.Matched.{enough}
+use Rattle.cx_model.specs.Replacer.{ReplacerDurable, ReplacerVolatile, boot_b_row, boot_counted, decide, halt_counted, has_halted, is_booting}
+use Rattle.cx_model.specs.Replacer.{is_deciding, is_resting, is_stopping, joined, next_b_row, next_counted, replacer_row, replacer_rules}
+use Rattle.cx_model.specs.Replacer.{replacer_takes, sets_row, stop_b_row, stop_nack_row, to_decide}
+
+abbrev KeepsNone : Outcome ReplacerVolatile → Type 0
+KeepsNone o = o.kept ≡ None
+
+module _ (c : Cluster) (me : RoleId) (d : ReplacerDurable) where
+  decide_none : (v : ReplacerVolatile) (es : List Entry) (s : List ℕ) → KeepsNone (decide me d v es s)
+  decide_none v es s = either_way KeepsNone (nat_lt 254 (length es)) _ _ refl refl
+
+  halt_counted_none : (v : ReplacerVolatile) → KeepsNone (halt_counted c me d v)
+  halt_counted_none v =
+      either_way KeepsNone (nat_lt (length v.halts) (enough c)) _ _ refl (decide_none v (joined v.halts) (to_decide v.next v.halts))
+
+  module _ (v : ReplacerVolatile) (from : RoleId) where
+    stop_b_none : (b w : Round) (es : List Entry) (a : Round) (s : List ℕ) → KeepsNone (stop_b_row c me d v from b w es a s)
+    stop_b_none b w es a s =
+        either_way KeepsNone (not (is_stopping v.mode && same_round b d.own && is_in from.index v.set)) _ _ refl
+        (either_way KeepsNone (has_halted from.index v.halts) _ _ refl (halt_counted_none _))
+
+    next_b_none : (b : Round) → KeepsNone (next_b_row c me d v from b)
+    next_b_none b =
+        either_way KeepsNone (not (is_deciding v.mode && same_round b d.own)) _ _ refl
+        (either_way KeepsNone (is_in from.index v.counted) _ _ refl
+        (either_way KeepsNone (nat_lt (length (with_mark from.index v.counted)) (enough c)) _ _ refl refl))
+
+    boot_b_none : (s : List ℕ) → KeepsNone (boot_b_row c me v from s)
+    boot_b_none s =
+        either_way KeepsNone (not (is_booting v.mode && bytes_eq s v.next)) _ _ refl
+        (either_way KeepsNone (is_in from.index v.counted) _ _ refl
+        (either_way KeepsNone (nat_lt (length (with_mark from.index v.counted)) (enough c)) _ _ refl refl))
+
+    takes_none : (m : Msg) → KeepsNone (replacer_takes c me d v from m)
+    takes_none (msg.StopB b w es a s) = stop_b_none b w es a s
+    takes_none (msg.NextB b) = next_b_none b
+    takes_none (msg.BootB s) = boot_b_none s
+    takes_none (msg.StopNack b other) =
+        either_way KeepsNone (not (same_round b d.own) || is_resting v.mode || is_booting v.mode) _ _ refl refl
+    takes_none (msg.Sets s) = either_way KeepsNone (is_above s v.set) _ _ refl refl
+    takes_none other = refl
+
+  pub take_fits : (v : ReplacerVolatile) (letter : Letter)
+      → IsFit replacer_rules c me d (replacer_row c me d v (input.Take letter)).kept
+  take_fits v letter =
+      let none = either_way KeepsNone (same_role letter.to me && names c letter) _ _ (takes_none v letter.from letter.msg) refl in
+      subst (λ (kept : Option Record). IsFit replacer_rules c me d kept) (sym none) tt

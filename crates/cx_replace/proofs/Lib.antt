@@ -1,0 +1,4 @@
+pub mod CountLaws
+pub mod FitLaws
+pub mod JoinLaws
+pub mod Opened
