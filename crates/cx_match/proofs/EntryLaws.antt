@@ -7,12 +7,12 @@ use Rattle.cx_field.specs.Ranges.{entry_in_range}
 use Rattle.cx_field.proofs.ListLaws.{entries_apart, entries_cons}
 use Rattle.cx_model.specs.Matchmaker.{entry, entries_from, has_round, greatest, with_own}
 
--- entries that a datagram may have are at most 17
-pub at_most_17 : (es : List Entry) → entries.fits es ≡ true → length es ≤ 17
-at_most_17 es h = (entries_apart es h).0
+-- entries that a datagram may have are at most 255
+pub at_most_255 : (es : List Entry) → entries.fits es ≡ true → length es ≤ 255
+at_most_255 es h = (entries_apart es h).0
 
 -- a round that is neither before another nor the same is after it
-behind : (a b : Round) → is_before a b ≡ false → same_round a b ≡ false → is_before b a ≡ true
+pub behind : (a b : Round) → is_before a b ≡ false → same_round a b ≡ false → is_before b a ≡ true
 behind a b before same = grind (arith, nat_tests)
 
 abbrev are_above : Round → List Entry → Bool
@@ -26,7 +26,7 @@ above_from i (e ∷ es) none = grind (arith, nat_tests, above_from i es)
 
 -- a retiring round's own entry goes before the others, which leave room for it
 pub with_own_fits : (i : Round) (g : Shape) (es : List Entry) → entries.fits es ≡ true
-    → length (entries_from i es) ≤ 16 → entry_in_range (entry i g) ≡ true
+    → length (entries_from i es) ≤ 254 → entry_in_range (entry i g) ≡ true
     → entries.fits (with_own i g (entries_from i es)) ≡ true
 with_own_fits i g es h few own =
     let later = entries_filter (λ (e : Entry). not (is_before e.round i)) es h in

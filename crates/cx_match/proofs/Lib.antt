@@ -1,3 +1,4 @@
 pub mod EntryLaws
 pub mod FitLaws
 pub mod SoundLaws
+pub mod Telling

@@ -2,18 +2,18 @@
 use Rattle.cx_role.proofs.Common.{◌≡◌, ◌≤◌, ◌<◌, ℕ, not, ◌&&◌, ◌||◌, Bool, true, false, nat_le, nat_lt, [], ◌∷◌, ◌++◌}
 use Rattle.cx_role.proofs.Common.{length, refl, list_all, arith, length-append, and_parts, nat_tests, Cluster}
 use Rattle.cx_role.proofs.Common.{Matchmaker, RoleId, Round, Shape, role, is_before, no_round, Record, Entry}
-use Rattle.cx_role.proofs.Common.{names_grid, names_round, List}
+use Rattle.cx_role.proofs.Common.{List, None, same_round, names_set}
 use Rattle.cx_role.proofs.Common.kept
 use Rattle.cx_role.proofs.Ranges.{real_or_none}
 use Rattle.cx_wire.specs.Format.{u16, u32}
-use Rattle.cx_field.specs.Fields.{grid, round, round0}
+use Rattle.cx_field.specs.Fields.{goes_with, entries, grid, joined, round, round0, set}
 use Rattle.cx_msg.specs.Records.{fits, kept_record}
 use Rattle.cx_field.proofs.ListLaws.{entries_fit, entries_snoc}
 use Rattle.cx_model.specs.Matchmaker.{MatchmakerDurable, matchmaker_after, matchmaker_fits, entry, entries_from, has_round}
-use Rattle.cx_match.specs.Sound.{IsSound}
-use Rattle.cx_match.proofs.EntryLaws.{at_most_17, with_own_fits, own_round, from_fewer, filter_fewer}
+use Rattle.cx_match.specs.Sound.{IsSound, durable_of}
+use Rattle.cx_match.proofs.EntryLaws.{at_most_255, with_own_fits, own_round, from_fewer, filter_fewer}
 
-has_room_or : (n : ℕ) (b : Bool) → n ≤ 16 → (nat_le n 16 || b) ≡ true
+has_room_or : (n : ℕ) (b : Bool) → n ≤ 254 → (nat_le n 254 || b) ≡ true
 has_room_or n b few = grind (arith, nat_tests)
 
 module _ (me : RoleId) (d : MatchmakerDurable) (i : Round) (g : Shape) (sound : IsSound me d) (real : round.fits i ≡ true)
@@ -22,18 +22,21 @@ module _ (me : RoleId) (d : MatchmakerDurable) (i : Round) (g : Shape) (sound : 
       → IsSound me (matchmaker_after d (kept.Match i g))
   sound_match before space =
       let one : List Entry = entry i g ∷ [] in
-      let count : length (d.entries ++ one) ≤ 16 = omega (arith, length-append d.entries one) in
+      let count : length (d.entries ++ one) ≤ 254 = omega (arith, length-append d.entries one) in
       record {
         who = sound.who;
         watermark = sound.watermark;
         entries = entries_snoc d.entries (entry i g) sound.entries (omega arith) (rw (real, fit) refl) before;
         room = has_room_or (length (d.entries ++ one)) (has_round d.watermark (d.entries ++ one)) count;
+        ballot = sound.ballot;
+        accepted = sound.accepted;
+        next = sound.next;
       }
 
   -- the entries from a retiring round on leave room for its own
-  from_few : is_before d.watermark i ≡ true → length (entries_from i d.entries) ≤ 16
+  from_few : is_before d.watermark i ≡ true → length (entries_from i d.entries) ≤ 254
   from_few above =
-      let most = at_most_17 d.entries sound.entries in
+      let most = at_most_255 d.entries sound.entries in
       let fewer = filter_fewer (λ (e : Entry). not (is_before e.round i)) d.entries in
       let own = from_fewer d.watermark i d.entries above in
       let room = sound.room in
@@ -47,10 +50,68 @@ module _ (me : RoleId) (d : MatchmakerDurable) (i : Round) (g : Shape) (sound : 
         watermark = real_or_none i real;
         entries = with_own_fits i g d.entries sound.entries (from_few above) (rw (real, fit) refl);
         room = grind (arith, nat_tests, own);
+        ballot = sound.ballot;
+        accepted = sound.accepted;
+        next = sound.next;
       }
 
-fourth_and_fifth : (a b c d e : Bool) → (a && b && c && d && e) ≡ true → (d ≡ true) × (e ≡ true)
-fourth_and_fifth a b c d e h = grind (arith, nat_tests)
+-- a ballot in which it accepts a set of the cluster
+goes_together : (b : Round) (n : ℕ) → nat_le 1 b.r ≡ true → nat_le 1 n ≡ true → goes_with b n ≡ true
+goes_together b n real some = rw (real, some) refl
+
+-- a set of the cluster has a member
+has_member : (c : Cluster) (s : List ℕ) → names_set c s ≡ true → nat_le 1 (length s) ≡ true
+has_member c s named = grind (arith, nat_tests)
+
+real_r : (b : Round) → round.fits b ≡ true → nat_le 1 b.r ≡ true
+unfolding round
+real_r b fit = grind (arith, nat_tests)
+
+-- the entries with which it begins are such as it may tell
+pub joined_told : (es : List Entry) → joined.fits es ≡ true → (entries.fits es ≡ true) × (length es ≤ 254)
+unfolding entries joined
+joined_told es fit = (grind (arith, nat_tests), grind (arith, nat_tests))
+
+module _ (me : RoleId) (d : MatchmakerDurable) (sound : IsSound me d) where
+  pub sound_stop : (b : Round) → round.fits b ≡ true → IsSound me (matchmaker_after d (kept.Stop b))
+  sound_stop b real = record {
+    who = sound.who;
+    watermark = sound.watermark;
+    entries = sound.entries;
+    room = sound.room;
+    ballot = real_or_none b real;
+    accepted = sound.accepted;
+    next = sound.next;
+  }
+
+  pub sound_next : (c : Cluster) (b : Round) (s : List ℕ) → round.fits b ≡ true → names_set c s ≡ true
+      → IsSound me (matchmaker_after d (kept.Next b s))
+  sound_next c b s real named = record {
+    who = sound.who;
+    watermark = sound.watermark;
+    entries = sound.entries;
+    room = sound.room;
+    ballot = real_or_none b real;
+    accepted = real_or_none b real;
+    next = goes_together b (length s) (real_r b real) (has_member c s named);
+  }
+
+  pub sound_boot : (s : List ℕ) (w : Round) (es : List Entry) → round0.fits w ≡ true → joined.fits es ≡ true
+      → IsSound me (matchmaker_after d (kept.Boot s w es))
+  sound_boot s w es mark fit =
+      let told = joined_told es fit in
+      record {
+        who = sound.who;
+        watermark = mark;
+        entries = told.0;
+        room = has_room_or (length es) (has_round w es) told.1;
+        ballot = sound.ballot;
+        accepted = sound.accepted;
+        next = sound.next;
+      }
+
+last_two : (a d e : Bool) → (a && d && e) ≡ true → (d ≡ true) × (e ≡ true)
+last_two a d e h = grind (arith, nat_tests)
 
 is_below : (n k : ℕ) → nat_lt n k ≡ true → n < k
 is_below n k h = grind (arith, nat_tests)
@@ -61,12 +122,21 @@ pub after_sound : (c : Cluster) (me : RoleId) (d : MatchmakerDurable) (r : Recor
 unfolding kept_record
 after_sound c me d (kept.Match i g) sound fit takes =
     let a = and_parts (round.fits i) (grid.fits g) fit in
-    let t = fourth_and_fifth (names_round c i) (names_grid c g) (not (is_before i d.watermark))
-    (list_all (λ (e : Entry). is_before e.round i) d.entries) (nat_lt (length d.entries) 16) takes in
+    let t = last_two _ (list_all (λ (e : Entry). is_before e.round i) d.entries) (nat_lt (length d.entries) 16) takes in
     sound_match me d i g sound a.0 a.1 t.0 (is_below (length d.entries) 16 t.1)
 after_sound c me d (kept.Garbage i g) sound fit takes =
     let a = and_parts (round.fits i) (grid.fits g) fit in
-    sound_garbage me d i g sound a.0 a.1 (and_parts (names_round c i && names_grid c g) (is_before d.watermark i) takes).1
+    sound_garbage me d i g sound a.0 a.1 (and_parts _ (is_before d.watermark i) takes).1
+after_sound c me d (kept.Stop b) sound fit takes = sound_stop me d sound b fit
+after_sound c me d (kept.Next b s) sound fit takes =
+    let a = and_parts (round.fits b) (set.fits s) fit in
+    let before = and_parts _ (not (same_round b d.accepted)) takes in
+    let higher = and_parts _ (not (is_before b d.ballot)) before.0 in
+    sound_next me d sound c b s a.0 (and_parts _ (names_set c s) higher.0).1
+after_sound c me d (kept.Boot s w es) sound fit takes =
+    let a = and_parts (set.fits s) (round0.fits w && joined.fits es) fit in
+    let b = and_parts (round0.fits w) (joined.fits es) a.1 in
+    sound_boot me d sound s w es b.0 b.1
 after_sound c me d other sound fit takes = cc
 
 pub garbage_fits : (i : Round) (g : Shape) → round.fits i ≡ true → grid.fits g ≡ true → fits (kept.Garbage i g) ≡ true
@@ -78,9 +148,31 @@ pub match_fits : (i : Round) (g : Shape) → round.fits i ≡ true → grid.fits
 unfolding kept_record
 match_fits i g real fit = rw (real, fit) refl
 
-pub empty_sound : (me : RoleId) → me ≡ role Matchmaker me.index → IsSound me (record { watermark = no_round; entries = [] })
+-- the records of a matchmaker that is replaced, with each part in its range
+pub stop_fits : (b : Round) → round.fits b ≡ true → fits (kept.Stop b) ≡ true
+unfolding kept_record
+stop_fits b real = real
+
+pub next_fits : (b : Round) (s : List ℕ) → round.fits b ≡ true → set.fits s ≡ true → fits (kept.Next b s) ≡ true
+unfolding kept_record
+next_fits b s real fit = rw (real, fit) refl
+
+pub boot_fits : (s : List ℕ) (w : Round) (es : List Entry) → set.fits s ≡ true → round0.fits w ≡ true → joined.fits es ≡ true
+    → fits (kept.Boot s w es) ≡ true
+unfolding kept_record
+boot_fits s w es fit mark told = rw (fit, mark, told) refl
+
+pub empty_sound : (me : RoleId) → me ≡ role Matchmaker me.index → IsSound me (durable_of no_round [] None no_round no_round [])
 unfolding round0 u16 u32
-empty_sound me who = record { who = who; watermark = refl; entries = entries_fit [] (omega arith) refl refl; room = refl }
+empty_sound me who = record {
+  who = who;
+  watermark = refl;
+  entries = entries_fit [] (omega arith) refl refl;
+  room = refl;
+  ballot = refl;
+  accepted = refl;
+  next = refl;
+}
 
 pub has_space : (n : ℕ) → n < 16 → nat_le 16 n ≡ false
 has_space n h = grind (arith, nat_tests)

@@ -1,13 +1,23 @@
 -- What is so of every matchmaker.
 use Rattle.std.specs.Prelude.{◌≡◌, ◌||◌}
-use Rattle.cx_role.specs.Prelude.{nat_le, length, IsTrue, Matchmaker, RoleId, role}
-use Rattle.cx_field.specs.Fields.{round0, entries}
+use Rattle.cx_role.specs.Prelude.{ℕ, nat_le, length, IsTrue, List, Option, Entry, Matchmaker, RoleId, Round, role}
+use Rattle.cx_field.specs.Fields.{goes_with, round0, entries}
 use Rattle.cx_model.specs.Matchmaker.{MatchmakerDurable, has_round}
 
--- It is a matchmaker, its watermark is a round or none, and its entries are such as a datagram may have: at most 17, each in
--- its ranges, in the rising order of their rounds. It recorded at most 16 of them; one more may be of the watermark's round.
+-- what a matchmaker's records left, by the parts that it holds
+abbrev pub durable_of : Round → List Entry → Option (List ℕ) → Round → Round → List ℕ → MatchmakerDurable
+durable_of w es booted ballot accepted next =
+    record { watermark = w; entries = es; booted = booted; ballot = ballot; accepted = accepted; next = next }
+
+-- It is a matchmaker, its watermark is a round or none, and its entries are such as a datagram may have: at most 255, each in
+-- its ranges, in the rising order of their rounds. It began with at most 254 of them, and recorded others only while there were
+-- fewer than 16; one more may be of the watermark's round. Its ballots are rounds or none, and it accepted a set exactly where
+-- it has a ballot in which it did.
 pub record IsSound (me : RoleId) (d : MatchmakerDurable) : Type 0 where
   pub who : me ≡ role Matchmaker me.index
   pub watermark : IsTrue (round0.fits d.watermark)
   pub entries : IsTrue (entries.fits d.entries)
-  pub room : IsTrue (nat_le (length d.entries) 16 || has_round d.watermark d.entries)
+  pub room : IsTrue (nat_le (length d.entries) 254 || has_round d.watermark d.entries)
+  pub ballot : IsTrue (round0.fits d.ballot)
+  pub accepted : IsTrue (round0.fits d.accepted)
+  pub next : IsTrue (goes_with d.accepted (length d.next))

@@ -2,7 +2,7 @@
 
 ghost use Rattle.cx_model.specs.Matchmaker.{MatchmakerDurable, matchmaker_rules};
 
-use cx_base::{Cluster, NoMemory, Order, RoleId, Round, Why};
+use cx_base::{Cluster, NoMemory, Order, RoleId, Round, Set, Why};
 use cx_field::Entry;
 use cx_keeper::Keeper;
 use cx_msg::{Datagram, Msg, Record};
@@ -11,7 +11,10 @@ use std::alloc::Global;
 use std::marker::Model;
 
 /// A matchmaker: the round below which rounds are retired, and the rounds that were recorded with their grids, in rising
-/// order (JSys 2021). It records at most 16 rounds.
+/// order (JSys 2021). It records a round only while it has fewer than 16.
+///
+/// It is of one set for ever: the first one, or the one in which it began with what the members of an earlier set had. A ballot
+/// stops it: from then on it answers only who replaces it (JSys 2021: a consensus among the old on who follows them).
 #[derive(Drop)]
 pub struct Matchmaker {
     pub(crate) alloc: Global,
@@ -20,12 +23,18 @@ pub struct Matchmaker {
     pub(crate) live: bool,
     pub(crate) watermark: Round,
     pub(crate) entries: Vec<Entry>,
+    // The set in which it began, where that isn't the first.
+    pub(crate) booted: Option<Set>,
+    // The greatest ballot that it promised, and the last one in which it accepted a set to follow, with that set.
+    pub(crate) ballot: Round,
+    pub(crate) accepted: Round,
+    pub(crate) next: Set,
 }
 
 impl Model for Matchmaker {
     ghost use Rattle.cx_role.specs.Prelude.{Running};
     ghost use Rattle.cx_model.specs.Matchmaker.{MatchmakerDurable};
-    ghost use Rattle.cx_match.specs.Sound.{IsSound};
+    ghost use Rattle.cx_match.specs.Sound.{IsSound, durable_of};
 
     ghost Value = { Running MatchmakerDurable (Unit {0}) };
 
@@ -33,11 +42,11 @@ impl Model for Matchmaker {
       cluster = m.cluster;
       me = m.me;
       live = m.live;
-      durable = record { watermark = m.watermark; entries = m.entries.items };
+      durable = durable_of m.watermark m.entries.items m.booted m.ballot m.accepted m.next;
       volatile = tt;
     } };
 
-    ghost invariant = { λ m. IsSound m.me (record { watermark = m.watermark; entries = m.entries.items }) };
+    ghost invariant = { λ m. IsSound m.me (durable_of m.watermark m.entries.items m.booted m.ballot m.accepted m.next) };
 }
 
 impl Role for Matchmaker {
@@ -84,6 +93,13 @@ impl Role for Matchmaker {
             Msg::MatchA { round, grid } => self.match_a(keeper, from, *round, *grid, out),
             Msg::GarbageA { round, grid } => self.garbage_a(keeper, from, *round, *grid, out),
             Msg::MatchRead { asking } => Ok(self.match_read(from, *asking, out)?),
+            Msg::StopA { round } => self.stop_a(keeper, from, *round, out),
+            Msg::NextA { round, set } => self.next_a(keeper, from, *round, set, out),
+            Msg::BootA {
+                set,
+                watermark,
+                entries,
+            } => self.boot_a(keeper, from, set, *watermark, entries, out),
             _ => Ok(Why::Stranger),
         }
     }

@@ -1,17 +1,34 @@
 //! What a matchmaker remembers of its records.
 
-ghost use Rattle.std.specs.Prelude.{◌≡◌};
-ghost use Rattle.cx_role.specs.Prelude.{[], true, OnOk, OnErr, IsTrue, Kind, opened};
+ghost use Rattle.std.specs.Prelude.{◌≡◌, Ok, Err, IsErrOf, false};
+ghost use Rattle.cx_role.specs.Prelude.{[], true, IfOk, OnOk, OnErr, IsTrue, Kind, opened};
 ghost use Rattle.cx_model.specs.Matchmaker.{matchmaker_rules, matchmaker_after, matchmaker_fits};
 ghost use Rattle.cx_msg.specs.Records.{fits as record_fits};
+ghost use Rattle.cx_role.specs.Role.{Refuses};
 
 use crate::Matchmaker;
 use crate::entries::{are_before, retire};
-use cx_base::{Cluster, NoMemory, ROUNDS, RoleId, Round};
+use cx_base::{Cluster, NoMemory, ROUNDS, RoleId, Round, Set, copy_all};
 use cx_field::Entry;
+use cx_keeper::Keeper;
 use cx_msg::Record;
-use cx_role::{names_grid, names_round};
+use cx_role::{StepFault, keep, names_ballot, names_entries, names_grid, names_round, names_set};
 use std::alloc::Global;
+
+/// Keeps the record of a step. A record that goes out of use here is no burden to the rows.
+pub fn keep_own<K: Keeper>(keeper: &mut K, live: &mut bool, what: Record) -> Result<(), StepFault>
+    requires { IsTrue (record_fits what) }
+    ensures kept { IfOk result (λ _. K.append_gives keeper.old what (Ok tt) keeper.new) }
+    ensures lives { OnOk result (live.new ≡ live.old) }
+    ensures refused { IsErrOf result StepFault.NoMemory → Refuses K.append_gives keeper.old keeper.new }
+    ensures told { K.tells keeper.new ≡ K.tells keeper.old }
+    ensures lives_on { IsErrOf result StepFault.NoMemory → live.new ≡ live.old }
+    ensures failed { IsErrOf result StepFault.Failed
+        → K.append_gives keeper.old what (Err StepFault.Failed) keeper.new }
+    ensures dead { IsErrOf result StepFault.Failed → live.new ≡ false }
+{
+    keep(keeper, live, &what)
+}
 
 impl Matchmaker {
     pub(crate) fn new(alloc: Global, cluster: &Cluster, me: RoleId) -> Self
@@ -25,6 +42,10 @@ impl Matchmaker {
             live: true,
             watermark: Round::ZERO,
             entries: Vec::new(alloc),
+            booted: None,
+            ballot: Round::ZERO,
+            accepted: Round::ZERO,
+            next: Set::empty(),
         }
     }
 
@@ -34,16 +55,41 @@ impl Matchmaker {
     {
         match what {
             Record::Match { round, grid } => {
-                names_round(&self.cluster, *round)
+                self.is_at_work()
+                    && names_round(&self.cluster, *round)
                     && names_grid(&self.cluster, grid)
                     && !round.is_before(&self.watermark)
                     && are_before(&self.entries, *round)
                     && self.entries.len() < ROUNDS
             }
             Record::Garbage { round, grid } => {
-                names_round(&self.cluster, *round)
+                self.is_at_work()
+                    && names_round(&self.cluster, *round)
                     && names_grid(&self.cluster, grid)
                     && self.watermark.is_before(round)
+            }
+            Record::Stop { round } => {
+                self.is_booted()
+                    && names_ballot(&self.cluster, *round)
+                    && self.ballot.is_before(round)
+            }
+            Record::Next { round, set } => {
+                self.is_booted()
+                    && names_ballot(&self.cluster, *round)
+                    && names_set(&self.cluster, set)
+                    && !round.is_before(&self.ballot)
+                    && *round != self.accepted
+            }
+            Record::Boot {
+                set,
+                watermark,
+                entries,
+            } => {
+                !self.is_booted()
+                    && set.contains(self.me.index)
+                    && names_set(&self.cluster, set)
+                    && names_round(&self.cluster, *watermark)
+                    && names_entries(&self.cluster, entries.as_slice())
             }
             _ => false,
         }
@@ -68,6 +114,27 @@ impl Matchmaker {
                 self.entries.reserve(1)?;
                 self.watermark = *round;
                 retire(&mut self.entries, *round, *grid);
+                Ok(())
+            }
+            Record::Stop { round } => {
+                self.ballot = *round;
+                Ok(())
+            }
+            Record::Next { round, set } => {
+                self.ballot = *round;
+                self.accepted = *round;
+                self.next = *set;
+                Ok(())
+            }
+            Record::Boot {
+                set,
+                watermark,
+                entries,
+            } => {
+                let begun = copy_all(self.alloc, entries.as_slice())?;
+                self.booted = Some(*set);
+                self.watermark = *watermark;
+                self.entries = begun;
                 Ok(())
             }
             _ => Ok(()),

@@ -2,21 +2,22 @@
 
 ghost use Rattle.std.specs.Prelude.{◌≡◌};
 ghost use Rattle.cx_role.specs.Prelude.{[], IsTrue, Kind, role, IsReply, IsStep};
-ghost use Rattle.cx_model.specs.Matchmaker.{garbage_a_row, matchmaker_rules, match_a_row, match_read_row};
+ghost use Rattle.cx_model.specs.Matchmaker.{at_work, garbage_a_row, matchmaker_rules, match_a_row, match_read_row};
 ghost use Rattle.cx_field.specs.Fields as field;
 
 use crate::Matchmaker;
 use crate::entries::{earlier, has_entry, has_later, last_round, retire, told};
+use crate::records::keep_own;
 use cx_base::{Grid, NoMemory, ROUNDS, RoleId, Round, Why};
 use cx_field::{Asking, Entry, NackReason};
 use cx_keeper::Keeper;
 use cx_msg::{Record, garbage_b, match_b, match_nack, match_read_ack};
-use cx_role::{Outbox, StepFault, keep};
+use cx_role::{Outbox, StepFault};
 
 impl Matchmaker {
-    /// A leader asks that a round be recorded, and for the earlier rounds and their grids. A round below the watermark, one
-    /// below another that is recorded, and a seventeenth are refused (JSys 2021; the limit is this project's own).
-    pub(crate) fn match_a<K: Keeper>(
+    // A round below the watermark, one below another that is recorded, and one where there are 16 or more are refused (JSys 2021;
+    // the limit is this project's own).
+    fn record_round<K: Keeper>(
         &mut self,
         keeper: &mut K,
         from: RoleId,
@@ -64,15 +65,41 @@ impl Matchmaker {
         let entries = earlier(self.alloc, &self.entries, round)?;
         self.entries.reserve(1)?;
         out.room(1)?;
-        keep(keeper, &mut self.live, &Record::Match { round, grid })?;
+        keep_own(keeper, &mut self.live, Record::Match { round, grid })?;
         self.entries.push_reserved(Entry { round, grid });
         out.push(match_b(self.me.index, from.index, round, self.watermark, entries));
         Ok(Why::Matched)
     }
 
-    /// A leader asks to forget the rounds below its own, whose entry stays, or is made (JSys 2021; the entry is this project's
-    /// own).
-    pub(crate) fn garbage_a<K: Keeper>(
+    /// A leader asks that a round be recorded, and for the earlier rounds and their grids (JSys 2021).
+    pub(crate) fn match_a<K: Keeper>(
+        &mut self,
+        keeper: &mut K,
+        from: RoleId,
+        round: Round,
+        grid: Grid,
+        out: &mut Outbox,
+    ) -> Result<Why, StepFault>
+        requires empty { out.old.list ≡ [] }
+        requires sender { from ≡ role Kind.Leader from.index }
+        requires round { IsTrue (field.round.fits round) }
+        requires grid { IsTrue (field.grid.fits grid) }
+        ensures { let s = self.old in
+            IsStep K.append_gives K.tells matchmaker_rules s
+            (at_work s.cluster s.me s.durable (match_a_row s.me s.durable from round grid))
+            result self.new keeper.old keeper.new out.new.list }
+    {
+        if !self.is_booted() {
+            return Ok(Why::New);
+        }
+        if self.is_stopped() {
+            return Ok(Why::Stopped);
+        }
+        self.record_round(keeper, from, round, grid, out)
+    }
+
+    // The entry of the leader's own round stays, or is made (this project's own).
+    fn forget_below<K: Keeper>(
         &mut self,
         keeper: &mut K,
         from: RoleId,
@@ -94,11 +121,51 @@ impl Matchmaker {
             return Ok(Why::Same);
         }
         self.entries.reserve(1)?;
-        keep(keeper, &mut self.live, &Record::Garbage { round, grid })?;
+        keep_own(keeper, &mut self.live, Record::Garbage { round, grid })?;
         self.watermark = round;
         retire(&mut self.entries, round, grid);
         out.push(garbage_b(self.me.index, from.index, round));
         Ok(Why::Raised)
+    }
+
+    /// A leader asks to forget the rounds below its own (JSys 2021).
+    pub(crate) fn garbage_a<K: Keeper>(
+        &mut self,
+        keeper: &mut K,
+        from: RoleId,
+        round: Round,
+        grid: Grid,
+        out: &mut Outbox,
+    ) -> Result<Why, StepFault>
+        requires empty { out.old.list ≡ [] }
+        requires sender { from ≡ role Kind.Leader from.index }
+        requires round { IsTrue (field.round.fits round) }
+        requires grid { IsTrue (field.grid.fits grid) }
+        ensures { let s = self.old in
+            IsStep K.append_gives K.tells matchmaker_rules s
+            (at_work s.cluster s.me s.durable (garbage_a_row s.me s.durable from round grid))
+            result self.new keeper.old keeper.new out.new.list }
+    {
+        if !self.is_booted() {
+            return Ok(Why::New);
+        }
+        if self.is_stopped() {
+            return Ok(Why::Stopped);
+        }
+        self.forget_below(keeper, from, round, grid, out)
+    }
+
+    fn report(&self, from: RoleId, asking: Asking, out: &mut Outbox) -> Result<Why, NoMemory>
+        requires empty { out.old.list ≡ [] }
+        requires sender { from ≡ role Kind.Reader from.index }
+        requires asking { IsTrue (field.asking.fits asking) }
+        ensures { IsReply matchmaker_rules self.now
+            (match_read_row self.now.me self.now.durable from asking) result self.now out.new.list }
+    {
+        let entries = told(self.alloc, &self.entries)?;
+        out.room(1)?;
+        out.push(match_read_ack(self.me.index, from.index, asking, self.watermark, entries));
+        Ok(Why::Asked)
     }
 
     /// A reader asks for the watermark and all entries (this project's own).
@@ -111,12 +178,16 @@ impl Matchmaker {
         requires empty { out.old.list ≡ [] }
         requires sender { from ≡ role Kind.Reader from.index }
         requires asking { IsTrue (field.asking.fits asking) }
-        ensures { IsReply matchmaker_rules self.now
-            (match_read_row self.now.me self.now.durable from asking) result self.now out.new.list }
+        ensures { let s = self.now in
+            IsReply matchmaker_rules s
+            (at_work s.cluster s.me s.durable (match_read_row s.me s.durable from asking)) result s out.new.list }
     {
-        let entries = told(self.alloc, &self.entries)?;
-        out.room(1)?;
-        out.push(match_read_ack(self.me.index, from.index, asking, self.watermark, entries));
-        Ok(Why::Asked)
+        if !self.is_booted() {
+            return Ok(Why::New);
+        }
+        if self.is_stopped() {
+            return Ok(Why::Stopped);
+        }
+        self.report(from, asking, out)
     }
 }

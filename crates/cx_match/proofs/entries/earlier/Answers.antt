@@ -1,13 +1,13 @@
 use Rattle.cx_role.proofs.Common.{◌≡◌, arith, rules, is_before, Entry, entries_filter}
 use Rattle.cx_model.specs.Matchmaker.{entries_before}
-use Rattle.cx_match.proofs.EntryLaws.{at_most_17}
+use Rattle.cx_match.proofs.EntryLaws.{at_most_255}
 use Rattle.cx_match.proofs.entries.earlier.Goals as goal
 
 pub from_vec-requires : goal.from_vec-requires
 from_vec-requires c =
     let fit = entries_filter (λ (e : Entry). is_before e.round c.args.round) c.args.entries.now c.requires in
     let list : c.in_ok-list.list.items ≡ entries_before c.args.round c.args.entries.now = search rules in
-    let few = rw (← list) at (at_most_17 (entries_before c.args.round c.args.entries.now) fit) in
+    let few = rw (← list) at (at_most_255 (entries_before c.args.round c.args.entries.now) fit) in
     (search rules, (omega arith, omega (arith, few, c.in_ok-list.list.ok.0)))
 
 pub returns-clause-fit : goal.returns-clause-fit

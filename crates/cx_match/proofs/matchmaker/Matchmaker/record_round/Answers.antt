@@ -2,8 +2,9 @@ use Rattle.cx_role.proofs.Common.{length, arith, rules, done}
 use Rattle.cx_match.proofs.EntryLaws.{all_before, greatest_fits, some_later}
 use Rattle.cx_match.proofs.SoundLaws.{has_space, match_fits, sound_match}
 use Rattle.cx_role.proofs.Ranges.{real_above}
+use Rattle.cx_match.proofs.Telling.{one_told}
 use Rattle.std.proofs.lemmas.Result.{err_from_is_err_and}
-use Rattle.cx_match.proofs.matchmaker.Matchmaker.match_a.Goals as goal
+use Rattle.cx_match.proofs.matchmaker.Matchmaker.record_round.Goals as goal
 
 pub match_nack-requires-clause-other : goal.match_nack-requires-clause-other
 match_nack-requires-clause-other g c = real_above c.args.round c.self.inside.watermark c.requires.round c.self.invariant.watermark (rw c.is_before.ensures at c.if-is_before.true)
@@ -17,8 +18,8 @@ pub match_nack-requires-then-len-ge-ROUNDS-clause-other : goal.match_nack-requir
 match_nack-requires-then-len-ge-ROUNDS-clause-other g c =
     rw (c.last_round-last-then-len-ge-ROUNDS.ensures, c.deref-then-len-ge-ROUNDS.ensures.value) (greatest_fits c.self.inside.entries.items (omega arith) c.self.invariant.entries)
 
-pub keep-requires : goal.keep-requires
-keep-requires g c = match_fits c.args.round c.args.grid c.requires.round c.requires.grid
+pub keep_own-requires : goal.keep_own-requires
+keep_own-requires g c = match_fits c.args.round c.args.grid c.requires.round c.requires.grid
 
 pub invariant_of-self-2 : goal.invariant_of-self-2
 invariant_of-self-2 g c =
@@ -33,19 +34,19 @@ returns g c =
     let last = rw (c.has_later.ensures, c.deref.ensures.value) at c.if-has_later.false in
     let new = rw (c.has_entry.ensures, c.deref-2.ensures.value) at c.if-has_entry.false in
     let space = has_space (length c.self.inside.entries.items) (omega arith) in
-    rw (← c.self.view_is, high, last, new, space) (done (record { why = search rules; kept = search rules; state = search rules; sends = search rules }) (search rules))
+    rw (← c.self.view_is, high, last, new, space) (done (record { why = search rules; kept = search rules; state = search rules; sends = one_told _ _ _ _ _ _ _ _ _ _ _ c.self.invariant.who c.requires.sender c.in_ok-entries-2.ensures.earlier c.deref-3.ensures.value c.requires.empty c.in_ok-room-5.ensures.list c.push-2.ensures.list c.match_b-2.ensures }) (search rules))
 
-pub returns-in_err-keep : goal.returns-in_err-keep
-returns-in_err-keep g c =
+pub returns-in_err-keep_own : goal.returns-in_err-keep_own
+returns-in_err-keep_own g c =
     let high = rw c.is_before.ensures at c.if-is_before.false in
     let last = rw (c.has_later.ensures, c.deref.ensures.value) at c.if-has_later.false in
     let new = rw (c.has_entry.ensures, c.deref-2.ensures.value) at c.if-has_entry.false in
     let space = has_space (length c.self.inside.entries.items) (omega arith) in
-    let p = err_from_is_err_and c.from_residual-in_err-keep.result c.from_residual-in_err-keep.ensures.1 in
+    let p = err_from_is_err_and c.from_residual-in_err-keep_own.result c.from_residual-in_err-keep_own.ensures.1 in
     rw (← c.self.view_is, high, last, new, space) (record {
       ok = search rules;
       no_memory = λ e. record {
-        kept = c.in_err-keep.ensures.refused (let f = rw (p.1, p.2) at e in cc);
+        kept = c.in_err-keep_own.ensures.refused (let f = rw (p.1, p.2) at e in cc);
         state = search rules;
         sends = search rules;
       };
@@ -61,3 +62,10 @@ returns-then-len-ge-ROUNDS g c =
     let last = rw (c.has_later.ensures, c.deref.ensures.value) at c.if-has_later.false in
     let new = rw (c.has_entry.ensures, c.deref-2.ensures.value) at c.if-has_entry.false in
     rw (← c.self.view_is, high, last, new) (done (record { why = search rules; kept = search rules; state = search rules; sends = search rules }) (search rules))
+
+pub returns-then-has_entry : goal.returns-then-has_entry
+returns-then-has_entry g c =
+    let high = rw c.is_before.ensures at c.if-is_before.false in
+    let last = rw (c.has_later.ensures, c.deref.ensures.value) at c.if-has_later.false in
+    let same = rw (c.has_entry.ensures, c.deref-2.ensures.value) at c.if-has_entry.true in
+    rw (← c.self.view_is, high, last, same) (done (record { why = search rules; kept = search rules; state = search rules; sends = one_told _ _ _ _ _ _ _ _ _ _ _ c.self.invariant.who c.requires.sender c.in_ok-entries.ensures.earlier c.deref-then-has_entry.ensures.value c.requires.empty c.in_ok-room-3.ensures.list c.push-then-has_entry.ensures.list c.match_b.ensures }) (search rules))

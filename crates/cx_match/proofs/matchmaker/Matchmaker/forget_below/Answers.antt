@@ -1,8 +1,8 @@
 use Rattle.cx_match.proofs.SoundLaws.{garbage_fits, sound_garbage}
-use Rattle.cx_match.proofs.matchmaker.Matchmaker.garbage_a.Goals as goal
+use Rattle.cx_match.proofs.matchmaker.Matchmaker.forget_below.Goals as goal
 
-pub keep-requires : goal.keep-requires
-keep-requires g c = garbage_fits c.args.round c.args.grid c.requires.round c.requires.grid
+pub keep_own-requires : goal.keep_own-requires
+keep_own-requires g c = garbage_fits c.args.round c.args.grid c.requires.round c.requires.grid
 
 pub invariant_of-self-2 : goal.invariant_of-self-2
 invariant_of-self-2 g c =
