@@ -1,5 +1,5 @@
 -- A collector as contracts see it.
-use Rattle.std.specs.Prelude.{◌≡◌, ◌≤◌, ◌+◌, ℕ, Bool, not, ◌&&◌, nat_le, if◌then◌else◌, length, IsTrue}
+use Rattle.std.specs.Prelude.{◌≡◌, ◌≤◌, ◌+◌, ℕ, Bool, not, ◌&&◌, nat_le, if◌then◌else◌, [], length, IsTrue}
 use Rattle.cx_base.specs.Grid.{Shape, is_in}
 use Rattle.cx_model.specs.Collection.{Collection, is_informing, is_collecting, with_informed, with_forgotten}
 
@@ -25,6 +25,10 @@ counts_forgotten id k = is_collecting k.collection.stage && not (is_in id k.coll
 -- what it leaves
 abbrev pub forgotten_by : ℕ → Collecting → Collecting
 forgotten_by id k = if counts_forgotten id k then record k { collection = with_forgotten (k.f + 1) id k.collection } else k
+
+-- the matchmakers of another set are asked in the place of those that were counted
+abbrev pub recounted : Collecting → Collecting
+recounted k = record k { collection = record k.collection { counted = [] } }
 
 -- While matchmakers are asked, `forgotten` of them are counted: at most f, since one more ends the stage.
 pub record IsCount (f forgotten : ℕ) (k : Collection) : Type 0 where

@@ -1,9 +1,9 @@
 //! Who has answered.
 
-ghost use Rattle.std.specs.Prelude.{◌≡◌, ◌<◌, ◌&&◌};
+ghost use Rattle.std.specs.Prelude.{◌≡◌, ◌<◌, ◌&&◌, IsTrue};
 ghost use Rattle.cx_base.specs.Grid.{is_in};
 ghost use Rattle.cx_model.specs.Collection.{not_collecting, collection_from, is_off, is_collecting, is_retired};
-ghost use Rattle.cx_collect.specs.Collecting.{counts_informed, informed_by, counts_forgotten, forgotten_by};
+ghost use Rattle.cx_collect.specs.Collecting.{counts_informed, informed_by, counts_forgotten, forgotten_by, recounted};
 
 use cx_base::Grid;
 use cx_grid::{Marks, column_whole, is_member};
@@ -105,6 +105,16 @@ impl Collector {
         }
         self.forgotten += 1;
         false
+    }
+
+    /// Forgets which matchmakers were counted, where those of another set are asked in their place: f + 1 of these are to
+    /// forget the earlier rounds. It takes no memory.
+    pub fn recount(&mut self)
+        requires { IsTrue (is_collecting self.old.collection.stage) }
+        ensures { self.new ≡ recounted self.old }
+    {
+        self.counted = Marks::new();
+        self.forgotten = 0;
     }
 
     /// Whether an acceptor or a matchmaker was counted in the present stage.

@@ -3,8 +3,12 @@ use Rattle.cx_role.proofs.Common.{◌≡◌, ◌&&◌, List, [], ◌∷◌, ◌+
 use Rattle.cx_role.proofs.Common.{Command, RoleId, same_role, Letter, Record, Entry, Msg, live_entries, names, Outcome}
 use Rattle.cx_role.proofs.Common.{either_way, IsFit}
 use Rattle.cx_role.proofs.Common.msg
+use Rattle.cx_base.specs.Sets.{is_above}
 use Rattle.cx_msg.specs.declared.input.Input.TheVariants as input
-use Rattle.cx_model.specs.Leader.{LeaderDurable, LeaderVolatile, matched_by, match_counted, promise_counted, propose_in, informed_in, leader_takes, leader_row, leader_rules}
+use Rattle.cx_model.specs.declared.states.Mode.{Mode}
+use Rattle.cx_model.specs.declared.states.Mode.TheVariants as mode
+use Rattle.cx_model.specs.Collection.{is_collecting}
+use Rattle.cx_model.specs.Leader.{LeaderDurable, LeaderVolatile, matched_by, match_counted, promise_counted, propose_in, informed_in, set_learnt, leader_takes, leader_row, leader_rules}
 
 abbrev KeepsNone : Outcome LeaderVolatile → Type 0
 KeepsNone o = o.kept ≡ None
@@ -30,6 +34,14 @@ module _ (c : Cluster) (me : RoleId) where
   informed_none v from None = refl
   informed_none v from (Some own) = grind arith
 
+  learnt_none : (v : LeaderVolatile) (m : Mode) (own : Option Entry) → KeepsNone (set_learnt me v m own)
+  learnt_none v mode.Idle own = refl
+  learnt_none v mode.Matching None = refl
+  learnt_none v mode.Matching (Some own) = refl
+  learnt_none v mode.Phase1 own = refl
+  learnt_none v mode.Leading None = refl
+  learnt_none v mode.Leading (Some own) = either_way KeepsNone (is_collecting v.collection.stage) _ _ refl refl
+
   takes_none : (d : LeaderDurable) (v : LeaderVolatile) (from : RoleId) (m : Msg) → KeepsNone (leader_takes c me d v from m)
   takes_none d v from (msg.MatchB i w es) = grind (arith, counted_none d.own (record v { told = v.told ++ record { matchmaker = from.index; watermark = w; entries = es } ∷ [] }))
   takes_none d v from (msg.MatchNack i reason other) = grind arith
@@ -40,6 +52,7 @@ module _ (c : Cluster) (me : RoleId) where
   takes_none d v from (msg.Held n) = grind arith
   takes_none d v from (msg.Informed i cw) = grind (arith, informed_none v from d.own)
   takes_none d v from (msg.GarbageB i) = grind arith
+  takes_none d v from (msg.Sets s) = either_way KeepsNone (is_above s v.set) _ _ (learnt_none (record v { set = s }) v.mode d.own) refl
   takes_none d v from other = refl
 
   pub take_fits : (d : LeaderDurable) (v : LeaderVolatile) (letter : Letter)

@@ -14,9 +14,9 @@ use Rattle.cx_leader.specs.Promising.{live_of, promises_of}
 use Rattle.cx_leader.specs.Proposing.{Proposing}
 
 -- a leader as contracts see it, by the parts that it holds
-abbrev pub leader_view : Cluster → ℕ → Bool → Option Entry → Mode → Round → List ℕ → List MatchAnswer → Option Counting
+abbrev pub leader_view : Cluster → ℕ → Bool → Option Entry → Mode → Round → List ℕ → List ℕ → List MatchAnswer → Option Counting
     → Proposing → Collecting → Running LeaderDurable LeaderVolatile
-leader_view c index live own mode seen held told phase1 p k =
+leader_view c index live own mode seen set held told phase1 p k =
     record {
       cluster = c;
       me = role kind.Leader index;
@@ -26,6 +26,7 @@ leader_view c index live own mode seen held told phase1 p k =
           record {
             mode = mode;
             seen = seen;
+            set = set;
             held = held;
             told = told;
             promises = promises_of phase1;

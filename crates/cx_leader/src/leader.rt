@@ -8,7 +8,7 @@ ghost use Rattle.cx_model.specs.Leader.{LeaderDurable, LeaderVolatile, is_idle, 
 
 use crate::opening::{last_begun, none_held};
 use crate::proposals::Proposals;
-use cx_base::{Cluster, Kind, NoMemory, Order, RoleId, Round, Why};
+use cx_base::{Cluster, Kind, NoMemory, Order, RoleId, Round, Set, Why};
 use cx_collect::Collector;
 use cx_field::Entry;
 use cx_keeper::Keeper;
@@ -29,6 +29,8 @@ pub struct Leader {
     pub(crate) own: Option<Entry>,
     pub(crate) mode: Mode,
     pub(crate) seen: Round,
+    // The matchmakers that are asked, and whose answers count.
+    pub(crate) set: Set,
     // The greatest number of slots that each replica reported.
     pub(crate) held: Vec<u64>,
     pub(crate) told: Vec<MatchAnswer>,
@@ -45,7 +47,7 @@ impl Model for Leader {
 
     ghost Value = { Running LeaderDurable LeaderVolatile };
 
-    ghost view = { λ l. leader_view l.cluster l.index l.live l.own l.mode l.seen l.held.items l.told.items l.phase1
+    ghost view = { λ l. leader_view l.cluster l.index l.live l.own l.mode l.seen l.set l.held.items l.told.items l.phase1
         l.proposals l.collector };
 
     ghost invariant = { λ l. IsLeader l.cluster l.index l.own l.mode l.told.items l.phase1 l.held.items l.collector };
@@ -81,7 +83,7 @@ impl Leader {
                 round,
                 reason,
                 other,
-            } => Ok(self.match_nack(*round, *reason, *other)),
+            } => Ok(self.match_nack(from, *round, *reason, *other)),
             Msg::Phase1B { round, cw, votes } => self.promise(from, *round, *cw, votes, out),
             Msg::Nack { round, promise } => Ok(self.nack(*round, *promise)),
             Msg::Batch { commands } => self.batch(commands, out),
@@ -89,6 +91,7 @@ impl Leader {
             Msg::Held { mark } => Ok(self.replica_holds(from, *mark)),
             Msg::Informed { round, mark } => self.informed(from, *round, *mark, out),
             Msg::GarbageB { round } => Ok(self.forgotten(from, *round)),
+            Msg::Sets { set } => self.learn(*set, out),
             _ => Ok(Why::Stranger),
         }
     }
@@ -120,6 +123,7 @@ fn opened(
         own,
         mode: Mode::Idle,
         seen: Round::ZERO,
+        set: Set::first(cluster),
         held: none_held(alloc, cluster.replicas)?,
         told: Vec::new(alloc),
         phase1: None,
@@ -186,6 +190,7 @@ impl Role for Leader {
             Order::Lead(grid) => self.lead(keeper, grid, out),
             Order::Change(grid) => self.change(keeper, grid, out),
             Order::Collect => Ok(self.collect(out)?),
+            Order::Replace(_) => Ok(Why::Stranger),
         }
     }
 

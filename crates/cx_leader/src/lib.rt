@@ -8,6 +8,7 @@ mod holding;
 mod known;
 mod leader;
 mod leading;
+mod learning;
 mod matching;
 mod opening;
 mod promising;

@@ -1,9 +1,9 @@
 //! A leader that asks the matchmakers which grids earlier rounds used (JSys 2021).
 
-ghost use Rattle.std.specs.Prelude.{◌≡◌, ◌++◌, ◌∷◌};
-ghost use Rattle.cx_role.specs.Prelude.{[], Some, IsTrue, list_all, live_entries, names_entry};
+ghost use Rattle.std.specs.Prelude.{◌≡◌, ◌++◌, ◌∷◌, ◌&&◌};
+ghost use Rattle.cx_role.specs.Prelude.{[], Some, IsTrue, is_in, list_all, live_entries, names_entry};
 ghost use Rattle.cx_role.specs.Prelude.{Entry as EntryOf, IsReply};
-ghost use Rattle.cx_model.specs.Leader.{is_matching, bypass, finish, matched_by, match_counted, match_b_row};
+ghost use Rattle.cx_model.specs.Leader.{is_matching, is_own, bypass, finish, matched_by, match_counted, match_b_row};
 ghost use Rattle.cx_model.specs.Leader.{leader_rules};
 ghost use Rattle.cx_leader.specs.Promising.{ask_row, with_answer};
 ghost use Rattle.cx_leader.specs.State.{is_named};
@@ -133,6 +133,16 @@ impl Leader {
         self.matched(answer, own, out)
     }
 
+    // Whether a matchmaker is asked in this round: it is of the known set, and enough of these have not answered yet.
+    fn awaits(&self, matchmaker: u16, round: Round) -> bool
+        ensures { let s = self.now in
+            result ≡ (is_matching s.volatile.mode && is_own s.durable round && is_in matchmaker s.volatile.set) }
+    {
+        matches!(self.mode, Mode::Matching)
+            && is_same(round, round_of(&self.own))
+            && self.set.contains(matchmaker)
+    }
+
     /// A matchmaker answers with its watermark and its entries.
     pub(crate) fn match_answer(
         &mut self,
@@ -148,7 +158,7 @@ impl Leader {
             IsReply leader_rules s (match_b_row s.cluster s.me s.durable s.volatile from round watermark entries.now)
             result self.new out.new.list }
     {
-        if !matches!(self.mode, Mode::Matching) || !is_same(round, round_of(&self.own)) {
+        if !self.awaits(from.index, round) {
             return Ok(Why::Old);
         }
         if is_counted(&self.told, from.index) {

@@ -6,7 +6,7 @@ ghost use Rattle.cx_model.specs.Leader.{nack_row, match_nack_row, leader_rules};
 use crate::Leader;
 use crate::entries::later;
 use crate::rounds::{is_same, round_of};
-use cx_base::{Round, Why};
+use cx_base::{RoleId, Round, Why};
 use cx_field::NackReason;
 use cx_model::Mode;
 
@@ -25,13 +25,23 @@ impl Leader {
         Why::Nacked
     }
 
-    /// A matchmaker does not record the round, and reports another one; where it has no room the leader goes on.
-    pub(crate) fn match_nack(&mut self, round: Round, reason: NackReason, other: Round) -> Why
+    /// A matchmaker does not record the round, and reports another one, which is noted whatever the answer; where it has no
+    /// room the leader goes on.
+    pub(crate) fn match_nack(
+        &mut self,
+        from: RoleId,
+        round: Round,
+        reason: NackReason,
+        other: Round,
+    ) -> Why
         ensures { let s = self.old in
-            Replies leader_rules s (match_nack_row s.durable s.volatile round reason other) result self.new [] }
+            Replies leader_rules s (match_nack_row s.durable s.volatile from round reason other) result self.new [] }
     {
         self.seen = later(self.seen, other);
-        if matches!(self.mode, Mode::Idle) || !is_same(round, round_of(&self.own)) {
+        if matches!(self.mode, Mode::Idle)
+            || !is_same(round, round_of(&self.own))
+            || !self.set.contains(from.index)
+        {
             return Why::Old;
         }
         if matches!(reason, NackReason::Full) {

@@ -7,7 +7,7 @@ ghost use Rattle.cx_model.specs.Leader.{is_leading, is_own, collect_row, informe
 
 use crate::Leader;
 use crate::rounds::{is_same, round_of};
-use crate::sending::{ask_to_forget, inform_members, matchmakers};
+use crate::sending::{ask_to_forget, inform_members};
 use cx_base::{NoMemory, RoleId, Round, Why};
 use cx_collect::Collector;
 use cx_grid::is_member;
@@ -76,22 +76,24 @@ impl Leader {
         if self.collector.counted(from.index) {
             return Ok(Why::Same);
         }
-        let count = matchmakers(&self.cluster);
-        out.room(usize::from(count))?;
+        out.room(self.set.ids().len())?;
         if !self.collector.informed(from.index, cw) {
             return Ok(Why::Counted);
         }
-        ask_to_forget(self.index, &own, count, out);
+        ask_to_forget(self.index, &own, self.set.ids(), out);
         Ok(Why::Collecting)
     }
 
-    /// A matchmaker has forgotten the earlier rounds; with f + 1 of them all are retired.
+    /// A matchmaker has forgotten the earlier rounds; with f + 1 of the known set all are retired.
     pub(crate) fn forgotten(&mut self, from: RoleId, round: Round) -> Why
         requires matchmaker { from.index < 64 }
         ensures { let s = self.old in
             Replies leader_rules s (garbage_b_row s.cluster s.durable s.volatile from round) result self.new [] }
     {
-        if !self.leads(round) || !matches!(self.collector.stage(), Stage::Collecting) {
+        if !self.leads(round)
+            || !matches!(self.collector.stage(), Stage::Collecting)
+            || !self.set.contains(from.index)
+        {
             return Why::Old;
         }
         if self.collector.counted(from.index) {

@@ -6,7 +6,7 @@ ghost use Rattle.cx_model.specs.Leader.{round_of, follows, begin_in, lead_row, c
 ghost use Rattle.cx_field.specs.Fields as field;
 
 use crate::Leader;
-use crate::sending::{ask_matchmakers, matchmakers};
+use crate::sending::ask_matchmakers;
 use cx_base::{Cluster, Grid, Round, Why};
 use cx_collect::Collector;
 use cx_field::{Entry, grid_fits};
@@ -75,8 +75,7 @@ impl Leader {
             IsStep K.append_gives K.tells leader_rules s (begin_in s.cluster s.me s.volatile grid.now (Some round))
             result self.new keeper.old keeper.new out.new.list }
     {
-        let count = matchmakers(&self.cluster);
-        out.room(usize::from(count))?;
+        out.room(self.set.ids().len())?;
         grid_fits(grid);
         keep(
             keeper,
@@ -88,7 +87,7 @@ impl Leader {
         self.told.clear();
         self.phase1 = None;
         self.collector = Collector::off();
-        ask_matchmakers(self.index, round, grid, count, out);
+        ask_matchmakers(self.index, round, grid, self.set.ids(), out);
         Ok(Why::Started)
     }
 

@@ -1,8 +1,8 @@
 //! What a leader sends to several roles, by rising index. Room in the outbox was taken beforehand.
 #![tactic(auto, using(cx_role::proofs::Sends::sends))]
 
-ghost use Rattle.std.specs.Prelude.{◌≡◌, ◌≤◌, ◌+◌, ◌++◌, ◌*◌, ◌^◌};
-ghost use Rattle.cx_role.specs.Prelude.{map, IsTrue, Kind as KindOf, below, role, members_of, members_in};
+ghost use Rattle.std.specs.Prelude.{◌≡◌, ◌≤◌, ◌+◌, ◌++◌, ◌^◌};
+ghost use Rattle.cx_role.specs.Prelude.{map, length, IsTrue, Kind as KindOf, below, role, members_of, members_in};
 ghost use Rattle.cx_field.specs.Fields as field;
 ghost use Rattle.cx_model.specs.Leader.{match_a_to, phase1a_to, leads_to, propose_to, inform_to, garbage_a_to};
 ghost use Rattle.cx_leader.specs.Proposing.{IsSlot};
@@ -14,31 +14,25 @@ use cx_msg::{Datagram, garbage_a, inform, leads, match_a, phase1a, propose};
 use cx_phase1::Phase1;
 use cx_role::Outbox;
 
-pub fn matchmakers(cluster: &Cluster) -> u16
-    ensures { result ≡ 2 * cluster.now.f + 1 }
-{
-    2 * u16::from(cluster.f) + 1
-}
-
-/// Asks `count` matchmakers to record the round and its grid.
-pub fn ask_matchmakers(leader: u16, round: Round, grid: &Grid, count: u16, out: &mut Outbox)
-    requires spare { count ≤ out.old.spare }
+/// Asks the matchmakers of a set to record the round and its grid.
+pub fn ask_matchmakers(leader: u16, round: Round, grid: &Grid, set: &[u16], out: &mut Outbox)
+    requires spare { length set.now ≤ out.old.spare }
     requires round { IsTrue (field.round.fits round) }
-    ensures { out.new.list ≡ out.old.list ++ map (match_a_to (role Kind.Leader leader) round grid.now) (below count) }
+    ensures { out.new.list ≡ out.old.list ++ map (match_a_to (role Kind.Leader leader) round grid.now) set.now }
 {
-    for matchmaker in 0..count {
-        out.push(match_a(leader, matchmaker, round, *grid));
+    for matchmaker in set {
+        out.push(match_a(leader, *matchmaker, round, *grid));
     }
 }
 
-/// Asks `count` matchmakers to forget the rounds below the leader's own.
-pub fn ask_to_forget(leader: u16, own: &Entry, count: u16, out: &mut Outbox)
-    requires spare { count ≤ out.old.spare }
+/// Asks the matchmakers of a set to forget the rounds below the leader's own.
+pub fn ask_to_forget(leader: u16, own: &Entry, set: &[u16], out: &mut Outbox)
+    requires spare { length set.now ≤ out.old.spare }
     requires round { IsTrue (field.round.fits own.now.round) }
-    ensures { out.new.list ≡ out.old.list ++ map (garbage_a_to (role Kind.Leader leader) own.now) (below count) }
+    ensures { out.new.list ≡ out.old.list ++ map (garbage_a_to (role Kind.Leader leader) own.now) set.now }
 {
-    for matchmaker in 0..count {
-        out.push(garbage_a(leader, matchmaker, own.round, own.grid));
+    for matchmaker in set {
+        out.push(garbage_a(leader, *matchmaker, own.round, own.grid));
     }
 }
 

@@ -1,14 +1,14 @@
 //! What a leader asks again while it waits.
 
-ghost use Rattle.std.specs.Prelude.{◌≡◌, ◌≤◌, ◌+◌, ◌*◌, ◌++◌};
-ghost use Rattle.cx_role.specs.Prelude.{[], Some, IsTrue, IsReply};
+ghost use Rattle.std.specs.Prelude.{◌≡◌, ◌≤◌, ◌++◌};
+ghost use Rattle.cx_role.specs.Prelude.{[], Some, length, IsTrue, IsReply};
 ghost use Rattle.cx_role.specs.Prelude.mode;
 ghost use Rattle.cx_model.specs.Leader.{stage_sends, tick_in, leader_rules};
 ghost use Rattle.cx_field.specs.Fields as field;
 
 use crate::Leader;
 use crate::sending::{
-    ask_acceptors, ask_matchmakers, ask_to_forget, inform_members, matchmakers, tell_batchers,
+    ask_acceptors, ask_matchmakers, ask_to_forget, inform_members, tell_batchers,
 };
 use cx_base::{NoMemory, WINDOW_LENGTH, Why};
 use cx_field::Entry;
@@ -23,9 +23,9 @@ impl Leader {
             IsReply leader_rules s (tick_in s.cluster s.me s.volatile mode.Matching (Some own.now))
             result s out.new.list }
     {
-        let count = matchmakers(&self.cluster);
-        out.room(usize::from(count))?;
-        ask_matchmakers(self.index, own.round, &own.grid, count, out);
+        let set = self.set.ids();
+        out.room(set.len())?;
+        ask_matchmakers(self.index, own.round, &own.grid, set, out);
         Ok(Why::Resent)
     }
 
@@ -50,16 +50,16 @@ impl Leader {
     fn stage_again(&self, own: &Entry, out: &mut Outbox)
         requires round { IsTrue (field.round.fits own.now.round) }
         requires acceptors { self.now.cluster.acceptors ≤ out.old.spare }
-        requires matchmakers { 2 * self.now.cluster.f + 1 ≤ out.old.spare }
+        requires matchmakers { length self.now.volatile.set ≤ out.old.spare }
         ensures { let s = self.now in
-            out.new.list ≡ out.old.list ++ stage_sends s.cluster s.me own.now s.volatile.collection }
+            out.new.list ≡ out.old.list ++ stage_sends s.cluster s.me own.now s.volatile.set s.volatile.collection }
     {
         match self.collector.stage() {
             Stage::Informing => {
                 inform_members(self.index, own, self.collector.mark(), &self.cluster, out);
             }
             Stage::Collecting => {
-                ask_to_forget(self.index, own, matchmakers(&self.cluster), out);
+                ask_to_forget(self.index, own, self.set.ids(), out);
             }
             Stage::Off | Stage::Retired => {}
         }
@@ -74,8 +74,8 @@ impl Leader {
             result s out.new.list }
     {
         let batchers = self.cluster.batchers;
-        let asked = self.cluster.acceptors + matchmakers(&self.cluster);
-        out.room(WINDOW_LENGTH + usize::from(batchers + asked))?;
+        let asked = usize::from(self.cluster.acceptors) + self.set.ids().len();
+        out.room(WINDOW_LENGTH + usize::from(batchers) + asked)?;
         match self
             .proposals
             .propose_open(self.alloc, &self.cluster, self.index, own, out)

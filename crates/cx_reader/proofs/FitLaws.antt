@@ -1,14 +1,15 @@
 -- A reader keeps what it may keep: its next turn.
 use Rattle.cx_role.proofs.Common.{◌≡◌, ◌≤◌, ◌+◌, ◌==◌, ◌&&◌, not, ℕ, true, false, nat_le, nat_lt, Bool, length, List, [], ◌∷◌, ◌++◌, Option, None, Some, refl}
-use Rattle.cx_role.proofs.Common.{arith, nat_tests, Cluster, RoleId, Round, same_role, Letter, Take, Entry, Msg, names}
+use Rattle.cx_role.proofs.Common.{arith, nat_tests, Cluster, RoleId, Round, same_role, Letter, Take, Entry, Msg, names, is_in}
+use Rattle.cx_base.specs.Sets.{is_above}
 use Rattle.cx_model.specs.Matched.{is_counted}
 use Rattle.cx_role.proofs.Common.{Outcome, by_test, IsFit, is_member_of, same_round, greatest_watermark, live_entries, rows_whole, Why}
 use Rattle.cx_role.proofs.Common.msg
 use Rattle.cx_role.proofs.Common.why
 use Rattle.cx_field.specs.declared.parts.Asking.{Asking}
-use Rattle.cx_model.specs.Reader.{Asked, Batch, ReaderDurable, ReaderVolatile, acked_by, ask_replicas, asked_for, begin, begin_if, finish, greatest_mark, has_acked, is_among, is_first}
+use Rattle.cx_model.specs.Reader.{Asked, Batch, ReaderDurable, ReaderVolatile, acked_by, ask_replicas, asked_anew, asked_for, begin, begin_if, finish, greatest_mark, has_acked, is_among, is_first}
 use Rattle.cx_model.specs.Reader.{is_matched, is_of_batch, last_turn, match_ack_counted, match_ack_row, matched, pre_read_ack_row, pre_read_counted}
-use Rattle.cx_model.specs.Reader.{reader_row, reader_rules, reader_takes, request_over, request_row, token, with_asked}
+use Rattle.cx_model.specs.Reader.{reader_row, reader_rules, reader_takes, request_over, request_row, sets_row, token, with_asked}
 
 abbrev Fits : Cluster → RoleId → ReaderDurable → Outcome ReaderVolatile → Type 0
 Fits c me d o = IsFit reader_rules c me d o.kept
@@ -20,15 +21,15 @@ is_not : (a b : Bool) → (a && not b) ≡ true → b ≡ false
 is_not a b h = grind (arith, nat_tests)
 
 module _ (c : Cluster) (me : RoleId) (d : ReaderDurable) (range : d.turn ≤ last_turn) where
-  begin_fit : (d.turn == last_turn) ≡ false → (w : Why) (first : List Letter) (reads : List Asked) → Fits c me d (begin c me d w first reads)
-  begin_fit more w first reads = (next_fits d.turn last_turn range more, refl)
-
   module _ (v : ReaderVolatile) where
-    begin_if_fit : (w : Why) (reads : List Asked) → Fits c me d (begin_if c me d v w reads)
+    begin_fit : (d.turn == last_turn) ≡ false → (w : Why) (first : List Letter) (reads : List Asked) → Fits c me d (begin me d v w first reads)
+    begin_fit more w first reads = (next_fits d.turn last_turn range more, refl)
+
+    begin_if_fit : (w : Why) (reads : List Asked) → Fits c me d (begin_if me d v w reads)
     begin_if_fit w reads =
         by_test (Fits c me d) (d.turn == last_turn) _ _ (λ _. tt) (λ more. begin_fit more w [] reads)
 
-    request_over_fit : (one : Asked) (running : Option Batch) → Fits c me d (request_over c me d v one running)
+    request_over_fit : (one : Asked) (running : Option Batch) → Fits c me d (request_over me d v one running)
     request_over_fit one None =
         by_test (Fits c me d) (nat_le 64 (length v.waiting)) _ _ (λ _. tt) (λ _. begin_if_fit why.Started (v.waiting ++ one ∷ []))
     request_over_fit one (Some b) =
@@ -36,11 +37,11 @@ module _ (c : Cluster) (me : RoleId) (d : ReaderDurable) (range : d.turn ≤ las
         by_test (Fits c me d) (is_among one.read b.reads) _ _ (λ _. tt) (λ _.
         by_test (Fits c me d) (nat_le 64 (length v.waiting + length b.reads)) _ _ (λ _. tt) (λ _. tt)))
 
-    request_fit : (one : Asked) → Fits c me d (request_row c me d v one)
+    request_fit : (one : Asked) → Fits c me d (request_row me d v one)
     request_fit one =
         by_test (Fits c me d) (is_among one.read v.waiting) _ _ (λ _. tt) (λ _. request_over_fit one v.running)
 
-    finish_fit : (b : Batch) (n : ℕ) → Fits c me d (finish c me d v b n)
+    finish_fit : (b : Batch) (n : ℕ) → Fits c me d (finish me d v b n)
     finish_fit b n =
         by_test (Fits c me d) (nat_lt 0 (length v.waiting) && not (d.turn == last_turn)) _ _
         (λ next. begin_fit (is_not (nat_lt 0 (length v.waiting)) (d.turn == last_turn) next) why.Sent (ask_replicas me b n) v.waiting) (λ _. tt)
@@ -57,7 +58,7 @@ module _ (c : Cluster) (me : RoleId) (d : ReaderDurable) (range : d.turn ≤ las
         → Fits c me d (match_ack_row c me d v from u w es running)
     match_ack_fit from u w es None = tt
     match_ack_fit from u w es (Some b) =
-        by_test (Fits c me d) (not (is_of_batch me b u && not (is_matched c b))) _ _ (λ _. tt) (λ _.
+        by_test (Fits c me d) (not (is_of_batch me b u && not (is_matched c b) && is_in from.index v.set)) _ _ (λ _. tt) (λ _.
         by_test (Fits c me d) (is_counted from.index b.told) _ _ (λ _. tt) (λ _. match_ack_counted_fit (record b { told = b.told ++ record { matchmaker = from.index; watermark = w; entries = es } ∷ [] })))
 
     pre_read_counted_fit : (b : Batch) → Fits c me d (pre_read_counted c me d v b)
@@ -72,10 +73,18 @@ module _ (c : Cluster) (me : RoleId) (d : ReaderDurable) (range : d.turn ≤ las
         by_test (Fits c me d) (not (same_round w (greatest_watermark b.told))) _ _ (λ _. tt) (λ _.
         by_test (Fits c me d) (has_acked from.index b.acks) _ _ (λ _. tt) (λ _. pre_read_counted_fit (record b { acks = b.acks ++ record { acceptor = from.index; mark = n } ∷ [] }))))
 
+    anew_fit : (next : ReaderVolatile) (running : Option Batch) → Fits c me d (asked_anew c me next running)
+    anew_fit next None = tt
+    anew_fit next (Some b) = by_test (Fits c me d) (is_matched c b) _ _ (λ _. tt) (λ _. tt)
+
+    sets_fit : (s : List ℕ) → Fits c me d (sets_row c me v s)
+    sets_fit s = by_test (Fits c me d) (is_above s v.set) _ _ (λ _. anew_fit (record v { set = s }) v.running) (λ _. tt)
+
     takes_fit : (from : RoleId) (m : Msg) → Fits c me d (reader_takes c me d v from m)
     takes_fit from (msg.ReadReq seq replica key) = request_fit (asked_for (token from.index seq) replica key)
     takes_fit from (msg.MatchReadAck u w es) = match_ack_fit from u w es v.running
     takes_fit from (msg.PreReadAck u w n) = pre_read_ack_fit from u w n v.running
+    takes_fit from (msg.Sets s) = sets_fit s
     takes_fit from other = tt
 
     -- the record of a row is one that the reader may append

@@ -3,7 +3,7 @@
 ghost use Rattle.std.specs.Prelude.{◌≡◌, ◌≤◌, ◌<◌, ◌+◌, ◌++◌, ◌∷◌, ◌&&◌, not};
 ghost use Rattle.cx_role.specs.Prelude.{[], map, length, true, IsTrue, IfOk, list_any, role};
 ghost use Rattle.cx_role.specs.Prelude.kind;
-ghost use Rattle.cx_role.specs.Prelude.{greatest_watermark, is_counted, is_member_of, live_entries};
+ghost use Rattle.cx_role.specs.Prelude.{greatest_watermark, is_counted, is_in, is_member_of, live_entries};
 ghost use Rattle.cx_role.specs.Prelude.{members_of, rows_whole, Entry};
 ghost use Rattle.cx_model.specs.Reader.{acked_by, ask_acceptors, ask_replicas, asking, greatest_mark, has_acked, is_among, is_first, is_matched};
 ghost use Rattle.cx_model.specs.Reader.{is_of_batch, new_batch, with_asked};
@@ -12,7 +12,7 @@ ghost use Rattle.cx_field.specs.Fields as field;
 use crate::asked::{self, Asked};
 use crate::matched;
 use crate::sends::asking;
-use cx_base::{Cluster, Duplicate, NoMemory, Round, copy_all};
+use cx_base::{Cluster, Duplicate, NoMemory, Round, Set, copy_all};
 use cx_field::{Asking, Token};
 use cx_grid::Marks;
 use cx_model::{Acked, MatchAnswer};
@@ -125,12 +125,19 @@ impl Batch {
         self.told.len() > usize::from(cluster.f)
     }
 
-    /// Whether it waits for matchmakers, and this asking is its own.
-    pub fn awaits_matchmakers(&self, cluster: &Cluster, reader: u16, asking: Asking) -> bool
+    /// Whether it waits for matchmakers of a set, this one among them, and this asking is its own.
+    pub fn awaits_matchmaker(
+        &self,
+        cluster: &Cluster,
+        reader: u16,
+        set: &Set,
+        asking: Asking,
+        matchmaker: u16,
+    ) -> bool
         ensures { result ≡ (is_of_batch (role kind.Reader reader) self.now asking
-            && not (is_matched cluster.now self.now)) }
+            && not (is_matched cluster.now self.now) && is_in matchmaker set.now) }
     {
-        self.is_of(reader, asking) && !self.is_matched(cluster)
+        self.is_of(reader, asking) && !self.is_matched(cluster) && set.contains(matchmaker)
     }
 
     /// Whether it waits for acceptors, this one among them, and this asking is its own.
@@ -215,6 +222,13 @@ impl Batch {
         more.acks.push(ack)?;
         more.counted.add(ack.acceptor);
         Ok(more)
+    }
+
+    /// Forgets which matchmakers were counted. It takes no memory.
+    pub fn recount(&mut self)
+        ensures { self.new ≡ record self.old { told = [] } }
+    {
+        self.told.clear();
     }
 
     /// Asks a replica for each read, in their order. Room was taken beforehand.

@@ -10,14 +10,14 @@ use crate::Reader;
 use crate::asked::Asked;
 use crate::batch::Batch;
 use crate::records::LAST_TURN;
-use crate::sends::{ask_matchmakers, matchmakers};
+use crate::sends::ask_matchmakers;
 use cx_base::Why;
 use cx_keeper::Keeper;
 use cx_msg::Record;
 use cx_role::{Outbox, StepFault, keep};
 
 impl Reader {
-    // A batch of these reads begins: its turn is kept, and all matchmakers are asked.
+    // A batch of these reads begins: its turn is kept, and all matchmakers of the known set are asked.
     #[tactic(auto, using(crate::proofs::Turns::turns))]
     pub(crate) fn begin<K: Keeper>(
         &mut self,
@@ -31,17 +31,16 @@ impl Reader {
         requires memory { takes_no_memory why ≡ false }
         requires empty { out.old.list ≡ [] }
         ensures { IsStep K.append_gives K.tells reader_rules self.old
-            (begin self.old.cluster self.old.me self.old.durable why [] reads.items)
+            (begin self.old.me self.old.durable self.old.volatile why [] reads.items)
             result self.new keeper.old keeper.new out.new.list }
     {
-        let count = matchmakers(&self.cluster);
-        out.room(usize::from(count))?;
+        out.room(self.set.ids().len())?;
         let turn = self.turn + 1;
         keep(keeper, &mut self.live, &Record::Turn { turn })?;
         self.turn = turn;
         self.waiting.clear();
         self.running = Some(Batch::new(self.alloc, turn, reads));
-        ask_matchmakers(self.index, turn, count, out);
+        ask_matchmakers(self.index, turn, self.set.ids(), out);
         Ok(why)
     }
 
@@ -57,7 +56,7 @@ impl Reader {
         requires mark { IsTrue (field.mark.fits mark) }
         requires empty { out.old.list ≡ [] }
         ensures { IsStep K.append_gives K.tells reader_rules self.old
-            (finish self.old.cluster self.old.me self.old.durable self.old.volatile batch mark)
+            (finish self.old.me self.old.durable self.old.volatile batch mark)
             result self.new keeper.old keeper.new out.new.list }
     {
         if self.waiting.is_empty() || self.turn == LAST_TURN {
@@ -66,15 +65,14 @@ impl Reader {
             self.running = None;
             return Ok(Why::Sent);
         }
-        let count = matchmakers(&self.cluster);
-        out.room(batch.len() + usize::from(count))?;
+        out.room(batch.len() + self.set.ids().len())?;
         let next = self.turn + 1;
         keep(keeper, &mut self.live, &Record::Turn { turn: next })?;
         self.turn = next;
         let waiting = std::mem::replace(&mut self.waiting, Vec::new(self.alloc));
         self.running = Some(Batch::new(self.alloc, next, waiting));
         batch.ask_replicas(self.index, mark, out);
-        ask_matchmakers(self.index, next, count, out);
+        ask_matchmakers(self.index, next, self.set.ids(), out);
         Ok(Why::Sent)
     }
 }

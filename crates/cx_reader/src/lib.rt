@@ -7,6 +7,7 @@
 mod asked;
 mod batch;
 mod begins;
+mod learning;
 mod matched;
 mod reader;
 mod records;

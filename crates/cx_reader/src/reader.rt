@@ -7,7 +7,7 @@ ghost use Rattle.cx_field.specs.Fields as field;
 
 use crate::asked::Asked;
 use crate::batch::Batch;
-use cx_base::{Cluster, Kind, NoMemory, Order, RoleId, Why};
+use cx_base::{Cluster, Kind, NoMemory, Order, RoleId, Set, Why};
 use cx_field::Token;
 use cx_keeper::Keeper;
 use cx_msg::{Datagram, Msg, Record};
@@ -16,7 +16,8 @@ use std::alloc::Global;
 use std::marker::Model;
 
 /// A reader of the cluster: its last turn, the reads that wait, in the order in which they came, and the batch that runs, if one
-/// does. At most 64 reads wait and run together (VLDB 2021: quorum reads; over several grids, and in batches, this project's own).
+/// does; and the set of matchmakers that it knows. At most 64 reads wait and run together (VLDB 2021: quorum reads; over several
+/// grids, in batches, and with sets of matchmakers, this project's own).
 #[derive(Drop)]
 pub struct Reader {
     pub(crate) alloc: Global,
@@ -26,6 +27,8 @@ pub struct Reader {
     pub(crate) turn: u64,
     pub(crate) waiting: Vec<Asked>,
     pub(crate) running: Option<Batch>,
+    // The matchmakers that are asked, and whose answers count.
+    pub(crate) set: Set,
 }
 
 impl Model for Reader {
@@ -41,7 +44,7 @@ impl Model for Reader {
       me = role kind.Reader r.index;
       live = r.live;
       durable = record { turn = r.turn };
-      volatile = record { waiting = r.waiting.items; running = r.running };
+      volatile = record { waiting = r.waiting.items; running = r.running; set = r.set };
     } };
 
     ghost invariant = { λ r. IsReader r.turn r.waiting.items r.running };
@@ -80,6 +83,7 @@ impl Role for Reader {
         reader.live = true;
         reader.waiting.clear();
         reader.running = None;
+        reader.set = Set::first(&reader.cluster);
         for (index, what) in records.iter().enumerate() {
             if !reader.fits(what) {
                 return Err(WakeFault::Record { index });
@@ -115,6 +119,7 @@ impl Role for Reader {
                 watermark,
                 mark,
             } => self.pre_read_answer(keeper, from, *asking, *watermark, *mark, out),
+            Msg::Sets { set } => Ok(self.learn(*set, out)?),
             _ => Ok(Why::Stranger),
         }
     }

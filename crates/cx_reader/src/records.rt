@@ -6,7 +6,7 @@ ghost use Rattle.cx_role.specs.Prelude.kind;
 ghost use Rattle.cx_model.specs.Reader.{reader_after, reader_fits, reader_rules};
 
 use crate::Reader;
-use cx_base::Cluster;
+use cx_base::{Cluster, Set};
 use cx_msg::Record;
 use std::alloc::Global;
 
@@ -25,6 +25,7 @@ impl Reader {
             turn: 0,
             waiting: Vec::new(alloc),
             running: None,
+            set: Set::first(cluster),
         }
     }
 

@@ -21,7 +21,7 @@ impl Reader {
     ) -> Result<Why, StepFault>
         requires empty { out.old.list ≡ [] }
         ensures { IsStep K.append_gives K.tells reader_rules self.old
-            (request_row self.old.cluster self.old.me self.old.durable self.old.volatile one)
+            (request_row self.old.me self.old.durable self.old.volatile one)
             result self.new keeper.old keeper.new out.new.list }
     {
         if is_among(&self.waiting, one.token()) {
@@ -40,7 +40,7 @@ impl Reader {
     ) -> Result<Why, StepFault>
         requires empty { out.old.list ≡ [] }
         ensures { IsStep K.append_gives K.tells reader_rules self.old
-            (request_over self.old.cluster self.old.me self.old.durable self.old.volatile one self.old.volatile.running)
+            (request_over self.old.me self.old.durable self.old.volatile one self.old.volatile.running)
             result self.new keeper.old keeper.new out.new.list }
     {
         let Some(batch) = &self.running else {
@@ -72,7 +72,7 @@ impl Reader {
     ) -> Result<Why, StepFault>
         requires empty { out.old.list ≡ [] }
         ensures { IsStep K.append_gives K.tells reader_rules self.old
-            (request_over self.old.cluster self.old.me self.old.durable self.old.volatile one None)
+            (request_over self.old.me self.old.durable self.old.volatile one None)
             result self.new keeper.old keeper.new out.new.list }
     {
         if self.waiting.len() >= READS {

@@ -9,7 +9,7 @@ ghost use Rattle.cx_field.specs.Fields as field;
 
 use crate::Reader;
 use crate::batch::Batch;
-use crate::sends::{ask_matchmakers, matchmakers};
+use crate::sends::ask_matchmakers;
 use cx_base::{Duplicate, NoMemory, RoleId, Round, Why};
 use cx_field::{Asking, Entries};
 use cx_keeper::Keeper;
@@ -17,7 +17,7 @@ use cx_model::{Acked, MatchAnswer};
 use cx_role::{Outbox, StepFault};
 
 impl Reader {
-    /// A matchmaker answers with its watermark and its entries.
+    /// A matchmaker answers with its watermark and its entries. Only those of the known set are counted.
     #[tactic(auto, using(crate::proofs::Ranges::few_with))]
     pub(crate) fn match_answer<K: Keeper>(
         &mut self,
@@ -38,7 +38,7 @@ impl Reader {
         let Some(batch) = &self.running else {
             return Ok(Why::Unasked);
         };
-        if !batch.awaits_matchmakers(&self.cluster, self.index, asking) {
+        if !batch.awaits_matchmaker(&self.cluster, self.index, &self.set, asking, from.index) {
             return Ok(Why::Unasked);
         }
         if batch.has_told(from.index) {
@@ -171,9 +171,9 @@ impl Reader {
             batch.ask_acceptors(self.index, &self.cluster, out);
             return Ok(Why::Resent);
         }
-        let count = matchmakers(&self.cluster);
-        out.room(usize::from(count))?;
-        ask_matchmakers(self.index, batch.turn(), count, out);
+        let set = self.set.ids();
+        out.room(set.len())?;
+        ask_matchmakers(self.index, batch.turn(), set, out);
         Ok(Why::Resent)
     }
 }

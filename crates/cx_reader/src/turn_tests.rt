@@ -21,6 +21,8 @@ const CLUSTER: Cluster = Cluster {
     clients: 3,
     batch: 1,
     base_port: None,
+    pool: 1,
+    replacers: 0,
 };
 
 // A client asks for the key a.

@@ -1,4 +1,5 @@
 use Rattle.cx_role.proofs.Common.{◌≡◌, true, [], None, drop, folded_from, refused_from}
+use Rattle.cx_model.specs.Matched.{first_set}
 use Rattle.cx_model.specs.Reader.{reader_rules}
 use Rattle.cx_reader.proofs.reader.ReaderRole.reopen.Given as goal
 
@@ -9,6 +10,7 @@ invariant-loop-index l = record {
   live : l.reader.live ≡ true;
   none_wait : l.reader.volatile.waiting ≡ [];
   none_run : l.reader.volatile.running ≡ None;
+  set : l.reader.volatile.set ≡ first_set l.fn.self.cluster;
   folded : folded_from reader_rules l.reader.durable (drop l.index l.records)
       ≡ folded_from reader_rules l.fn.self.durable l.records;
   refused : refused_from reader_rules l.fn.self.cluster l.fn.self.me l.reader.durable l.index (drop l.index l.records)
