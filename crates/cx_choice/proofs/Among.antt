@@ -82,6 +82,10 @@ all_told values rounds votes casts s v are told =
       same_whole (written.Record (kept.Pairs pairs)) = refl
       same_whole (written.Record (kept.Notes client floor notes)) = refl
       same_whole (written.Record (kept.Tail values)) = refl
+      same_whole (written.Record (kept.Ballot ballot)) = refl
+      same_whole (written.Record (kept.Stop ballot)) = refl
+      same_whole (written.Record (kept.Next ballot next)) = refl
+      same_whole (written.Record (kept.Boot set mark entries)) = refl
       same_whole (written.Record (kept.Turn turn)) = refl
       same_whole (written.Snap first) = refl
 

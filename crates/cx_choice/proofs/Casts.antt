@@ -59,6 +59,10 @@ of_another i j s v (written.Record (kept.Base first held pairs clients)) same ot
 of_another i j s v (written.Record (kept.Pairs pairs)) same other = refl
 of_another i j s v (written.Record (kept.Notes client floor notes)) same other = refl
 of_another i j s v (written.Record (kept.Tail values)) same other = refl
+of_another i j s v (written.Record (kept.Ballot ballot)) same other = refl
+of_another i j s v (written.Record (kept.Stop ballot)) same other = refl
+of_another i j s v (written.Record (kept.Next ballot next)) same other = refl
+of_another i j s v (written.Record (kept.Boot set mark entries)) same other = refl
 of_another i j s v (written.Record (kept.Turn turn)) same other = refl
 of_another i j s v (written.Snap first) same other = refl
 

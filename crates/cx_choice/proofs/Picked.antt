@@ -30,6 +30,10 @@ choosing history s (written.Record (kept.Base first held pairs clients)) later e
 choosing history s (written.Record (kept.Pairs pairs)) later e = cc
 choosing history s (written.Record (kept.Notes client floor notes)) later e = cc
 choosing history s (written.Record (kept.Tail values)) later e = cc
+choosing history s (written.Record (kept.Ballot ballot)) later e = cc
+choosing history s (written.Record (kept.Stop ballot)) later e = cc
+choosing history s (written.Record (kept.Next ballot next)) later e = cc
+choosing history s (written.Record (kept.Boot set mark entries)) later e = cc
 choosing history s (written.Record (kept.Turn turn)) later e = cc
 choosing history s (written.Snap first) later e = cc
 
@@ -45,6 +49,10 @@ passing history s (written.Record (kept.Base first held pairs clients)) later e 
 passing history s (written.Record (kept.Pairs pairs)) later e = refl
 passing history s (written.Record (kept.Notes client floor notes)) later e = refl
 passing history s (written.Record (kept.Tail values)) later e = refl
+passing history s (written.Record (kept.Ballot ballot)) later e = refl
+passing history s (written.Record (kept.Stop ballot)) later e = refl
+passing history s (written.Record (kept.Next ballot next)) later e = refl
+passing history s (written.Record (kept.Boot set mark entries)) later e = refl
 passing history s (written.Record (kept.Turn turn)) later e = refl
 passing history s (written.Snap first) later e = refl
 

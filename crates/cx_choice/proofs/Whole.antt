@@ -79,6 +79,10 @@ vote_parts rounds votes i s v (written.Record (kept.Base first held pairs client
 vote_parts rounds votes i s v (written.Record (kept.Pairs pairs)) e enough = cc
 vote_parts rounds votes i s v (written.Record (kept.Notes client floor notes)) e enough = cc
 vote_parts rounds votes i s v (written.Record (kept.Tail values)) e enough = cc
+vote_parts rounds votes i s v (written.Record (kept.Ballot ballot)) e enough = cc
+vote_parts rounds votes i s v (written.Record (kept.Stop ballot)) e enough = cc
+vote_parts rounds votes i s v (written.Record (kept.Next ballot next)) e enough = cc
+vote_parts rounds votes i s v (written.Record (kept.Boot set mark entries)) e enough = cc
 vote_parts rounds votes i s v (written.Record (kept.Turn turn)) e enough = cc
 vote_parts rounds votes i s v (written.Snap first) e enough = cc
 
@@ -110,6 +114,10 @@ whole_parts rounds votes s v (written.Record (kept.Base first held pairs clients
 whole_parts rounds votes s v (written.Record (kept.Pairs pairs)) e = cc
 whole_parts rounds votes s v (written.Record (kept.Notes client floor notes)) e = cc
 whole_parts rounds votes s v (written.Record (kept.Tail values)) e = cc
+whole_parts rounds votes s v (written.Record (kept.Ballot ballot)) e = cc
+whole_parts rounds votes s v (written.Record (kept.Stop ballot)) e = cc
+whole_parts rounds votes s v (written.Record (kept.Next ballot next)) e = cc
+whole_parts rounds votes s v (written.Record (kept.Boot set mark entries)) e = cc
 whole_parts rounds votes s v (written.Record (kept.Turn turn)) e = cc
 whole_parts rounds votes s v (written.Snap first) e = cc
 

@@ -168,6 +168,7 @@ valid_telling floor (event.Session client seq before replica key) fits = fits
 valid_telling floor (event.Deliver number cut) fits = refl
 valid_telling floor (event.Tick role) fits = refl
 valid_telling floor (event.Order leader order cut) fits = refl
+valid_telling floor (event.Replace replacer set cut) fits = refl
 valid_telling floor (event.Snap replica cut) fits = refl
 valid_telling floor (event.Crash role) fits = refl
 valid_telling floor (event.Restart role) fits = refl

@@ -47,6 +47,7 @@ telling floor (event.Session client seq before replica key) = event.Session clie
 telling floor (event.Deliver number cut) = event.Deliver number cut
 telling floor (event.Tick r) = event.Tick r
 telling floor (event.Order leader order cut) = event.Order leader order cut
+telling floor (event.Replace replacer set cut) = event.Replace replacer set cut
 telling floor (event.Snap replica cut) = event.Snap replica cut
 telling floor (event.Crash r) = event.Crash r
 telling floor (event.Restart r) = event.Restart r

@@ -57,6 +57,10 @@ tag_first (kept.Base f h p c) = refl
 tag_first (kept.Pairs ps) = refl
 tag_first (kept.Notes c f ns) = refl
 tag_first (kept.Tail vs) = refl
+tag_first (kept.Ballot b) = refl
+tag_first (kept.Stop b) = refl
+tag_first (kept.Next b s) = refl
+tag_first (kept.Boot s w es) = refl
 tag_first (kept.Turn n) = refl
 
 slot_again : (first : ℕ) → first < 256 ^ 8 → slot_in (0 ∷ big_bytes 8 first) ≡ first

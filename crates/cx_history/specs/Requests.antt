@@ -22,6 +22,7 @@ asked (event.Session client seq floor replica key) = 4 ∷ key
 asked (event.Deliver number cut) = []
 asked (event.Tick r) = []
 asked (event.Order leader order cut) = []
+asked (event.Replace replacer set cut) = []
 asked (event.Snap replica cut) = []
 asked (event.Crash r) = []
 asked (event.Restart r) = []

@@ -95,6 +95,10 @@ fn into_values(what: Record) -> LogValues
         Record::Pairs { .. } => unreachable!(),
         Record::Notes { .. } => unreachable!(),
         Record::Tail { .. } => unreachable!(),
+        Record::Ballot { .. } => unreachable!(),
+        Record::Stop { .. } => unreachable!(),
+        Record::Next { .. } => unreachable!(),
+        Record::Boot { .. } => unreachable!(),
         Record::Turn { .. } => unreachable!(),
     }
 }

@@ -78,6 +78,8 @@ fn cluster() -> Cluster
         clients: 4,
         batch: 2,
         base_port: None,
+        pool: 3,
+        replacers: 0,
     }
 }
 

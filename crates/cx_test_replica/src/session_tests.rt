@@ -20,6 +20,8 @@ const CLUSTER: Cluster = Cluster {
     clients: 1,
     batch: 1,
     base_port: None,
+    pool: 3,
+    replacers: 0,
 };
 
 // Client 0's command number 1, put a 1, is chosen for slot 0; told to replica 1.
