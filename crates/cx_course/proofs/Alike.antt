@@ -3,7 +3,7 @@ use Rattle.std.proofs.Common.{◌≡◌, true, false, List, ◌++◌, Option, ap
 use Rattle.cx_base.specs.declared.role.Kind.TheVariants as kind
 use Rattle.cx_base.specs.declared.role.RoleId.{RoleId}
 use Rattle.cx_base.specs.Role.{same_role}
-use Rattle.cx_inv_run.specs.States.{State, BatcherIn, LeaderIn, ProxyIn, ReplicaIn, ReaderIn, plain, states_of}
+use Rattle.cx_inv_run.specs.States.{State, BatcherIn, LeaderIn, ProxyIn, ReplicaIn, ReaderIn, ReplacerIn, plain, states_of}
 use Rattle.cx_model.specs.Acceptor.{acceptor_rules}
 use Rattle.cx_model.specs.Batcher.{batcher_rules}
 use Rattle.cx_model.specs.Leader.{leader_rules}
@@ -12,13 +12,14 @@ use Rattle.cx_model.specs.Matchmaker.{matchmaker_rules}
 use Rattle.cx_model.specs.Names.{names_role}
 use Rattle.cx_model.specs.Proxy.{proxy_rules}
 use Rattle.cx_model.specs.Reader.{reader_rules}
+use Rattle.cx_model.specs.Replacer.{replacer_rules}
 use Rattle.cx_model.specs.Replica.{replica_rules}
 use Rattle.cx_model.specs.Rules.{Rules, Running, folded}
 use Rattle.cx_model.specs.Unbatcher.{unbatcher_rules}
 use Rattle.cx_model.specs.World.{World, durable_part, kept_by}
 use Rattle.cx_msg.specs.Letter.{Letter}
 use Rattle.cx_msg.specs.declared.input.Written.{Written}
-use Rattle.cx_course.specs.Hosted.{Hosted, ClientAt, BatcherAt, LeaderAt, ProxyAt, AcceptorAt, MatchmakerAt, ReplicaAt, UnbatcherAt, ReaderAt, name_of}
+use Rattle.cx_course.specs.Hosted.{Hosted, ClientAt, BatcherAt, LeaderAt, ProxyAt, AcceptorAt, MatchmakerAt, ReplicaAt, UnbatcherAt, ReaderAt, ReplacerAt, name_of}
 use Rattle.cx_course.proofs.Asker.{IsAsker, IsTraced, SparesClient, still_asks}
 
 -- A role of the protocol is the model's: it runs there with the same volatile part, and its durable part is the fold of its list there.
@@ -39,6 +40,7 @@ IsAlike w (MatchmakerAt s) = IsRole matchmaker_rules plain w s
 IsAlike w (ReplicaAt s) = IsRole replica_rules ReplicaIn w s
 IsAlike w (UnbatcherAt s) = IsRole unbatcher_rules plain w s
 IsAlike w (ReaderAt s) = IsRole reader_rules ReaderIn w s
+IsAlike w (ReplacerAt s) = IsRole replacer_rules ReplacerIn w s
 
 -- ---- what some events come to
 
@@ -77,3 +79,4 @@ module _ (w after : World) (me : RoleId) (what : Option Written) (sends : List L
   spared (ReplicaAt s) differs is = spared_role replica_rules ReplicaIn s differs is
   spared (UnbatcherAt s) differs is = spared_role unbatcher_rules plain s differs is
   spared (ReaderAt s) differs is = spared_role reader_rules ReaderIn s differs is
+  spared (ReplacerAt s) differs is = spared_role replacer_rules ReplacerIn s differs is

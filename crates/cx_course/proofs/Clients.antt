@@ -74,6 +74,7 @@ requests_back client heard floor (e ∷ es) own = one e (own e (inl refl)) (requ
     one (event.Deliver number cut) own rest = cc
     one (event.Tick r) own rest = cc
     one (event.Order l order cut) own rest = cc
+    one (event.Replace replacer set cut) own rest = cc
     one (event.Snap p cut) own rest = cc
     one (event.Crash r) own rest = cc
     one (event.Restart r) own rest = cc

@@ -9,7 +9,7 @@ use Rattle.cx_base.specs.declared.event.Cut.TheVariants.{Whole}
 use Rattle.cx_base.specs.declared.event.Event.{Event}
 use Rattle.cx_base.specs.declared.event.Event.TheVariants as event
 use Rattle.cx_base.specs.declared.event.Order.{Order}
-use Rattle.cx_base.specs.declared.event.Order.TheVariants.{Lead, Change, Collect}
+use Rattle.cx_base.specs.declared.event.Order.TheVariants.{Lead, Change, Collect, Replace}
 use Rattle.cx_base.specs.declared.role.Kind.{Kind}
 use Rattle.cx_base.specs.declared.role.Kind.TheVariants as kind
 use Rattle.cx_base.specs.declared.role.RoleId.{RoleId}
@@ -31,7 +31,7 @@ use Rattle.cx_script.specs.Names as script
 use Rattle.cx_course.specs.declared.doing.Doing.{Doing}
 use Rattle.cx_course.specs.declared.doing.Doing.TheVariants.{Begin, Give, Snap}
 use Rattle.cx_course.specs.Course.{is_a, own_event, requests_by, step_events}
-use Rattle.cx_course.specs.Hosted.{Hosted, ClientAt, BatcherAt, LeaderAt, ProxyAt, AcceptorAt, MatchmakerAt, ReplicaAt, UnbatcherAt, ReaderAt, Step, by_snap, does, given, kind_at, name_of, rests, snap_of, snapped}
+use Rattle.cx_course.specs.Hosted.{Hosted, ClientAt, BatcherAt, LeaderAt, ProxyAt, AcceptorAt, MatchmakerAt, ReplicaAt, UnbatcherAt, ReaderAt, ReplacerAt, Step, by_snap, does, given, kind_at, name_of, rests, snap_of, snapped}
 use Rattle.cx_course.specs.Run.{is_client}
 use Rattle.cx_course.proofs.Alike.{IsAlike, Moves}
 use Rattle.cx_course.proofs.Asker.{IsAsker, IsTraced}
@@ -72,6 +72,7 @@ kind_so w (MatchmakerAt s) is = is.kind_is
 kind_so w (ReplicaAt s) is = is.kind_is
 kind_so w (UnbatcherAt s) is = is.kind_is
 kind_so w (ReaderAt s) is = is.kind_is
+kind_so w (ReplacerAt s) is = is.kind_is
 
 named_so : (w : World) (h : Hosted) → IsAlike w h → names_role w.cluster (name_of h) ≡ true
 named_so w (ClientAt s) is = is.named
@@ -83,6 +84,7 @@ named_so w (MatchmakerAt s) is = is.named
 named_so w (ReplicaAt s) is = is.named
 named_so w (UnbatcherAt s) is = is.named
 named_so w (ReaderAt s) is = is.named
+named_so w (ReplacerAt s) is = is.named
 
 is_no : (k j : Kind) (me : RoleId) → me.kind ≡ j → (code_of j == code_of k) ≡ false → is_a k me ≡ false
 is_no k j me is other = ap (λ i. (code_of i == code_of k) && (me.index == me.index)) is ∙ ap (λ b. b && (me.index == me.index)) other
@@ -151,6 +153,7 @@ is_asker (MatchmakerAt s) = false
 is_asker (ReplicaAt s) = false
 is_asker (UnbatcherAt s) = false
 is_asker (ReaderAt s) = false
+is_asker (ReplacerAt s) = false
 
 -- it asks for nothing
 asks_nothing : (h : Hosted) (what : Doing) → is_asker h ≡ false → requests_by (does h what).next (does h what).sends ≡ []
@@ -180,6 +183,9 @@ asks_nothing (UnbatcherAt s) Snap off = refl
 asks_nothing (ReaderAt s) Begin off = refl
 asks_nothing (ReaderAt s) (Give n i) off = refl
 asks_nothing (ReaderAt s) Snap off = refl
+asks_nothing (ReplacerAt s) Begin off = refl
+asks_nothing (ReplacerAt s) (Give n i) off = refl
+asks_nothing (ReplacerAt s) Snap off = refl
 
 -- nothing happens
 nothing_moves : (w : World) (me : RoleId) → IsTraced w → Moves w w me None []
@@ -214,6 +220,7 @@ begins_so (MatchmakerAt s) off = refl
 begins_so (ReplicaAt s) off = refl
 begins_so (UnbatcherAt s) off = refl
 begins_so (ReaderAt s) off = refl
+begins_so (ReplacerAt s) off = refl
 
 -- a role whose kind isn't Client
 no_client : (k : Kind) (me : RoleId) → me.kind ≡ k → (code_of k == code_of kind.Client) ≡ false → me.kind ≡ kind.Client → ⊥
@@ -230,6 +237,7 @@ not_client w (MatchmakerAt s) off is = no_client kind.Matchmaker s.me is.kind_is
 not_client w (ReplicaAt s) off is = no_client kind.Replica s.me is.kind_is refl
 not_client w (UnbatcherAt s) off is = no_client kind.Unbatcher s.me is.kind_is refl
 not_client w (ReaderAt s) off is = no_client kind.Reader s.me is.kind_is refl
+not_client w (ReplacerAt s) off is = no_client kind.Replacer s.me is.kind_is refl
 
 no_client_event : (w : World) (h : Hosted) → is_asker h ≡ false → IsAlike w h → is_client h ≡ false
 no_client_event w (ClientAt s) off is = absurd (true≢false off)
@@ -241,6 +249,7 @@ no_client_event w (MatchmakerAt s) off is = is_no kind.Client kind.Matchmaker s.
 no_client_event w (ReplicaAt s) off is = is_no kind.Client kind.Replica s.me is.kind_is refl
 no_client_event w (UnbatcherAt s) off is = is_no kind.Client kind.Unbatcher s.me is.kind_is refl
 no_client_event w (ReaderAt s) off is = is_no kind.Client kind.Reader s.me is.kind_is refl
+no_client_event w (ReplacerAt s) off is = is_no kind.Client kind.Replacer s.me is.kind_is refl
 
 server_so : (c : Cluster) (k : Kind) (me : RoleId) → me.kind ≡ k → script.is_client k ≡ false → names_role c me ≡ true → script.names_server c me ≡ true
 server_so c k me is other named = rw (is, other) (ap (λ j. nat_lt me.index (count_of c j)) (sym is) ∙ named)
@@ -255,6 +264,7 @@ is_server w (MatchmakerAt s) off is = server_so w.cluster kind.Matchmaker s.me i
 is_server w (ReplicaAt s) off is = server_so w.cluster kind.Replica s.me is.kind_is refl is.named
 is_server w (UnbatcherAt s) off is = server_so w.cluster kind.Unbatcher s.me is.kind_is refl is.named
 is_server w (ReaderAt s) off is = server_so w.cluster kind.Reader s.me is.kind_is refl is.named
+is_server w (ReplacerAt s) off is = server_so w.cluster kind.Replacer s.me is.kind_is refl is.named
 
 -- the step lands, and each of its events fits
 abbrev pub Steps : World → Hosted → Doing → Type 0
@@ -299,6 +309,7 @@ module _ (w : World) (traced : IsTraced w) where
   told_whole l (Lead grid) = refl
   told_whole l (Change grid) = refl
   told_whole l Collect = refl
+  told_whole l (Replace set) = refl
 
   in_cluster : (k : Kind) (me : RoleId) → me.kind ≡ k → names_role w.cluster me ≡ true → nat_lt me.index (count_of w.cluster k) ≡ true
   in_cluster k me is named = ap (λ j. nat_lt me.index (count_of w.cluster j)) (sym is) ∙ named
@@ -347,6 +358,7 @@ module _ (w : World) (traced : IsTraced w) where
   role_snaps (MatchmakerAt s) off is = rests_so (MatchmakerAt s) Snap off is (no_snap s.me kind.Matchmaker is.kind_is refl) (snaps_so (MatchmakerAt s))
   role_snaps (UnbatcherAt s) off is = rests_so (UnbatcherAt s) Snap off is (no_snap s.me kind.Unbatcher is.kind_is refl) (snaps_so (UnbatcherAt s))
   role_snaps (ReaderAt s) off is = rests_so (ReaderAt s) Snap off is (no_snap s.me kind.Reader is.kind_is refl) (snaps_so (ReaderAt s))
+  role_snaps (ReplacerAt s) off is = rests_so (ReplacerAt s) Snap off is (no_snap s.me kind.Replacer is.kind_is refl) (snaps_so (ReplacerAt s))
   role_snaps (ReplicaAt s) off is =
       let e = event.Snap s.me.index Whole in
       steps_by (ReplicaAt s) Snap (e ∷ []) (by_snap s (snap_of s)) off
@@ -373,3 +385,4 @@ module _ (w : World) (traced : IsTraced w) where
   hosted_steps (ReplicaAt s) what is fair = role_steps (ReplicaAt s) what refl is fair
   hosted_steps (UnbatcherAt s) what is fair = role_steps (UnbatcherAt s) what refl is fair
   hosted_steps (ReaderAt s) what is fair = role_steps (ReaderAt s) what refl is fair
+  hosted_steps (ReplacerAt s) what is fair = role_steps (ReplacerAt s) what refl is fair

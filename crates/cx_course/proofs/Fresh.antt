@@ -9,7 +9,7 @@ use Rattle.cx_base.specs.declared.role.Kind.TheVariants as kind
 use Rattle.cx_base.specs.declared.role.RoleId.{RoleId}
 use Rattle.cx_base.specs.Cluster.{count_of}
 use Rattle.cx_inv_open.specs.Reopened.{stored_as}
-use Rattle.cx_inv_run.specs.States.{State, BatcherIn, LeaderIn, ProxyIn, ReplicaIn, ReaderIn, plain, states_of}
+use Rattle.cx_inv_run.specs.States.{State, BatcherIn, LeaderIn, ProxyIn, ReplicaIn, ReaderIn, ReplacerIn, plain, states_of}
 use Rattle.cx_inv_run.proofs.Steps.{Place, place_of, batchers, leaders, proxies, acceptors, matchmakers, replicas, unbatchers, readers}
 use Rattle.cx_model.specs.Acceptor.{acceptor_rules}
 use Rattle.cx_model.specs.Batcher.{batcher_rules}
@@ -17,16 +17,18 @@ use Rattle.cx_model.specs.Leader.{leader_rules}
 use Rattle.cx_model.specs.Matchmaker.{matchmaker_rules}
 use Rattle.cx_model.specs.Proxy.{proxy_rules}
 use Rattle.cx_model.specs.Reader.{reader_rules}
+use Rattle.cx_model.specs.Replacer.{replacer_rules}
 use Rattle.cx_model.specs.Replica.{replica_rules}
 use Rattle.cx_model.specs.Rules.{Rules, Running}
 use Rattle.cx_model.specs.Unbatcher.{unbatcher_rules}
 use Rattle.cx_model.specs.World.{fresh_roles, start}
 use Rattle.cx_course.specs.Alike.{AreFresh, IsFresh, IsFreshRole}
 use Rattle.cx_course.specs.Course.{course_of}
-use Rattle.cx_course.specs.Hosted.{Hosted, ClientAt, BatcherAt, LeaderAt, ProxyAt, AcceptorAt, MatchmakerAt, ReplicaAt, UnbatcherAt, ReaderAt}
+use Rattle.cx_course.specs.Hosted.{Hosted, ClientAt, BatcherAt, LeaderAt, ProxyAt, AcceptorAt, MatchmakerAt, ReplicaAt, UnbatcherAt, ReaderAt, ReplacerAt}
 use Rattle.cx_course.proofs.Alike.{IsAlike, IsRole}
 use Rattle.cx_course.proofs.Asker.{first_asker, first_traced}
 use Rattle.cx_course.proofs.Following.{Stands}
+use Rattle.cx_course.proofs.Replacers.{replacers}
 use Rattle.cx_course.proofs.Past.{past_of}
 
 fresh_get : {V : Type 0} (v : V) (count i : ℕ) → nat_lt i count ≡ true → slice_get (fresh_roles v count) i ≡ Some (Some v)
@@ -66,6 +68,7 @@ first_alike c (MatchmakerAt s) fresh = fresh_role kind.Matchmaker plain matchmak
 first_alike c (ReplicaAt s) fresh = fresh_role kind.Replica ReplicaIn replicas replica_rules c s refl refl fresh
 first_alike c (UnbatcherAt s) fresh = fresh_role kind.Unbatcher plain unbatchers unbatcher_rules c s refl refl fresh
 first_alike c (ReaderAt s) fresh = fresh_role kind.Reader ReaderIn readers reader_rules c s refl refl fresh
+first_alike c (ReplacerAt s) fresh = fresh_role kind.Replacer ReplacerIn replacers replacer_rules c s refl refl fresh
 
 -- every list is empty
 none_stored : (me : RoleId) (k : Kind) → stored_as me [] k ≡ []
@@ -78,6 +81,7 @@ none_stored me kind.Matchmaker = refl
 none_stored me kind.Replica = refl
 none_stored me kind.Unbatcher = refl
 none_stored me kind.Reader = refl
+none_stored me kind.Replacer = refl
 
 pub fresh_stands : (c : Cluster) (hs : List Hosted) → AreFresh c hs → Stands c (past_of []) (course_of true hs)
 fresh_stands c hs fresh = record {

@@ -52,6 +52,7 @@ is_there w (event.Read client seq floor reader replica key) n cut heard is = cc
 is_there w (event.Session client seq floor replica key) n cut heard is = cc
 is_there w (event.Tick r) n cut heard is = cc
 is_there w (event.Order l order c) n cut heard is = cc
+is_there w (event.Replace replacer set c) n cut heard is = cc
 is_there w (event.Snap p c) n cut heard is = cc
 is_there w (event.Crash r) n cut heard is = cc
 is_there w (event.Restart r) n cut heard is = cc
@@ -67,6 +68,7 @@ if_same client sent more true (event.Read other seq floor reader replica key) th
 if_same client sent more true (event.Session other seq floor replica key) there = refl
 if_same client sent more true (event.Tick r) there = refl
 if_same client sent more true (event.Order l order cut) there = refl
+if_same client sent more true (event.Replace replacer set cut) there = refl
 if_same client sent more true (event.Snap p cut) there = refl
 if_same client sent more true (event.Crash r) there = refl
 if_same client sent more true (event.Restart r) there = refl

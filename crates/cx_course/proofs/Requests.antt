@@ -46,6 +46,7 @@ from_it n (event.Session client seq floor replica key) t is d (inr never) = absu
 from_it n (event.Deliver number cut) t is d m = absurd m
 from_it n (event.Tick r) t is d m = absurd m
 from_it n (event.Order l order cut) t is d m = absurd m
+from_it n (event.Replace replacer set cut) t is d m = absurd m
 from_it n (event.Snap p cut) t is d m = absurd m
 from_it n (event.Crash r) t is d m = absurd m
 from_it n (event.Restart r) t is d m = absurd m
@@ -69,6 +70,7 @@ module _ (w : World) (s : ClientState) (is : IsAsker w s) (traced : IsTraced w) 
   by_event (event.Deliver n cut) so token = absurd (none-some _ token)
   by_event (event.Tick r) so token = absurd (none-some _ token)
   by_event (event.Order l order cut) so token = absurd (none-some _ token)
+  by_event (event.Replace replacer set cut) so token = absurd (none-some _ token)
   by_event (event.Snap p cut) so token = absurd (none-some _ token)
   by_event (event.Crash r) so token = absurd (none-some _ token)
   by_event (event.Restart r) so token = absurd (none-some _ token)

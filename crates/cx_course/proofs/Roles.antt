@@ -10,8 +10,8 @@ use Rattle.cx_base.specs.declared.role.RoleId.{RoleId}
 use Rattle.cx_base.specs.Role.{same_role}
 use Rattle.cx_inv_open.specs.Reopened.{stored_as}
 use Rattle.cx_inv_run.specs.Kinds.{OfKind}
-use Rattle.cx_inv_run.specs.States.{State, BatcherIn, LeaderIn, ProxyIn, ReplicaIn, ReaderIn, plain, state_found, states_of}
-use Rattle.cx_inv_run.proofs.Senders.{acceptor_kinds, batcher_kinds, leader_kinds, matchmaker_kinds, proxy_kinds, reader_kinds, replica_kinds, unbatcher_kinds}
+use Rattle.cx_inv_run.specs.States.{State, BatcherIn, LeaderIn, ProxyIn, ReplicaIn, ReaderIn, ReplacerIn, plain, state_found, states_of}
+use Rattle.cx_inv_run.proofs.Senders.{acceptor_kinds, batcher_kinds, leader_kinds, matchmaker_kinds, proxy_kinds, reader_kinds, replacer_kinds, replica_kinds, unbatcher_kinds}
 use Rattle.cx_inv_run.proofs.Steps.{Place, batchers, leaders, proxies, acceptors, matchmakers, replicas, unbatchers, readers}
 use Rattle.cx_keeper.specs.Keeper.{Append, Renewal}
 use Rattle.cx_model.specs.Acceptor.{acceptor_rules}
@@ -24,6 +24,7 @@ use Rattle.cx_model.specs.Names.{names_role}
 use Rattle.cx_model.specs.Promises.{DeliversOneOf}
 use Rattle.cx_model.specs.Proxy.{proxy_rules}
 use Rattle.cx_model.specs.Reader.{reader_rules}
+use Rattle.cx_model.specs.Replacer.{replacer_rules}
 use Rattle.cx_model.specs.Replica.{ReplicaDurable, ReplicaVolatile, replica_renewed, replica_rules}
 use Rattle.cx_model.specs.Rules.{Rules, Running, folded, folded_from, outcome_of, running_after, with_kept}
 use Rattle.cx_model.specs.Unbatcher.{unbatcher_rules}
@@ -38,10 +39,11 @@ use Rattle.cx_msg.specs.declared.input.Written.TheVariants as written
 use Rattle.cx_msg.specs.declared.kept.Record.{Record}
 use Rattle.cx_role.specs.Snap.{snapped_by}
 use Rattle.cx_course.specs.Changing.{change_for, changed_by}
-use Rattle.cx_course.specs.Hosted.{Hosted, ClientAt, BatcherAt, LeaderAt, ProxyAt, AcceptorAt, MatchmakerAt, ReplicaAt, UnbatcherAt, ReaderAt, Step, by_row, by_snap, given, name_of, snap_of}
+use Rattle.cx_course.specs.Hosted.{Hosted, ClientAt, BatcherAt, LeaderAt, ProxyAt, AcceptorAt, MatchmakerAt, ReplicaAt, UnbatcherAt, ReaderAt, ReplacerAt, Step, by_row, by_snap, given, name_of, snap_of}
 use Rattle.cx_course.specs.Run.{is_client}
 use Rattle.cx_course.proofs.Alike.{IsAlike, IsRole, Moves}
 use Rattle.cx_course.proofs.Asker.{IsTraced}
+use Rattle.cx_course.proofs.Replacers.{replacers}
 use Rattle.cx_course.proofs.Turned.{IsPlain, act_moves, made_by, made_snap, whole_kept, whole_snap}
 
 -- what a role of this kind may write: a client nothing, and only a replica forgets values
@@ -90,6 +92,11 @@ has_reader : Stands ReaderIn
 has_reader None v e = cc
 has_reader (Some None) v e = cc
 has_reader (Some (Some u)) v e = cc
+
+has_replacer : Stands ReplacerIn
+has_replacer None v e = cc
+has_replacer (Some None) v e = cc
+has_replacer (Some (Some u)) v e = cc
 
 has_plain : Stands plain
 has_plain None v e = cc
@@ -187,6 +194,9 @@ role_lands w (UnbatcherAt s) i e off traced is this =
 role_lands w (ReaderAt s) i e off traced is this =
     row_lands kind.Reader ReaderIn readers reader_rules refl (by_code kind.Reader refl) has_reader (λ c roles kept a me. refl) ReaderAt (λ w s is. is) (λ s. refl) w s i e traced is this
     (reader_kinds s.cluster s.me is.kind_is s.durable s.volatile i)
+role_lands w (ReplacerAt s) i e off traced is this =
+    row_lands kind.Replacer ReplacerIn replacers replacer_rules refl (by_code kind.Replacer refl) has_replacer (λ c roles kept a me. refl) ReplacerAt (λ w s is. is) (λ s. refl) w s i e traced is this
+    (replacer_kinds s.cluster s.me is.kind_is s.durable s.volatile i)
 
 -- ---- a snap
 

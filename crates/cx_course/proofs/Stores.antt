@@ -13,6 +13,7 @@ use Rattle.cx_model.specs.Lists.{list_other, list_own, same_role-itself}
 use Rattle.cx_model.specs.Matchmaker.{matchmaker_rules}
 use Rattle.cx_model.specs.Proxy.{proxy_rules}
 use Rattle.cx_model.specs.Reader.{reader_rules}
+use Rattle.cx_model.specs.Replacer.{replacer_rules}
 use Rattle.cx_model.specs.Replica.{replica_rules}
 use Rattle.cx_model.specs.Unbatcher.{unbatcher_rules}
 use Rattle.cx_model.specs.World.{kept_by}
@@ -56,6 +57,7 @@ own_record me kept r kind.Matchmaker other = list_own matchmaker_rules me kept (
 own_record me kept r kind.Replica other = list_own replica_rules me kept (Some (written.Record r))
 own_record me kept r kind.Unbatcher other = list_own unbatcher_rules me kept (Some (written.Record r))
 own_record me kept r kind.Reader other = list_own reader_rules me kept (Some (written.Record r))
+own_record me kept r kind.Replacer other = list_own replacer_rules me kept (Some (written.Record r))
 
 own_written : (me : RoleId) (kept : List KeptRecord) (y : Written) (k : Kind) → MayWrite k (Some y) → Own me kept y k
 own_written me kept (written.Record r) k may = own_record me kept r k may
@@ -83,6 +85,7 @@ other_store me who kept o kind.Matchmaker e = list_other matchmaker_rules me who
 other_store me who kept o kind.Replica e = list_other replica_rules me who kept o e
 other_store me who kept o kind.Unbatcher e = list_other unbatcher_rules me who kept o e
 other_store me who kept o kind.Reader e = list_other reader_rules me who kept o e
+other_store me who kept o kind.Replacer e = list_other replacer_rules me who kept o e
 
 pub other_changes : (me who : RoleId) (o : Option Change) → same_role me who ≡ false → changes_of me (changed_by who o) ≡ []
 other_changes me who None e = refl

@@ -3,7 +3,7 @@ use Rattle.std.specs.Prelude.{◌≡◌, ℕ, true, List, [], slice_get, Some}
 use Rattle.cx_base.specs.declared.cluster.Cluster.{Cluster}
 use Rattle.cx_base.specs.declared.event.Event.{Event}
 use Rattle.cx_client.specs.Client.{ClientState, IsClient}
-use Rattle.cx_course.specs.Hosted.{Hosted, ClientAt, BatcherAt, LeaderAt, ProxyAt, AcceptorAt, MatchmakerAt, ReplicaAt, UnbatcherAt, ReaderAt, name_of}
+use Rattle.cx_course.specs.Hosted.{Hosted, ClientAt, BatcherAt, LeaderAt, ProxyAt, AcceptorAt, MatchmakerAt, ReplicaAt, UnbatcherAt, ReaderAt, ReplacerAt, name_of}
 use Rattle.cx_model.specs.Acceptor.{acceptor_rules}
 use Rattle.cx_model.specs.Batcher.{batcher_rules}
 use Rattle.cx_model.specs.Leader.{leader_rules}
@@ -12,6 +12,7 @@ use Rattle.cx_model.specs.Member.{Member}
 use Rattle.cx_model.specs.Names.{names_role}
 use Rattle.cx_model.specs.Proxy.{proxy_rules}
 use Rattle.cx_model.specs.Reader.{reader_rules}
+use Rattle.cx_model.specs.Replacer.{replacer_rules}
 use Rattle.cx_model.specs.Replica.{replica_rules}
 use Rattle.cx_model.specs.Rules.{Rules, Running, opened}
 use Rattle.cx_model.specs.Unbatcher.{unbatcher_rules}
@@ -43,6 +44,7 @@ IsFresh c (MatchmakerAt s) = IsFreshRole matchmaker_rules c s
 IsFresh c (ReplicaAt s) = IsFreshRole replica_rules c s
 IsFresh c (UnbatcherAt s) = IsFreshRole unbatcher_rules c s
 IsFresh c (ReaderAt s) = IsFreshRole reader_rules c s
+IsFresh c (ReplacerAt s) = IsFreshRole replacer_rules c s
 
 -- no two have one name
 abbrev pub AreDistinct : List Hosted → Type 0

@@ -15,6 +15,7 @@ use Rattle.cx_model.specs.Leader.{LeaderDurable, LeaderVolatile, leader_rules, i
 use Rattle.cx_model.specs.Matchmaker.{MatchmakerDurable, matchmaker_rules}
 use Rattle.cx_model.specs.Proxy.{ProxyVolatile, proxy_rules}
 use Rattle.cx_model.specs.Reader.{ReaderDurable, ReaderVolatile, reader_rules}
+use Rattle.cx_model.specs.Replacer.{ReplacerDurable, ReplacerVolatile, replacer_rules}
 use Rattle.cx_model.specs.Replica.{ReplicaDurable, ReplicaVolatile, replica_renewed, replica_rules, replica_snap}
 use Rattle.cx_model.specs.Rules.{Rules, Running, outcome_of, running_after}
 use Rattle.cx_model.specs.Unbatcher.{unbatcher_rules}
@@ -35,6 +36,7 @@ pub data Hosted : Type 0 where
   ReplicaAt : (s : Running ReplicaDurable ReplicaVolatile) → Hosted
   UnbatcherAt : (s : Running (Unit {0}) (Unit {0})) → Hosted
   ReaderAt : (s : Running ReaderDurable ReaderVolatile) → Hosted
+  ReplacerAt : (s : Running ReplacerDurable ReplacerVolatile) → Hosted
 
 abbrev pub name_of : Hosted → RoleId
 name_of (ClientAt s) = s.me
@@ -46,6 +48,7 @@ name_of (MatchmakerAt s) = s.me
 name_of (ReplicaAt s) = s.me
 name_of (UnbatcherAt s) = s.me
 name_of (ReaderAt s) = s.me
+name_of (ReplacerAt s) = s.me
 
 -- the kind of role that it is
 abbrev pub kind_at : Hosted → Kind
@@ -58,6 +61,7 @@ kind_at (MatchmakerAt s) = kind.Matchmaker
 kind_at (ReplicaAt s) = kind.Replica
 kind_at (UnbatcherAt s) = kind.Unbatcher
 kind_at (ReaderAt s) = kind.Reader
+kind_at (ReplacerAt s) = kind.Replacer
 
 -- The result of a step of a role: what follows, the changes of its store, the datagrams that are sent, the text that is
 -- printed where the node doesn't record, and the datagram that a client takes as the answer to a request.
@@ -111,6 +115,7 @@ given (MatchmakerAt s) i = by_row matchmaker_rules MatchmakerAt s i
 given (ReplicaAt s) i = by_row replica_rules ReplicaAt s i
 given (UnbatcherAt s) i = by_row unbatcher_rules UnbatcherAt s i
 given (ReaderAt s) i = by_row reader_rules ReaderAt s i
+given (ReplacerAt s) i = by_row replacer_rules ReplacerAt s i
 
 -- a client sends its outstanding requests; another role has nothing to begin with
 abbrev pub begun : Hosted → Step
@@ -123,6 +128,7 @@ begun (MatchmakerAt s) = rests (MatchmakerAt s)
 begun (ReplicaAt s) = rests (ReplicaAt s)
 begun (UnbatcherAt s) = rests (UnbatcherAt s)
 begun (ReaderAt s) = rests (ReaderAt s)
+begun (ReplacerAt s) = rests (ReplacerAt s)
 
 -- below which slot a running replica may forget values, if it may
 abbrev pub snap_of : Running ReplicaDurable ReplicaVolatile → Option ℕ
@@ -150,6 +156,7 @@ snapped (MatchmakerAt s) = rests (MatchmakerAt s)
 snapped (ReplicaAt s) = by_snap s (snap_of s)
 snapped (UnbatcherAt s) = rests (UnbatcherAt s)
 snapped (ReaderAt s) = rests (ReaderAt s)
+snapped (ReplacerAt s) = rests (ReplacerAt s)
 
 -- what a hosted role does
 unfoldable pub does : Hosted → Doing → Step
@@ -168,6 +175,7 @@ is_idle_leader (MatchmakerAt s) = false
 is_idle_leader (ReplicaAt s) = false
 is_idle_leader (UnbatcherAt s) = false
 is_idle_leader (ReaderAt s) = false
+is_idle_leader (ReplacerAt s) = false
 
 -- whether it may take a step: a role whose append failed may not
 abbrev pub is_live : Hosted → Bool
@@ -180,3 +188,4 @@ is_live (MatchmakerAt s) = s.live
 is_live (ReplicaAt s) = s.live
 is_live (UnbatcherAt s) = s.live
 is_live (ReaderAt s) = s.live
+is_live (ReplacerAt s) = s.live

@@ -1,5 +1,5 @@
--- The two words of a grid are read back as the grid.
-use Rattle.std.proofs.Common.{◌≡◌, ◌∙◌, ◌<◌, ◌≤◌, ◌+◌, ◌*◌, ◌^◌, ◌==◌, not, nat_lt, nat_le, suc, ℕ, Bool, true, false, List, [], ◌∷◌, ◌++◌, length, map, drop, None, Some, Ok, ap, sym, refl, arith, append_assoc, length-append}
+-- The two words of a grid are read back as the grid, and the word of a set of matchmakers as the set.
+use Rattle.std.proofs.Common.{◌≡◌, ◌∙◌, ◌<◌, ◌≤◌, ◌+◌, ◌*◌, ◌^◌, ◌==◌, ◌&&◌, not, nat_lt, nat_le, suc, ℕ, Bool, true, false, List, [], ◌∷◌, ◌++◌, length, map, drop, None, Some, Ok, ap, sym, refl, arith, append_assoc, length-append}
 use Rattle.std.specs.Prelude.{codes, decimal, is_none}
 use Rattle.std.specs.Char.{digit_value}
 use Rattle.std.specs.List.{after_first, before_first, join_with_byte, list_all, position_or_len, slice_split}
@@ -10,8 +10,9 @@ use Rattle.std.proofs.lemmas.List.{take_at}
 use Rattle.std.proofs.Math.Nat.{le-mul_of_pos_right, mul-le-mul_right}
 use Rattle.cx_base.specs.declared.cluster.Cluster.{Cluster}
 use Rattle.cx_base.specs.Grid.{IsGrid, Shape, are_new, first_twice, grid_fault, is_in}
-use Rattle.cx_script.specs.Names.{names_members}
-use Rattle.cx_script.specs.Places.{ids_of, members_word, sides_fit, sides_word}
+use Rattle.cx_base.specs.Sets.{is_rising}
+use Rattle.cx_script.specs.Names.{names_members, names_set}
+use Rattle.cx_script.specs.Places.{ids_of, members_word, set_word, sides_fit, sides_word}
 use Rattle.cx_script.specs.Words.{is_empty}
 use Rattle.cx_record.specs.Lines.{ids_text, sides_text}
 use Rattle.cx_record.proofs.Digits.{decimal_avoids, decimal_short, no_break, no_comma, no_x, number_back, some_digit}
@@ -137,6 +138,15 @@ ids_short count most (id ∷ next ∷ ids) are =
     let rest = ids_short count most (next ∷ ids) q.1 in
     omega (arith, short, rest, length-append (decimal id) (44 ∷ ids_text (next ∷ ids)))
 
+ids_are_word : (count : ℕ) → count ≤ 64 → (ids : List ℕ) → 1 ≤ length ids → length ids ≤ 16 → AreIds count ids → IsWord (ids_text ids)
+ids_are_word count most ids some few are =
+    let short = ids_short count most ids are in
+    record {
+      some = some_ids count most ids some are;
+      off = joined_avoids is_break 44 refl (map decimal ids) (ids_parts is_break no_break count most ids are);
+      short = omega (arith, short, few);
+    }
+
 -- ---- the whole grid
 
 none_twice : (before ids : List ℕ) → are_new before ids ≡ true → first_twice before ids ≡ None
@@ -171,11 +181,35 @@ members_back c g is named =
 
 pub members_are_word : (c : Cluster) (g : Shape) → IsGrid g → names_members c g ≡ true → IsWord (ids_text g.members)
 members_are_word c g is named =
-    let short = ids_short c.acceptors c.acceptors_fit g.members named in
     let count = is.count in
     let room = is.room in
-    record {
-      some = some_ids c.acceptors c.acceptors_fit g.members (some_member g is) named;
-      off = joined_avoids is_break 44 refl (map decimal g.members) (ids_parts is_break no_break c.acceptors c.acceptors_fit g.members named);
-      short = omega (arith, short, count, room);
-    }
+    ids_are_word c.acceptors c.acceptors_fit g.members (some_member g is) (omega (arith, count, room)) named
+
+-- ---- a set
+
+pub record IsSet (c : Cluster) (s : List ℕ) : Type 0 where
+  pub counted : ((length s == 2 * c.f + 1) && is_rising s) ≡ true
+  pub some : 1 ≤ length s
+  pub few : length s ≤ 16
+  pub ids : AreIds c.pool s
+
+is_set : (c : Cluster) (s : List ℕ) → names_set c s ≡ true → IsSet c s
+is_set c s named =
+    let p = and_parts ((length s == 2 * c.f + 1) && is_rising s) (list_all (λ id. nat_lt id c.pool) s) named in
+    let q = and_parts (length s == 2 * c.f + 1) (is_rising s) p.0 in
+    let count = same (length s) (2 * c.f + 1) q.0 in
+    let fit = c.f_fits in
+    record { counted = p.0; some = omega (arith, count); few = omega (arith, count, fit); ids = p.1 }
+  where
+    same : (m n : ℕ) → (m == n) ≡ true → m ≡ n
+    same m n e = grind (arith, nat_tests)
+
+pub set_back : (c : Cluster) (s : List ℕ) → names_set c s ≡ true → set_word c (ids_text s) ≡ Ok s
+set_back c s named =
+    let is = is_set c s named in
+    rw (ids_back c.pool c.pool_fits s is.some is.ids, is.counted) refl
+
+pub set_is_word : (c : Cluster) (s : List ℕ) → names_set c s ≡ true → IsWord (ids_text s)
+set_is_word c s named =
+    let is = is_set c s named in
+    ids_are_word c.pool c.pool_fits s is.some is.few is.ids

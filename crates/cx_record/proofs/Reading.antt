@@ -13,21 +13,21 @@ use Rattle.cx_base.specs.declared.event.Cut.{Cut}
 use Rattle.cx_base.specs.declared.event.Cut.TheVariants.{Whole, Torn, Kept}
 use Rattle.cx_base.specs.declared.event.Event.{Event}
 use Rattle.cx_base.specs.declared.event.Event.TheVariants as event
-use Rattle.cx_base.specs.declared.event.Order.TheVariants.{Lead, Change, Collect}
-use Rattle.cx_base.specs.declared.role.Kind.TheVariants.{Client, Batcher, Leader, Replica, Reader}
+use Rattle.cx_base.specs.declared.event.Order.TheVariants.{Lead, Change, Collect, Replace}
+use Rattle.cx_base.specs.declared.role.Kind.TheVariants.{Client, Batcher, Leader, Replica, Reader, Replacer}
 use Rattle.cx_base.specs.declared.role.RoleId.{RoleId}
 use Rattle.cx_base.specs.Cluster.{count_of}
 use Rattle.cx_base.specs.Grid.{IsGrid, Shape}
 use Rattle.cx_base.specs.Role.{role_text}
-use Rattle.cx_script.specs.Grammar.{collect_event, deliver_event, event_in, event_of, line_event, op_at, read_event, round_of, server_of, session_event, snap_event, write_event}
+use Rattle.cx_script.specs.Grammar.{collect_event, deliver_event, event_in, event_of, line_event, op_at, read_event, replace_event, round_of, server_of, session_event, snap_event, write_event}
 use Rattle.cx_script.specs.Lines.{lines_of, schedule_of, spelled_from}
-use Rattle.cx_script.specs.Names.{is_client, names_members, names_server}
+use Rattle.cx_script.specs.Names.{is_client, names_members, names_server, names_set}
 use Rattle.cx_script.specs.Unended.{lines_text}
 use Rattle.cx_script.proofs.Feeds.{AreFree, IsFree, lines_of_text}
 use Rattle.cx_record.specs.Lines.{cut_words, line_text, line_words, op_words, round_words}
 use Rattle.cx_record.specs.Readable.{AreRead, HasNames, IsRecordable}
 use Rattle.cx_record.proofs.Digits.{decimal_word}
-use Rattle.cx_record.proofs.Grids.{members_are_word, members_back, sides_are_word, sides_back}
+use Rattle.cx_record.proofs.Grids.{members_are_word, members_back, set_back, set_is_word, sides_are_word, sides_back}
 use Rattle.cx_record.proofs.Spelling.{cut_are_words, cut_back, index_back, key_back, name_word, number_word_back, plain_word, role_word, seq_back, seq_is_word, server_back, text_back}
 use Rattle.cx_record.proofs.Words.{AreWords, Avoids, is_break, joined_avoids, joined_short, words_avoid, words_back}
 
@@ -124,6 +124,17 @@ snap_line c replica cut named =
       said = rw (index_back c Replica replica named, cut_back cut) refl;
     }
 
+replace_line : (c : Cluster) (replacer : ℕ) (s : List ℕ) (cut : Cut) → IsRecordable c (event.Replace replacer s cut) → IsLine c (line_words (event.Replace replacer s cut)) (event.Replace replacer s cut)
+unfolding event_of replace_event
+replace_line c replacer s cut is =
+    let named = and_parts (nat_lt replacer c.replacers) (names_set c s) is.named in
+    let few = few_cut cut in
+    record {
+      words = (plain_word (codes "replace") refl refl refl, (role_word c Replacer replacer named.0, (set_is_word c s named.1, cut_are_words cut)));
+      few = omega (arith, few);
+      said = rw (index_back c Replacer replacer named.0, set_back c s named.1, cut_back cut) refl;
+    }
+
 -- a role that is no client
 abbrev IsServer : Cluster → RoleId → Type 0
 IsServer c r = names_server c r ≡ true
@@ -207,6 +218,8 @@ is_line c (event.Order l (Change g) cut) is = change_line c l g cut is
 is_line c (event.Order l Collect Whole) is = collect_line c l (and_parts (nat_lt l c.leaders) true is.named).0
 is_line c (event.Order l Collect Torn) is = absurd (true≢false (sym is.told))
 is_line c (event.Order l Collect Kept) is = absurd (true≢false (sym is.told))
+is_line c (event.Order l (Replace s) cut) is = absurd (true≢false (sym (and_parts (nat_lt l c.leaders) false is.named).1))
+is_line c (event.Replace replacer s cut) is = replace_line c replacer s cut is
 is_line c (event.Snap replica cut) is = snap_line c replica cut is.named
 is_line c (event.Crash r) is = crash_line c r is.named
 is_line c (event.Restart r) is = restart_line c r is.named

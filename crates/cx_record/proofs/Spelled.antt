@@ -15,15 +15,15 @@ use Rattle.cx_base.specs.declared.event.Event.TheVariants as event
 use Rattle.cx_base.specs.declared.event.Order.TheVariants.{Collect}
 use Rattle.cx_base.specs.declared.grid_fault.GridFault.{GridFault}
 use Rattle.cx_base.specs.declared.grid_fault.GridFault.TheVariants.{Empty, Size, Count, Twice}
-use Rattle.cx_base.specs.declared.role.Kind.TheVariants.{Client, Batcher, Leader, Replica, Reader}
+use Rattle.cx_base.specs.declared.role.Kind.TheVariants.{Client, Batcher, Leader, Replica, Reader, Replacer}
 use Rattle.cx_base.specs.Grid.{IsGrid, first_twice, grid_fault, make_grid}
 use Rattle.cx_base.specs.Name.{IsName, is_name, is_name_byte, name_of}
 use Rattle.cx_base.proofs.Members.{new_where_none}
 use Rattle.cx_script.specs.declared.fault.LineFault.{LineFault}
 use Rattle.cx_script.specs.declared.fault.LineFault.TheVariants.{Grid, Key, Long, Number, Word}
-use Rattle.cx_script.specs.Grammar.{◌>>=◌, collect_event, cut_at, deliver_event, event_in, event_of, grid_at, is_comment, line_event, next, op_at, pair_at, read_event, round_of, server_of, session_event, snap_event, write_event}
+use Rattle.cx_script.specs.Grammar.{◌>>=◌, collect_event, cut_at, deliver_event, event_in, event_of, grid_at, is_comment, line_event, next, op_at, pair_at, read_event, replace_event, round_of, server_of, session_event, snap_event, write_event}
 use Rattle.cx_script.specs.Lines.{Spelled, lines_of, with_line}
-use Rattle.cx_script.specs.Places.{fitting, grid_of, ids_of, index_word, key_word, members_word, number_word, seq_and_floor, seq_word, sides_word, text_word}
+use Rattle.cx_script.specs.Places.{fitting, grid_of, ids_of, index_word, key_word, members_word, number_word, seq_and_floor, seq_word, set_word, sides_word, text_word}
 use Rattle.cx_script.specs.Requests.{asks, has_slash, request_behind, request_line, requests_from, requests_of, rises, script_of, with_event, without_floor}
 use Rattle.cx_script.specs.Words.{is_number, number_of, words_of}
 use Rattle.cx_script.proofs.Parts.{and_then_some, anything, either_ok, ended_ok, next_ok, some_ok, then_ok, whatever}
@@ -202,6 +202,13 @@ snap_ok c words =
     then_ok _ IsRanged (next (index_word c Replica) words) _ (whatever (next (index_word c Replica) words)) (λ (replica, words) h.
     then_ok _ IsRanged (cut_at words) _ (whatever (cut_at words)) (λ cut k. record { ranges = tt; told = refl }))
 
+replace_ok : (c : Cluster) (words : List (List ℕ)) → IfOk (replace_event c words) IsRanged
+unfolding replace_event
+replace_ok c words =
+    then_ok _ IsRanged (next (index_word c Replacer) words) _ (whatever (next (index_word c Replacer) words)) (λ (replacer, words) h.
+    then_ok _ IsRanged (next (set_word c) words) _ (whatever (next (set_word c) words)) (λ (set, words) k.
+    then_ok _ IsRanged (cut_at words) _ (whatever (cut_at words)) (λ cut l. record { ranges = tt; told = refl })))
+
 event_ok : (c : Cluster) (verb : List ℕ) (words : List (List ℕ)) → IfOk (event_of c verb words) IsRanged
 unfolding event_of
 event_ok c verb words =
@@ -217,8 +224,9 @@ event_ok c verb words =
     or_else (bytes_eq verb (codes "change")) _ _ (then_ok _ IsRanged (round_of c words) _ round (λ (leader, grid, cut) h. record { ranges = h; told = refl })) (
     or_else (bytes_eq verb (codes "collect")) _ _ (collect_ok c words) (
     or_else (bytes_eq verb (codes "snap")) _ _ (snap_ok c words) (
+    or_else (bytes_eq verb (codes "replace")) _ _ (replace_ok c words) (
     or_else (bytes_eq verb (codes "crash")) _ _ (then_ok _ IsRanged (server_of c words) _ server (λ role h. record { ranges = tt; told = refl })) (
-    or_else (bytes_eq verb (codes "restart")) _ _ (then_ok _ IsRanged (server_of c words) _ server (λ role h. record { ranges = tt; told = refl })) tt))))))))))
+    or_else (bytes_eq verb (codes "restart")) _ _ (then_ok _ IsRanged (server_of c words) _ server (λ role h. record { ranges = tt; told = refl })) tt)))))))))))
 
 -- ---- lines
 

@@ -10,7 +10,7 @@ use Rattle.cx_base.specs.declared.cluster.Cluster.{Cluster}
 use Rattle.cx_base.specs.declared.event.Cut.{Cut}
 use Rattle.cx_base.specs.declared.event.Cut.TheVariants.{Whole, Torn, Kept}
 use Rattle.cx_base.specs.declared.role.Kind.{Kind}
-use Rattle.cx_base.specs.declared.role.Kind.TheVariants.{Client, Batcher, Leader, Proxy, Acceptor, Matchmaker, Replica, Unbatcher, Reader}
+use Rattle.cx_base.specs.declared.role.Kind.TheVariants.{Client, Batcher, Leader, Proxy, Acceptor, Matchmaker, Replica, Unbatcher, Reader, Replacer}
 use Rattle.cx_base.specs.Name.{IsName, is_name, is_name_byte}
 use Rattle.cx_base.specs.Role.{kind_text, role, role_text}
 use Rattle.cx_script.specs.Grammar.{cut_at}
@@ -30,10 +30,11 @@ counts c Batcher = let fit = c.batchers_fit in omega (arith, fit)
 counts c Leader = let fit = c.leaders_fit in omega (arith, fit)
 counts c Proxy = let fit = c.proxies_fit in omega (arith, fit)
 counts c Acceptor = c.acceptors_fit
-counts c Matchmaker = let fit = c.f_fits in omega (arith, fit)
+counts c Matchmaker = c.pool_fits
 counts c Replica = let fit = c.replicas_fit in omega (arith, fit)
 counts c Unbatcher = let fit = c.unbatchers_fit in omega (arith, fit)
 counts c Reader = let fit = c.readers_fit in omega (arith, fit)
+counts c Replacer = let fit = c.replacers_fit in omega (arith, fit)
 
 below : (i n : ℕ) → nat_lt i n ≡ true → n ≤ 64 → i < 64
 below i n less most = grind (arith, nat_tests)
@@ -58,6 +59,7 @@ kind_avoids Matchmaker = avoids_so is_break (kind_text Matchmaker ++ codes ":") 
 kind_avoids Replica = avoids_so is_break (kind_text Replica ++ codes ":") refl
 kind_avoids Unbatcher = avoids_so is_break (kind_text Unbatcher ++ codes ":") refl
 kind_avoids Reader = avoids_so is_break (kind_text Reader ++ codes ":") refl
+kind_avoids Replacer = avoids_so is_break (kind_text Replacer ++ codes ":") refl
 
 some_kind : (k : Kind) → is_empty (kind_text k ++ codes ":") ≡ false
 some_kind Client = refl
@@ -69,6 +71,7 @@ some_kind Matchmaker = refl
 some_kind Replica = refl
 some_kind Unbatcher = refl
 some_kind Reader = refl
+some_kind Replacer = refl
 
 short_kind : (k : Kind) → length (kind_text k ++ codes ":") ≤ 10
 short_kind Client = omega arith
@@ -80,6 +83,7 @@ short_kind Matchmaker = omega arith
 short_kind Replica = omega arith
 short_kind Unbatcher = omega arith
 short_kind Reader = omega arith
+short_kind Replacer = omega arith
 
 pub role_word : (c : Cluster) (k : Kind) (i : ℕ) → IsIndex c k i → IsWord (role_text (role k i))
 role_word c k i is =
@@ -101,6 +105,7 @@ index_back c Matchmaker i is = rw (number_back i (small_index c Matchmaker i is)
 index_back c Replica i is = rw (number_back i (small_index c Replica i is), is) refl
 index_back c Unbatcher i is = rw (number_back i (small_index c Unbatcher i is), is) refl
 index_back c Reader i is = rw (number_back i (small_index c Reader i is), is) refl
+index_back c Replacer i is = rw (number_back i (small_index c Replacer i is), is) refl
 
 pub server_back : (c : Cluster) (k : Kind) (i : ℕ) → IsIndex c k i → not (is_client k) ≡ true → server_word c (role_text (role k i)) ≡ Ok (role k i)
 server_back c Client i is off = cc
@@ -112,6 +117,7 @@ server_back c Matchmaker i is off = rw (number_back i (small_index c Matchmaker 
 server_back c Replica i is off = rw (number_back i (small_index c Replica i is), is) refl
 server_back c Unbatcher i is off = rw (number_back i (small_index c Unbatcher i is), is) refl
 server_back c Reader i is off = rw (number_back i (small_index c Reader i is), is) refl
+server_back c Replacer i is off = rw (number_back i (small_index c Replacer i is), is) refl
 
 -- ---- numbers, keys and texts
 

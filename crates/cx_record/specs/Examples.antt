@@ -1,7 +1,7 @@
 -- Events, each with its line, written out.
 use Rattle.std.specs.Prelude.{◌≡◌, [], ◌∷◌, codes}
 use Rattle.cx_base.specs.declared.command.Op.TheVariants.{Put, Del}
-use Rattle.cx_base.specs.declared.event.Cut.TheVariants.{Whole, Kept}
+use Rattle.cx_base.specs.declared.event.Cut.TheVariants.{Whole, Torn, Kept}
 use Rattle.cx_base.specs.declared.event.Event.TheVariants as event
 use Rattle.cx_base.specs.declared.event.Order.TheVariants.{Lead, Change, Collect}
 use Rattle.cx_base.specs.Grid.{make_grid}
@@ -15,4 +15,5 @@ pub record Worked : Type 0 where
   pub lead : line_text (event.Order 1 (Lead (make_grid 2 2 (0 ∷ 1 ∷ 2 ∷ 3 ∷ []))) Whole) ≡ codes "lead leader:1 2x2 0,1,2,3"
   pub change : line_text (event.Order 0 (Change (make_grid 1 2 (4 ∷ 5 ∷ []))) Kept) ≡ codes "change leader:0 1x2 4,5 kept"
   pub collect : line_text (event.Order 0 Collect Whole) ≡ codes "collect leader:0"
+  pub replace : line_text (event.Replace 1 (3 ∷ 4 ∷ 5 ∷ []) Torn) ≡ codes "replace replacer:1 3,4,5 torn"
   pub snap : line_text (event.Snap 1 Whole) ≡ codes "snap replica:1"

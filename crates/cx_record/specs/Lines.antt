@@ -8,8 +8,8 @@ use Rattle.cx_base.specs.declared.event.Cut.TheVariants.{Whole, Torn, Kept}
 use Rattle.cx_base.specs.declared.event.Event.{Event}
 use Rattle.cx_base.specs.declared.event.Event.TheVariants as event
 use Rattle.cx_base.specs.declared.event.Order.{Order}
-use Rattle.cx_base.specs.declared.event.Order.TheVariants.{Lead, Change, Collect}
-use Rattle.cx_base.specs.declared.role.Kind.TheVariants.{Batcher, Client, Leader, Reader, Replica}
+use Rattle.cx_base.specs.declared.event.Order.TheVariants.{Lead, Change, Collect, Replace}
+use Rattle.cx_base.specs.declared.role.Kind.TheVariants.{Batcher, Client, Leader, Reader, Replica, Replacer}
 use Rattle.cx_base.specs.Grid.{Shape}
 use Rattle.cx_base.specs.Role.{role, role_text}
 use Rattle.cx_script.specs.Unended.{lines_text}
@@ -36,11 +36,12 @@ cut_words Kept = codes "kept" ∷ []
 abbrev pub round_words : ℕ → Shape → Cut → List (List ℕ)
 round_words leader grid cut = role_text (role Leader leader) ∷ sides_text grid ∷ ids_text grid.members ∷ cut_words cut
 
--- an order to collect has no word for a cut
+-- an order to collect has no word for a cut; no schedule has a leader ordered to replace matchmakers
 abbrev pub order_words : ℕ → Order → Cut → List (List ℕ)
 order_words leader (Lead grid) cut = codes "lead" ∷ round_words leader grid cut
 order_words leader (Change grid) cut = codes "change" ∷ round_words leader grid cut
 order_words leader Collect cut = codes "collect" ∷ role_text (role Leader leader) ∷ []
+order_words leader (Replace set) cut = codes "replace" ∷ role_text (role Leader leader) ∷ ids_text set ∷ cut_words cut
 
 -- the words of the line that spells an event
 abbrev pub line_words : Event → List (List ℕ)
@@ -53,6 +54,7 @@ line_words (event.Session client seq floor replica key) =
 line_words (event.Deliver number cut) = codes "deliver" ∷ decimal number ∷ cut_words cut
 line_words (event.Tick r) = codes "tick" ∷ role_text r ∷ []
 line_words (event.Order leader order cut) = order_words leader order cut
+line_words (event.Replace replacer set cut) = codes "replace" ∷ role_text (role Replacer replacer) ∷ ids_text set ∷ cut_words cut
 line_words (event.Snap replica cut) = codes "snap" ∷ role_text (role Replica replica) ∷ cut_words cut
 line_words (event.Crash r) = codes "crash" ∷ role_text r ∷ []
 line_words (event.Restart r) = codes "restart" ∷ role_text r ∷ []

@@ -8,7 +8,7 @@ use Rattle.cx_base.specs.declared.event.Cut.TheVariants.{Torn, Kept}
 use Rattle.cx_base.specs.declared.event.Event.{Event}
 use Rattle.cx_base.specs.declared.event.Event.TheVariants as event
 use Rattle.cx_base.specs.declared.event.Order.{Order}
-use Rattle.cx_base.specs.declared.event.Order.TheVariants.{Lead, Change, Collect}
+use Rattle.cx_base.specs.declared.event.Order.TheVariants.{Lead, Change, Collect, Replace}
 use Rattle.cx_base.specs.Grid.{IsGrid}
 use Rattle.cx_base.specs.Name.{IsName}
 use Rattle.cx_script.specs.Lines.{schedule_of}
@@ -25,6 +25,7 @@ abbrev pub HasGrid : Order → Type 0
 HasGrid (Lead grid) = IsGrid grid
 HasGrid (Change grid) = IsGrid grid
 HasGrid Collect = Unit {0}
+HasGrid (Replace set) = Unit {0}
 
 abbrev pub HasRanges : Event → Type 0
 HasRanges (event.Write command batcher) = (command.seq < 2 ^ 64) × HasNames command.op
@@ -33,6 +34,7 @@ HasRanges (event.Session client seq floor replica key) = (seq < 2 ^ 64) × IsNam
 HasRanges (event.Deliver number cut) = number < 2 ^ 64
 HasRanges (event.Tick r) = Unit {0}
 HasRanges (event.Order leader order cut) = HasGrid order
+HasRanges (event.Replace replacer set cut) = Unit {0}
 HasRanges (event.Snap replica cut) = Unit {0}
 HasRanges (event.Crash r) = Unit {0}
 HasRanges (event.Restart r) = Unit {0}

@@ -2,7 +2,7 @@
 
 ghost use Rattle.cx_record.specs.Examples.{Worked};
 
-/// The lines of seven events.
+/// The lines of eight events.
 pub fn worked()
     ensures { Worked }
 {}

@@ -7,7 +7,7 @@ ghost use Rattle.cx_base.specs.Role.{role, role_text};
 ghost use Rattle.cx_record.specs.Lines.{cut_words, ids_text, line_text, line_words, op_words, order_words, round_words, sides_text};
 ghost use Rattle.cx_record.specs.Pieces.{behind_each, in_row};
 
-use cx_base::{Command, Cut, Event, Grid, Key, Kind, NoMemory, Op, Order, RoleId};
+use cx_base::{Command, Cut, Event, Grid, Key, Kind, NoMemory, Op, Order, RoleId, Set};
 use cx_trace::{put, put_number, put_request, put_role_at, undo_part};
 
 // A word, behind a blank.
@@ -96,6 +96,15 @@ fn put_ids(text: &mut Vec<u8>, ids: &[u16]) -> Result<(), NoMemory>
     }
 }
 
+// Ids in a word, behind a blank.
+fn put_ids_word(text: &mut Vec<u8>, ids: &[u16]) -> Result<(), NoMemory>
+    ensures ok { OnOk result (text.new.items ≡ text.old.items ++ behind_each 32 (ids_text ids.now ∷ [])) }
+    ensures err { OnErr result (take (length text.old.items) text.new.items ≡ text.old.items) }
+{
+    put(text, b" ")?;
+    put_ids(text, ids)
+}
+
 #[tactic(auto, using(crate::proofs::Rows::in_row_is))]
 fn put_sides(text: &mut Vec<u8>, grid: &Grid) -> Result<(), NoMemory>
     ensures ok { OnOk result (text.new.items ≡ text.old.items ++ sides_text grid.now) }
@@ -128,6 +137,24 @@ fn put_round(text: &mut Vec<u8>, leader: u16, grid: &Grid, cut: Cut) -> Result<(
     put_cut(text, cut)
 }
 
+// That a role is ordered to replace the matchmakers by a set.
+fn put_replace(
+    text: &mut Vec<u8>,
+    kind: Kind,
+    index: u16,
+    set: &Set,
+    cut: Cut,
+) -> Result<(), NoMemory>
+    ensures ok { OnOk result (text.new.items ≡ text.old.items
+        ++ in_row 32 (codes "replace" ∷ role_text (role kind index) ∷ ids_text set.now ∷ cut_words cut)) }
+    ensures err { OnErr result (take (length text.old.items) text.new.items ≡ text.old.items) }
+{
+    put(text, b"replace")?;
+    put_role_word(text, kind, index)?;
+    put_ids_word(text, set.ids())?;
+    put_cut(text, cut)
+}
+
 fn put_order(text: &mut Vec<u8>, leader: u16, order: &Order, cut: Cut) -> Result<(), NoMemory>
     ensures ok { OnOk result (text.new.items
         ≡ text.old.items ++ in_row 32 (order_words leader order.now cut)) }
@@ -146,6 +173,7 @@ fn put_order(text: &mut Vec<u8>, leader: u16, order: &Order, cut: Cut) -> Result
             put(text, b"collect")?;
             put_role_word(text, Kind::Leader, leader)
         }
+        Order::Replace(set) => put_replace(text, Kind::Leader, leader, set, cut),
     }
 }
 
@@ -218,6 +246,9 @@ fn put_words(text: &mut Vec<u8>, event: &Event) -> Result<(), NoMemory>
         }
         Event::Tick(role) => put_verb(text, b"tick", *role),
         Event::Order { leader, order, cut } => put_order(text, *leader, order, *cut),
+        Event::Replace { replacer, set, cut } => {
+            put_replace(text, Kind::Replacer, *replacer, set, *cut)
+        }
         Event::Snap { replica, cut } => {
             put(text, b"snap")?;
             put_role_word(text, Kind::Replica, *replica)?;

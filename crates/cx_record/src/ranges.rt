@@ -30,7 +30,7 @@ fn order_fits(order: &Order)
         Order::Lead(grid) | Order::Change(grid) => {
             let _members = grid.members();
         }
-        Order::Collect => {}
+        Order::Collect | Order::Replace(_) => {}
     }
 }
 
@@ -49,6 +49,10 @@ pub fn event_fits(event: &Event)
         }
         Event::Deliver { number, .. } => number_fits(*number),
         Event::Order { order, .. } => order_fits(order),
-        Event::Tick(_) | Event::Snap { .. } | Event::Crash(_) | Event::Restart(_) => {}
+        Event::Tick(_)
+        | Event::Replace { .. }
+        | Event::Snap { .. }
+        | Event::Crash(_)
+        | Event::Restart(_) => {}
     }
 }

@@ -21,5 +21,6 @@ returns c =
       lead = rw (zero, one, two, three) refl;
       change = rw (zero, one, two, four, five) refl;
       collect = rw zero refl;
+      replace = rw (one, three, four, five) refl;
       snap = rw one refl;
     }
