@@ -11,6 +11,7 @@ use Rattle.cx_base.specs.declared.event.Cut.{Cut}
 use Rattle.cx_base.specs.declared.event.Cut.TheVariants.{Whole, Torn, Kept}
 use Rattle.cx_base.specs.declared.event.Event.{Event}
 use Rattle.cx_base.specs.declared.event.Event.TheVariants as event
+use Rattle.cx_base.specs.declared.event.Order.TheVariants as order
 use Rattle.cx_base.specs.declared.role.Kind.{Kind}
 use Rattle.cx_base.specs.declared.role.Kind.TheVariants as kind
 use Rattle.cx_base.specs.declared.role.RoleId.{RoleId}
@@ -24,6 +25,7 @@ use Rattle.cx_model.specs.Member.{Member}
 use Rattle.cx_model.specs.Outcome.{Outcome}
 use Rattle.cx_model.specs.Proxy.{proxy_rules}
 use Rattle.cx_model.specs.Reader.{reader_rules}
+use Rattle.cx_model.specs.Replacer.{replacer_rules}
 use Rattle.cx_model.specs.Replica.{ReplicaDurable, held, notes_of, pieces, replica_renewed, replica_rules}
 use Rattle.cx_model.specs.Rules.{Rules, folded}
 use Rattle.cx_model.specs.Turn.{snap_turn, turn, turn_with}
@@ -133,6 +135,7 @@ cut_act c roles kept i to me what kind.Matchmaker h = cut_at matchmaker_rules c 
 cut_act c roles kept i to me what kind.Replica h = cut_at replica_rules c to me what kept i roles.replicas h
 cut_act c roles kept i to me what kind.Unbatcher h = cut_at unbatcher_rules c to me what kept i roles.unbatchers h
 cut_act c roles kept i to me what kind.Reader h = cut_at reader_rules c to me what kept i roles.readers h
+cut_act c roles kept i to me what kind.Replacer h = cut_at replacer_rules c to me what kept i roles.replacers h
 
 cut_come : (w : World) (me : RoleId) (what : Written) (o : Option Letter)
     → (come w Whole o).kept ≡ kept_by me (Some what)
@@ -146,6 +149,8 @@ pub cut_change : (w : World) (e : Event) (me : RoleId) (what : Written) → MayC
 cut_change w (event.Deliver n cut) me what may h = cut_come w me what (slice_get w.sent n) h
 cut_change w (event.Order l order cut) me what may h =
     cut_act w.cluster w.roles w.kept (input.Order order) (role kind.Leader l) me what kind.Leader h
+cut_change w (event.Replace x set cut) me what may h =
+    cut_act w.cluster w.roles w.kept (input.Order (order.Replace set)) (role kind.Replacer x) me what kind.Replacer h
 cut_change w (event.Snap p cut) me what may h =
     let to = role kind.Replica p in
     cut_found replica_rules w.cluster to me what w.kept Snap
@@ -175,6 +180,7 @@ stored_record me r ks kind.Matchmaker is = list_own matchmaker_rules me ks (Some
 stored_record me r ks kind.Replica is = list_own replica_rules me ks (Some (written.Record r))
 stored_record me r ks kind.Unbatcher is = list_own unbatcher_rules me ks (Some (written.Record r))
 stored_record me r ks kind.Reader is = list_own reader_rules me ks (Some (written.Record r))
+stored_record me r ks kind.Replacer is = list_own replacer_rules me ks (Some (written.Record r))
 
 stored_next : (me : RoleId) (what : Written) (ks : List KeptRecord) (k : Kind) → IsWriter k what
     → stored_as me (ks ++ kept_by me (Some what)) k
@@ -199,6 +205,10 @@ own_tag k (kept_record.Match i g) is = subst (λ (own : Kind). may_keep (Some ow
 own_tag k (kept_record.Garbage i g) is = subst (λ (own : Kind). may_keep (Some own) 5 ≡ true) (sym is) refl
 own_tag k (kept_record.Round i g) is = subst (λ (own : Kind). may_keep (Some own) 6 ≡ true) (sym is) refl
 own_tag k (kept_record.Log values) is = subst (λ (own : Kind). may_keep (Some own) 7 ≡ true) (sym is) refl
+own_tag k (kept_record.Ballot b) is = subst (λ (own : Kind). may_keep (Some own) 12 ≡ true) (sym is) refl
+own_tag k (kept_record.Stop b) is = subst (λ (own : Kind). may_keep (Some own) 13 ≡ true) (sym is) refl
+own_tag k (kept_record.Next b s) is = subst (λ (own : Kind). may_keep (Some own) 14 ≡ true) (sym is) refl
+own_tag k (kept_record.Boot s w es) is = subst (λ (own : Kind). may_keep (Some own) 15 ≡ true) (sym is) refl
 own_tag k (kept_record.Turn n) is = subst (λ (own : Kind). may_keep (Some own) 16 ≡ true) (sym is) refl
 own_tag k other is = cc
 
@@ -260,6 +270,7 @@ stored_tagged me ks are kind.Matchmaker = tagged_from matchmaker_rules me (λ d 
 stored_tagged me ks are kind.Replica = tagged_from replica_rules me (as_replica me) [] ks are refl
 stored_tagged me ks are kind.Unbatcher = tagged_from unbatcher_rules me (λ d first is. refl) [] ks are refl
 stored_tagged me ks are kind.Reader = tagged_from reader_rules me (λ d first is. refl) [] ks are refl
+stored_tagged me ks are kind.Replacer = tagged_from replacer_rules me (λ d first is. refl) [] ks are refl
 
 -- so it may have the list, where the fields of its records are in their ranges
 own_kept : (k : Kind) (rs : List Record) → are_tagged k rs ≡ true → all_kept_by None rs ≡ true → all_kept_by (Some k) rs ≡ true

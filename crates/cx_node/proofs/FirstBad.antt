@@ -7,7 +7,7 @@ use Rattle.cx_base.specs.declared.cluster.Cluster.{Cluster}
 use Rattle.cx_base.specs.declared.event.Event.{Event}
 use Rattle.cx_base.specs.declared.role.Kind.{Kind}
 use Rattle.cx_base.specs.declared.role.Kind.TheVariants.{Client, Batcher, Leader, Proxy, Acceptor, Matchmaker}
-use Rattle.cx_base.specs.declared.role.Kind.TheVariants.{Replica, Unbatcher, Reader}
+use Rattle.cx_base.specs.declared.role.Kind.TheVariants.{Replica, Unbatcher, Reader, Replacer}
 use Rattle.cx_base.specs.declared.role.RoleId.{RoleId}
 use Rattle.cx_journal.specs.Files.{Files, front_in}
 use Rattle.cx_journal.specs.Image.{Image}
@@ -18,6 +18,7 @@ use Rattle.cx_model.specs.Acceptor.{acceptor_rules}
 use Rattle.cx_model.specs.Leader.{leader_rules}
 use Rattle.cx_model.specs.Matchmaker.{matchmaker_rules}
 use Rattle.cx_model.specs.Reader.{reader_rules}
+use Rattle.cx_model.specs.Replacer.{replacer_rules}
 use Rattle.cx_model.specs.Replica.{replica_rules}
 use Rattle.cx_model.specs.Rules.{Rules, refused}
 use Rattle.cx_msg.specs.declared.kept.Record.{Record}
@@ -59,6 +60,7 @@ bad_as_once c me files a b Matchmaker p q = bad_once matchmaker_rules c me files
 bad_as_once c me files a b Replica p q = bad_once replica_rules c me files a b p q
 bad_as_once c me files a b Unbatcher p q = absurd p
 bad_as_once c me files a b Reader p q = bad_once reader_rules c me files a b p q
+bad_as_once c me files a b Replacer p q = bad_once replacer_rules c me files a b p q
 
 -- ---- one role
 

@@ -50,6 +50,9 @@ asks_none gives (guest.Replica role keeper) Snap o b fails = refl
 asks_none gives (guest.Reader role keeper) Begin o b fails = refl
 asks_none gives (guest.Reader role keeper) (Give n i) o b fails = refl
 asks_none gives (guest.Reader role keeper) Snap o b fails = refl
+asks_none gives (guest.Replacer role keeper) Begin o b fails = refl
+asks_none gives (guest.Replacer role keeper) (Give n i) o b fails = refl
+asks_none gives (guest.Replacer role keeper) Snap o b fails = refl
 
 -- so its own lines are all
 pub own_is_all : {K : Type 0} (gives : Changing K) (h : Guest K) (what : Doing) (o : Option Change) (b : Option K)

@@ -6,7 +6,7 @@ use Rattle.cx_base.specs.declared.cluster.Cluster.{Cluster}
 use Rattle.cx_base.specs.declared.event.Event.{Event}
 use Rattle.cx_base.specs.declared.role.Kind.{Kind}
 use Rattle.cx_base.specs.declared.role.Kind.TheVariants.{Client, Batcher, Leader, Proxy, Acceptor, Matchmaker}
-use Rattle.cx_base.specs.declared.role.Kind.TheVariants.{Replica, Unbatcher, Reader}
+use Rattle.cx_base.specs.declared.role.Kind.TheVariants.{Replica, Unbatcher, Reader, Replacer}
 use Rattle.cx_base.specs.declared.role.RoleId.{RoleId}
 use Rattle.cx_base.specs.Role.{role as a_role}
 use Rattle.cx_client.specs.Client.{IsClient, client_opened}
@@ -25,6 +25,7 @@ use Rattle.cx_model.specs.Matchmaker.{matchmaker_rules}
 use Rattle.cx_model.specs.Member.{Member}
 use Rattle.cx_model.specs.Names.{names_role}
 use Rattle.cx_model.specs.Reader.{reader_rules}
+use Rattle.cx_model.specs.Replacer.{replacer_rules}
 use Rattle.cx_model.specs.Replica.{replica_rules}
 use Rattle.cx_model.specs.Rules.{Rules, opened}
 use Rattle.cx_msg.specs.declared.kept.Record.{Record}
@@ -73,6 +74,7 @@ module _ (c : Cluster) (window : ℕ) (events : List Event) (scripts : (client :
   is_fresh me records Replica kind named none = role_fresh replica_rules me records (none refl) kind named
   is_fresh me records Unbatcher kind named none = record { opened = refl; kind_is = kind; named = named }
   is_fresh me records Reader kind named none = role_fresh reader_rules me records (none refl) kind named
+  is_fresh me records Replacer kind named none = role_fresh replacer_rules me records (none refl) kind named
 
   -- all of them
   pub are_fresh : (told : RoleId → List Record) (roles : List RoleId) → AreDistinct (hosts c window events told roles)

@@ -17,6 +17,7 @@ named_itself me (guest.Matchmaker role keeper) is = ap (λ m. guest.Matchmaker (
 named_itself me (guest.Replica role keeper) is = ap (λ m. guest.Replica (record role { me = m }) keeper) is
 named_itself me (guest.Unbatcher role) is = ap (λ m. guest.Unbatcher (record role { me = m })) is
 named_itself me (guest.Reader role keeper) is = ap (λ m. guest.Reader (record role { me = m }) keeper) is
+named_itself me (guest.Replacer role keeper) is = ap (λ m. guest.Replacer (record role { me = m }) keeper) is
 
 pub keeper_named : {K : Type 0} (me : RoleId) (h : Guest K) → keeper_of (named me h) ≡ keeper_of h
 keeper_named me (guest.Client role) = refl
@@ -28,6 +29,7 @@ keeper_named me (guest.Matchmaker role keeper) = refl
 keeper_named me (guest.Replica role keeper) = refl
 keeper_named me (guest.Unbatcher role) = refl
 keeper_named me (guest.Reader role keeper) = refl
+keeper_named me (guest.Replacer role keeper) = refl
 
 live_named : {K : Type 0} (me : RoleId) (h : Guest K) → is_live (hosted_of (named me h)) ≡ is_live (hosted_of h)
 live_named me (guest.Client role) = refl
@@ -39,6 +41,7 @@ live_named me (guest.Matchmaker role keeper) = refl
 live_named me (guest.Replica role keeper) = refl
 live_named me (guest.Unbatcher role) = refl
 live_named me (guest.Reader role keeper) = refl
+live_named me (guest.Replacer role keeper) = refl
 
 -- a seat's role that may take a step has the seat's name, and is what the seat shows
 pub own_name : {K : Type 0} (me : RoleId) (h self : Guest K) → IsNamed me h → named me h ≡ self

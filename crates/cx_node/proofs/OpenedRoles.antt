@@ -8,7 +8,7 @@ use Rattle.cx_base.specs.declared.cluster.Cluster.{Cluster}
 use Rattle.cx_base.specs.declared.event.Event.{Event}
 use Rattle.cx_base.specs.declared.role.Kind.{Kind}
 use Rattle.cx_base.specs.declared.role.Kind.TheVariants.{Client, Batcher, Leader, Proxy, Acceptor, Matchmaker}
-use Rattle.cx_base.specs.declared.role.Kind.TheVariants.{Replica, Unbatcher, Reader}
+use Rattle.cx_base.specs.declared.role.Kind.TheVariants.{Replica, Unbatcher, Reader, Replacer}
 use Rattle.cx_base.specs.declared.role.RoleId.{RoleId}
 use Rattle.cx_base.specs.Role.{same_role}
 use Rattle.cx_inv_open.specs.Reopened.{refused_as}
@@ -23,6 +23,7 @@ use Rattle.cx_model.specs.Lists.{by_role, differ_role, same_role-itself}
 use Rattle.cx_model.specs.Matchmaker.{matchmaker_rules}
 use Rattle.cx_model.specs.Names.{names_role}
 use Rattle.cx_model.specs.Reader.{reader_rules}
+use Rattle.cx_model.specs.Replacer.{replacer_rules}
 use Rattle.cx_model.specs.Replica.{replica_rules}
 use Rattle.cx_model.specs.Rules.{Rules, refused}
 use Rattle.cx_msg.specs.declared.kept.Record.{Record}
@@ -65,7 +66,7 @@ all_named p (y ∷ ys) all (suc i) x e = all_named p ys (both_so (p y) (list_all
 
 -- ---- one role
 
-name_opened : (c : Cluster) (window : ℕ) (events : List Event) (me : RoleId) (records : List Record) (k : Kind)
+pub name_opened : (c : Cluster) (window : ℕ) (events : List Event) (me : RoleId) (records : List Record) (k : Kind)
     → name_of (opened_as c window events me records k) ≡ me
 name_opened c window events me records Client = refl
 name_opened c window events me records Batcher = refl
@@ -76,6 +77,7 @@ name_opened c window events me records Matchmaker = refl
 name_opened c window events me records Replica = refl
 name_opened c window events me records Unbatcher = refl
 name_opened c window events me records Reader = refl
+name_opened c window events me records Replacer = refl
 
 live_opened : (c : Cluster) (window : ℕ) (events : List Event) (me : RoleId) (records : List Record) (k : Kind)
     → is_live (opened_as c window events me records k) ≡ true
@@ -88,6 +90,7 @@ live_opened c window events me records Matchmaker = refl
 live_opened c window events me records Replica = refl
 live_opened c window events me records Unbatcher = refl
 live_opened c window events me records Reader = refl
+live_opened c window events me records Replacer = refl
 
 kind_opened : (c : Cluster) (window : ℕ) (events : List Event) (me : RoleId) (records : List Record) (k : Kind)
     → kind_at (opened_as c window events me records k) ≡ k
@@ -100,6 +103,7 @@ kind_opened c window events me records Matchmaker = refl
 kind_opened c window events me records Replica = refl
 kind_opened c window events me records Unbatcher = refl
 kind_opened c window events me records Reader = refl
+kind_opened c window events me records Replacer = refl
 
 -- ---- stores of their own
 
@@ -136,6 +140,8 @@ good_as c me files records at Replica read accepted bad =
 good_as c me files records at Unbatcher read accepted bad = bad
 good_as c me files records at Reader read accepted bad =
     good_store reader_rules c me files records at (read refl) accepted bad
+good_as c me files records at Replacer read accepted bad =
+    good_store replacer_rules c me files records at (read refl) accepted bad
 
 module _ {D : Type 0} (seen : D → Option (List ℕ)) (disk_faults : D → ℕ) (tells second : Bool) where
   has_store : (records : List Record) (b : Bool) (o : Option (Store D)) → b ≡ true

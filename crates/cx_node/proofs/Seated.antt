@@ -23,6 +23,7 @@ use Rattle.cx_model.specs.Matchmaker.{matchmaker_rules}
 use Rattle.cx_model.specs.Names.{names_role}
 use Rattle.cx_model.specs.Proxy.{proxy_rules}
 use Rattle.cx_model.specs.Reader.{reader_rules}
+use Rattle.cx_model.specs.Replacer.{replacer_rules}
 use Rattle.cx_model.specs.Replica.{ReplicaDurable, ReplicaVolatile, replica_renewed, replica_rules}
 use Rattle.cx_model.specs.Rules.{Rules, Running, outcome_of}
 use Rattle.cx_model.specs.Unbatcher.{unbatcher_rules}
@@ -45,7 +46,7 @@ use Rattle.cx_course.specs.Alike.{AreDistinct}
 use Rattle.cx_node.specs.Guest.{AreReady, FailsIn, Grows, GuestGrows, IsReady, Rests, hosted_in}
 use Rattle.cx_node.specs.Guest.{hosted_of, keeper_of, who}
 use Rattle.cx_course.specs.Hosted.{Hosted, Step, ClientAt, BatcherAt, LeaderAt, ProxyAt, AcceptorAt, MatchmakerAt}
-use Rattle.cx_course.specs.Hosted.{ReplicaAt, UnbatcherAt, ReaderAt, does, is_live, kind_at, name_of, snap_of}
+use Rattle.cx_course.specs.Hosted.{ReplicaAt, UnbatcherAt, ReaderAt, ReplacerAt, does, is_live, kind_at, name_of, snap_of}
 use Rattle.cx_course.specs.Course.{Course, Moved, does_at, fits, found_does, made, made_if, seen, step_events}
 use Rattle.cx_node.specs.Noting.{counting, noting, shown}
 use Rattle.cx_record.specs.Lines.{events_text}
@@ -79,6 +80,7 @@ kept_own (MatchmakerAt s) Begin me e = refl
 kept_own (ReplicaAt s) Begin me e = refl
 kept_own (UnbatcherAt s) Begin me e = refl
 kept_own (ReaderAt s) Begin me e = refl
+kept_own (ReplacerAt s) Begin me e = refl
 kept_own (ClientAt s) (Give n (input.Take d)) me e = refl
 kept_own (ClientAt s) (Give n input.Tick) me e = refl
 kept_own (ClientAt s) (Give n (input.Order order)) me e = refl
@@ -90,6 +92,7 @@ kept_own (MatchmakerAt s) (Give n i) me e = other_kept me s.me (appended matchma
 kept_own (ReplicaAt s) (Give n i) me e = other_kept me s.me (appended replica_rules s i) e
 kept_own (UnbatcherAt s) (Give n i) me e = other_kept me s.me (appended unbatcher_rules s i) e
 kept_own (ReaderAt s) (Give n i) me e = other_kept me s.me (appended reader_rules s i) e
+kept_own (ReplacerAt s) (Give n i) me e = other_kept me s.me (appended replacer_rules s i) e
 kept_own (ClientAt s) Snap me e = refl
 kept_own (BatcherAt s) Snap me e = refl
 kept_own (LeaderAt s) Snap me e = refl
@@ -99,6 +102,7 @@ kept_own (MatchmakerAt s) Snap me e = refl
 kept_own (ReplicaAt s) Snap me e = other_kept me s.me (renewed s) e
 kept_own (UnbatcherAt s) Snap me e = refl
 kept_own (ReaderAt s) Snap me e = refl
+kept_own (ReplacerAt s) Snap me e = refl
 
 -- the change that a step makes is its first action
 first_of : (me : RoleId) (o : Option Change) (r : Change) (more : List Action)
@@ -124,6 +128,7 @@ kept_first (MatchmakerAt s) Begin r more e = absurd (none-some r e)
 kept_first (ReplicaAt s) Begin r more e = absurd (none-some r e)
 kept_first (UnbatcherAt s) Begin r more e = absurd (none-some r e)
 kept_first (ReaderAt s) Begin r more e = absurd (none-some r e)
+kept_first (ReplacerAt s) Begin r more e = absurd (none-some r e)
 kept_first (ClientAt s) (Give n (input.Take d)) r more e = absurd (none-some r e)
 kept_first (ClientAt s) (Give n input.Tick) r more e = absurd (none-some r e)
 kept_first (ClientAt s) (Give n (input.Order order)) r more e = absurd (none-some r e)
@@ -135,6 +140,7 @@ kept_first (MatchmakerAt s) (Give n i) r more e = first_of s.me (appended matchm
 kept_first (ReplicaAt s) (Give n i) r more e = first_of s.me (appended replica_rules s i) r more e
 kept_first (UnbatcherAt s) (Give n i) r more e = first_of s.me (appended unbatcher_rules s i) r more e
 kept_first (ReaderAt s) (Give n i) r more e = first_of s.me (appended reader_rules s i) r more e
+kept_first (ReplacerAt s) (Give n i) r more e = first_of s.me (appended replacer_rules s i) r more e
 kept_first (ClientAt s) Snap r more e = absurd (none-some r e)
 kept_first (BatcherAt s) Snap r more e = absurd (none-some r e)
 kept_first (LeaderAt s) Snap r more e = absurd (none-some r e)
@@ -144,6 +150,7 @@ kept_first (MatchmakerAt s) Snap r more e = absurd (none-some r e)
 kept_first (ReplicaAt s) Snap r more e = first_of s.me (renewed s) r more e
 kept_first (UnbatcherAt s) Snap r more e = absurd (none-some r e)
 kept_first (ReaderAt s) Snap r more e = absurd (none-some r e)
+kept_first (ReplacerAt s) Snap r more e = absurd (none-some r e)
 
 -- what a role does leaves it of its kind
 kind_stays : (h : Hosted) (what : Doing) → kind_at (does h what).next ≡ kind_at h
@@ -157,6 +164,7 @@ kind_stays (MatchmakerAt s) Begin = refl
 kind_stays (ReplicaAt s) Begin = refl
 kind_stays (UnbatcherAt s) Begin = refl
 kind_stays (ReaderAt s) Begin = refl
+kind_stays (ReplacerAt s) Begin = refl
 kind_stays (ClientAt s) (Give n (input.Take d)) = refl
 kind_stays (ClientAt s) (Give n input.Tick) = refl
 kind_stays (ClientAt s) (Give n (input.Order order)) = refl
@@ -168,6 +176,7 @@ kind_stays (MatchmakerAt s) (Give n i) = refl
 kind_stays (ReplicaAt s) (Give n i) = refl
 kind_stays (UnbatcherAt s) (Give n i) = refl
 kind_stays (ReaderAt s) (Give n i) = refl
+kind_stays (ReplacerAt s) (Give n i) = refl
 kind_stays (ClientAt s) Snap = refl
 kind_stays (BatcherAt s) Snap = refl
 kind_stays (LeaderAt s) Snap = refl
@@ -177,6 +186,7 @@ kind_stays (MatchmakerAt s) Snap = refl
 kind_stays (ReplicaAt s) Snap = refl
 kind_stays (UnbatcherAt s) Snap = refl
 kind_stays (ReaderAt s) Snap = refl
+kind_stays (ReplacerAt s) Snap = refl
 
 -- only a replica puts its list anew
 no_renewal : (me : RoleId) (o : Option Record) (records : List Record)
@@ -201,6 +211,7 @@ renewed_by (AcceptorAt s) Begin records e = absurd (none-some (Renewal records) 
 renewed_by (MatchmakerAt s) Begin records e = absurd (none-some (Renewal records) e)
 renewed_by (UnbatcherAt s) Begin records e = absurd (none-some (Renewal records) e)
 renewed_by (ReaderAt s) Begin records e = absurd (none-some (Renewal records) e)
+renewed_by (ReplacerAt s) Begin records e = absurd (none-some (Renewal records) e)
 renewed_by (ReplicaAt s) what records e = refl
 renewed_by (ClientAt s) (Give n (input.Take d)) records e = absurd (none-some (Renewal records) e)
 renewed_by (ClientAt s) (Give n input.Tick) records e = absurd (none-some (Renewal records) e)
@@ -212,6 +223,7 @@ renewed_by (AcceptorAt s) (Give n i) records e = absurd (no_renewal s.me (outcom
 renewed_by (MatchmakerAt s) (Give n i) records e = absurd (no_renewal s.me (outcome_of matchmaker_rules s i).kept records e)
 renewed_by (UnbatcherAt s) (Give n i) records e = absurd (no_renewal s.me (outcome_of unbatcher_rules s i).kept records e)
 renewed_by (ReaderAt s) (Give n i) records e = absurd (no_renewal s.me (outcome_of reader_rules s i).kept records e)
+renewed_by (ReplacerAt s) (Give n i) records e = absurd (no_renewal s.me (outcome_of replacer_rules s i).kept records e)
 renewed_by (ClientAt s) Snap records e = absurd (none-some (Renewal records) e)
 renewed_by (BatcherAt s) Snap records e = absurd (none-some (Renewal records) e)
 renewed_by (LeaderAt s) Snap records e = absurd (none-some (Renewal records) e)
@@ -220,6 +232,7 @@ renewed_by (AcceptorAt s) Snap records e = absurd (none-some (Renewal records) e
 renewed_by (MatchmakerAt s) Snap records e = absurd (none-some (Renewal records) e)
 renewed_by (UnbatcherAt s) Snap records e = absurd (none-some (Renewal records) e)
 renewed_by (ReaderAt s) Snap records e = absurd (none-some (Renewal records) e)
+renewed_by (ReplacerAt s) Snap records e = absurd (none-some (Renewal records) e)
 
 -- what failed was some change
 fails_some : {K : Type 0} (gives : Changing K) (o : Option Change) (a b : Option K) → FailsIn gives o a b

@@ -17,7 +17,7 @@ use Rattle.cx_node.specs.Changing.{Changing, Refuses}
 use Rattle.cx_node.specs.declared.guest.Guest.{Guest}
 use Rattle.cx_node.specs.declared.guest.Guest.TheVariants as guest
 use Rattle.cx_course.specs.Hosted.{Hosted, ClientAt, BatcherAt, LeaderAt, ProxyAt, AcceptorAt, MatchmakerAt, ReplicaAt}
-use Rattle.cx_course.specs.Hosted.{UnbatcherAt, ReaderAt, Step, is_live, kind_at, name_of}
+use Rattle.cx_course.specs.Hosted.{UnbatcherAt, ReaderAt, ReplacerAt, Step, is_live, kind_at, name_of}
 
 -- the hosted role
 abbrev pub hosted_of : {K : Type 0} → Guest K → Hosted
@@ -30,6 +30,7 @@ hosted_of (guest.Matchmaker role keeper) = MatchmakerAt role
 hosted_of (guest.Replica role keeper) = ReplicaAt role
 hosted_of (guest.Unbatcher role) = UnbatcherAt role
 hosted_of (guest.Reader role keeper) = ReaderAt role
+hosted_of (guest.Replacer role keeper) = ReplacerAt role
 
 -- the keeper of its records, where it has any
 abbrev pub keeper_of : {K : Type 0} → Guest K → Option K
@@ -42,6 +43,7 @@ keeper_of (guest.Matchmaker role keeper) = Some keeper
 keeper_of (guest.Replica role keeper) = Some keeper
 keeper_of (guest.Unbatcher role) = None
 keeper_of (guest.Reader role keeper) = Some keeper
+keeper_of (guest.Replacer role keeper) = Some keeper
 
 abbrev pub hosted_in : {K : Type 0} → List (Guest K) → List Hosted
 hosted_in guests = map hosted_of guests

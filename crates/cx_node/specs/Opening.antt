@@ -22,6 +22,7 @@ use Rattle.cx_model.specs.Leader.{leader_rules}
 use Rattle.cx_model.specs.Matchmaker.{matchmaker_rules}
 use Rattle.cx_model.specs.Proxy.{proxy_rules}
 use Rattle.cx_model.specs.Reader.{reader_rules}
+use Rattle.cx_model.specs.Replacer.{replacer_rules}
 use Rattle.cx_model.specs.Replica.{replica_rules}
 use Rattle.cx_model.specs.Rules.{opened}
 use Rattle.cx_model.specs.Unbatcher.{unbatcher_rules}
@@ -34,7 +35,7 @@ use Rattle.cx_node.specs.declared.waking.WakeStop.{WakeStop}
 use Rattle.cx_node.specs.declared.waking.WakeStop.TheVariants as wake_stop
 use Rattle.cx_node.specs.Guest.{hosted_of, keeper_of, who}
 use Rattle.cx_course.specs.Hosted.{Hosted, ClientAt, BatcherAt, LeaderAt, ProxyAt, AcceptorAt, MatchmakerAt, ReplicaAt}
-use Rattle.cx_course.specs.Hosted.{UnbatcherAt, ReaderAt}
+use Rattle.cx_course.specs.Hosted.{UnbatcherAt, ReaderAt, ReplacerAt}
 use Rattle.cx_node.specs.Stores.{Lent, NoneFailed, SameRecords, disks_of, files_of, has_second, is_two, places_of}
 use Rattle.cx_node.specs.Wake.{IsBadStore}
 
@@ -49,6 +50,7 @@ is_durable kind.Matchmaker = true
 is_durable kind.Replica = true
 is_durable kind.Unbatcher = false
 is_durable kind.Reader = true
+is_durable kind.Replacer = true
 
 -- A role of this kind as it is opened: a client with its requests among those of the input, another one from its
 -- records.
@@ -62,6 +64,7 @@ opened_as c window events me records kind.Matchmaker = MatchmakerAt (opened matc
 opened_as c window events me records kind.Replica = ReplicaAt (opened replica_rules c me records)
 opened_as c window events me records kind.Unbatcher = UnbatcherAt (opened unbatcher_rules c me [])
 opened_as c window events me records kind.Reader = ReaderAt (opened reader_rules c me records)
+opened_as c window events me records kind.Replacer = ReplacerAt (opened replacer_rules c me records)
 
 -- the bytes are no store of a role of this kind, for the reason at this place
 abbrev pub IsBadAs : Cluster → RoleId → Files → ℕ → Kind → Type 0
@@ -70,6 +73,7 @@ IsBadAs c me files at kind.Acceptor = IsBadStore acceptor_rules c me files at
 IsBadAs c me files at kind.Matchmaker = IsBadStore matchmaker_rules c me files at
 IsBadAs c me files at kind.Replica = IsBadStore replica_rules c me files at
 IsBadAs c me files at kind.Reader = IsBadStore reader_rules c me files at
+IsBadAs c me files at kind.Replacer = IsBadStore replacer_rules c me files at
 IsBadAs c me files at other = ⊥
 
 -- whether the store of a role that has one has a record

@@ -1,10 +1,10 @@
 -- The port of each role, and what a link is asked to send.
-use Rattle.std.specs.Prelude.{ℕ, ◌+◌, ◌*◌, ◌%◌, List, map, Option, None, Some}
+use Rattle.std.specs.Prelude.{ℕ, ◌+◌, ◌%◌, List, map, Option, None, Some}
 use Rattle.std.specs.List.{filter}
 use Rattle.cx_base.specs.declared.cluster.Cluster.{Cluster}
 use Rattle.cx_base.specs.declared.role.Kind.{Kind}
 use Rattle.cx_base.specs.declared.role.Kind.TheVariants.{Client, Batcher, Leader, Proxy, Acceptor, Matchmaker}
-use Rattle.cx_base.specs.declared.role.Kind.TheVariants.{Replica, Unbatcher, Reader}
+use Rattle.cx_base.specs.declared.role.Kind.TheVariants.{Replica, Unbatcher, Reader, Replacer}
 use Rattle.cx_base.specs.declared.role.RoleId.{RoleId}
 use Rattle.cx_msg.specs.Letter.{Letter, spelling}
 use Rattle.cx_model.specs.Names.{names_role}
@@ -18,10 +18,12 @@ before c Leader = c.clients + c.batchers
 before c Proxy = c.clients + c.batchers + c.leaders
 before c Acceptor = c.clients + c.batchers + c.leaders + c.proxies
 before c Matchmaker = c.clients + c.batchers + c.leaders + c.proxies + c.acceptors
-before c Replica = c.clients + c.batchers + c.leaders + c.proxies + c.acceptors + (2 * c.f + 1)
-before c Unbatcher = c.clients + c.batchers + c.leaders + c.proxies + c.acceptors + (2 * c.f + 1) + c.replicas
+before c Replica = c.clients + c.batchers + c.leaders + c.proxies + c.acceptors + c.pool
+before c Unbatcher = c.clients + c.batchers + c.leaders + c.proxies + c.acceptors + c.pool + c.replicas
 before c Reader =
-    c.clients + c.batchers + c.leaders + c.proxies + c.acceptors + (2 * c.f + 1) + c.replicas + c.unbatchers
+    c.clients + c.batchers + c.leaders + c.proxies + c.acceptors + c.pool + c.replicas + c.unbatchers
+before c Replacer =
+    c.clients + c.batchers + c.leaders + c.proxies + c.acceptors + c.pool + c.replicas + c.unbatchers + c.readers
 
 abbrev pub first_port : Option ℕ → ℕ
 first_port None = 0

@@ -17,6 +17,7 @@ named me (guest.Matchmaker role keeper) = guest.Matchmaker (record role { me = m
 named me (guest.Replica role keeper) = guest.Replica (record role { me = me }) keeper
 named me (guest.Unbatcher role) = guest.Unbatcher (record role { me = me })
 named me (guest.Reader role keeper) = guest.Reader (record role { me = me }) keeper
+named me (guest.Replacer role keeper) = guest.Replacer (record role { me = me }) keeper
 
 -- a role that may take a step has this name
 abbrev pub IsNamed : {K : Type 0} → RoleId → Guest K → Type 0

@@ -19,6 +19,7 @@ use Rattle.cx_node.specs.Stores.{has_second, is_two}
 abbrev pub with_cut : Cut → Event → Event
 with_cut cut (event.Deliver n other) = event.Deliver n cut
 with_cut cut (event.Order l order other) = event.Order l order cut
+with_cut cut (event.Replace x set other) = event.Replace x set cut
 with_cut cut (event.Snap p other) = event.Snap p cut
 with_cut cut (event.Write command batcher) = event.Write command batcher
 with_cut cut (event.Read client seq floor reader replica key) = event.Read client seq floor reader replica key
@@ -31,6 +32,7 @@ with_cut cut (event.Restart r) = event.Restart r
 abbrev pub MayChange : Event → Type 0
 MayChange (event.Deliver n cut) = Unit {0}
 MayChange (event.Order l order cut) = Unit {0}
+MayChange (event.Replace x set cut) = Unit {0}
 MayChange (event.Snap p cut) = Unit {0}
 MayChange (event.Write command batcher) = ⊥
 MayChange (event.Read client seq floor reader replica key) = ⊥

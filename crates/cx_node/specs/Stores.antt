@@ -20,6 +20,7 @@ has_second kind.Matchmaker = false
 has_second kind.Replica = true
 has_second kind.Unbatcher = false
 has_second kind.Reader = false
+has_second kind.Replacer = false
 
 abbrev pub files_by : Bool → List ℕ → List ℕ → Files
 files_by false first second = OneFile first

@@ -7,6 +7,7 @@ use cx_leader::Leader;
 use cx_match::Matchmaker;
 use cx_proxy::Proxy;
 use cx_reader::Reader;
+use cx_replace::Replacer;
 use cx_replica::Replica;
 
 /// A role that a node hosts, by its kind. Those whose records outlive a stop have a keeper.
@@ -21,4 +22,5 @@ pub enum Guest<K> {
     Replica { role: Replica, keeper: K },
     Unbatcher { role: Unbatcher },
     Reader { role: Reader, keeper: K },
+    Replacer { role: Replacer, keeper: K },
 }

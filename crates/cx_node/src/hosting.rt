@@ -13,7 +13,7 @@ ghost use Rattle.cx_node.specs.Input.{are_all, may_host};
 use cx_base::{Cluster, Kind, RoleId, count_of};
 use cx_role::names_role;
 
-const KINDS: [Kind; 9] = [
+const KINDS: [Kind; 10] = [
     Kind::Client,
     Kind::Batcher,
     Kind::Leader,
@@ -23,6 +23,7 @@ const KINDS: [Kind; 9] = [
     Kind::Replica,
     Kind::Unbatcher,
     Kind::Reader,
+    Kind::Replacer,
 ];
 
 // Whether each role is in the cluster.

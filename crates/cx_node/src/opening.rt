@@ -30,6 +30,7 @@ use cx_leader::Leader;
 use cx_match::Matchmaker;
 use cx_proxy::Proxy;
 use cx_reader::Reader;
+use cx_replace::Replacer;
 use cx_replica::Replica;
 use cx_role::Role;
 use cx_script::script;
@@ -225,6 +226,10 @@ fn open_guest<D: Depot>(
         Kind::Reader => {
             let (keeper, role) = open_durable::<D, Reader>(alloc, cluster, me, depot)?;
             Ok(Guest::Reader { role, keeper })
+        }
+        Kind::Replacer => {
+            let (keeper, role) = open_durable::<D, Replacer>(alloc, cluster, me, depot)?;
+            Ok(Guest::Replacer { role, keeper })
         }
     }
 }

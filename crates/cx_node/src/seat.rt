@@ -170,6 +170,7 @@ fn give<K: Renew>(
         Guest::Replica { role, keeper } => step(role, keeper, input, out)?,
         Guest::Unbatcher { role } => step_alone(alloc, role, input, out)?,
         Guest::Reader { role, keeper } => step(role, keeper, input, out)?,
+        Guest::Replacer { role, keeper } => step(role, keeper, input, out)?,
     }
     Ok(())
 }
@@ -212,6 +213,7 @@ fn keeper_in<K>(guest: Guest<K>) -> Option<K>
         Guest::Matchmaker { keeper, .. } => Some(keeper),
         Guest::Replica { keeper, .. } => Some(keeper),
         Guest::Reader { keeper, .. } => Some(keeper),
+        Guest::Replacer { keeper, .. } => Some(keeper),
         _ => None,
     }
 }
@@ -389,6 +391,7 @@ pub fn holds_record<D: Disk>(seat: &Seat<Store<D>>) -> bool
         Guest::Matchmaker { keeper, .. } => !keeper.is_empty(),
         Guest::Replica { keeper, .. } => !keeper.is_empty(),
         Guest::Reader { keeper, .. } => !keeper.is_empty(),
+        Guest::Replacer { keeper, .. } => !keeper.is_empty(),
         _ => false,
     }
 }

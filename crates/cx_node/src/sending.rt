@@ -5,7 +5,7 @@ ghost use Rattle.cx_node.specs.Doing.{Asks, AsksPart};
 ghost use Rattle.cx_node.specs.Noting.{noting};
 ghost use Rattle.cx_node.specs.Ports.{before, port_of};
 
-use cx_base::{Cluster, Kind, NoMemory, RoleId, count_of};
+use cx_base::{Cluster, Kind, NoMemory, RoleId};
 use cx_edge::Link;
 use cx_msg::{Datagram, encode_into};
 use cx_record::Recorder;
@@ -17,7 +17,8 @@ fn before(cluster: &Cluster, kind: Kind) -> u16
     ensures { result ≡ before cluster.now kind }
 {
     let acceptors = cluster.clients + cluster.batchers + cluster.leaders + cluster.proxies;
-    let replicas = acceptors + cluster.acceptors + count_of(cluster, Kind::Matchmaker);
+    let replicas = acceptors + cluster.acceptors + cluster.pool;
+    let readers = replicas + cluster.replicas + cluster.unbatchers;
     match kind {
         Kind::Client => 0,
         Kind::Batcher => cluster.clients,
@@ -27,7 +28,8 @@ fn before(cluster: &Cluster, kind: Kind) -> u16
         Kind::Matchmaker => acceptors + cluster.acceptors,
         Kind::Replica => replicas,
         Kind::Unbatcher => replicas + cluster.replicas,
-        Kind::Reader => replicas + cluster.replicas + cluster.unbatchers,
+        Kind::Reader => readers,
+        Kind::Replacer => readers + cluster.readers,
     }
 }
 

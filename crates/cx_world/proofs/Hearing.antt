@@ -87,6 +87,7 @@ none_at kind.Matchmaker index client m other = refl
 none_at kind.Replica index client m other = refl
 none_at kind.Unbatcher index client m other = refl
 none_at kind.Reader index client m other = refl
+none_at kind.Replacer index client m other = refl
 
 one_at : (k : Kind) (index client m : ℕ) → is_client k ≡ true
     → ◌≡◌ {A = ℕ} (if (code_of k == code_of kind.Client) && (index == client) then m else 0) (if index == client then m else 0)
@@ -99,6 +100,7 @@ one_at kind.Matchmaker index client m is = never is
 one_at kind.Replica index client m is = never is
 one_at kind.Unbatcher index client m is = never is
 one_at kind.Reader index client m is = never is
+one_at kind.Replacer index client m is = never is
 
 pub told_none : (d : Letter) → is_client d.to.kind ≡ false → (client : ℕ) → told_to client (Some d) ≡ 0
 told_none d other client = none_at d.to.kind d.to.index client (mark_told d.msg) other
@@ -117,6 +119,7 @@ delivered_is client sent (event.Session who seq floor replica key) = refl
 delivered_is client sent (event.Deliver n cut) = refl
 delivered_is client sent (event.Tick r) = refl
 delivered_is client sent (event.Order leader order cut) = refl
+delivered_is client sent (event.Replace replacer set cut) = refl
 delivered_is client sent (event.Snap replica cut) = refl
 delivered_is client sent (event.Crash r) = refl
 delivered_is client sent (event.Restart r) = refl
@@ -256,6 +259,7 @@ change_hears w (event.Session client seq floor replica key) u is = or-true (not 
 change_hears w (event.Deliver n cut) u is = subst (λ x. (not (is_heard x) || nat_lt n (length w.sent)) ≡ true) (sym is) (come_hears w cut n (slice_get w.sent n) refl)
 change_hears w (event.Tick r) u is = or-true (not (is_heard u))
 change_hears w (event.Order leader order cut) u is = or-true (not (is_heard u))
+change_hears w (event.Replace replacer set cut) u is = or-true (not (is_heard u))
 change_hears w (event.Snap replica cut) u is = or-true (not (is_heard u))
 change_hears w (event.Crash r) u is = or-true (not (is_heard u))
 change_hears w (event.Restart r) u is = or-true (not (is_heard u))

@@ -16,11 +16,12 @@ use Rattle.cx_model.specs.Lists.{get_set_same, get_set_other, same_number, bool_
 use Rattle.cx_model.specs.Matchmaker.{MatchmakerDurable, matchmaker_rules}
 use Rattle.cx_model.specs.Proxy.{ProxyVolatile, proxy_rules}
 use Rattle.cx_model.specs.Reader.{ReaderDurable, ReaderVolatile, reader_rules}
+use Rattle.cx_model.specs.Replacer.{ReplacerDurable, ReplacerVolatile, replacer_rules}
 use Rattle.cx_model.specs.Replica.{ReplicaDurable, ReplicaVolatile, replica_rules}
 use Rattle.cx_model.specs.Rules.{Rules, Running, folded}
 use Rattle.cx_model.specs.Turn.{turn}
 use Rattle.cx_model.specs.Unbatcher.{unbatcher_rules}
-use Rattle.cx_model.specs.World.{World, Roles, Turns, turn_at, turn_found, turn_done, list_of, kept_by, act_of, act_at, of_batcher, of_leader, of_proxy, of_acceptor, of_matchmaker, of_replica, of_unbatcher, of_reader}
+use Rattle.cx_model.specs.World.{World, Roles, Turns, turn_at, turn_found, turn_done, list_of, kept_by, act_of, act_at, of_batcher, of_leader, of_proxy, of_acceptor, of_matchmaker, of_replica, of_unbatcher, of_reader, of_replacer}
 use Rattle.cx_msg.specs.Letter.{Letter}
 use Rattle.cx_msg.specs.declared.input.Act.{Act}
 use Rattle.cx_msg.specs.declared.input.KeptRecord.{KeptRecord}
@@ -161,6 +162,7 @@ module _ (w : World) (act : Act) (who : RoleId) (olds : SeatLists) (u v : Why) (
           replicas = stay replica_rules kind.Batcher kind.Replica olds.replicas model.kept is refl t.record_kept has.replicas;
           unbatchers = stay unbatcher_rules kind.Batcher kind.Unbatcher olds.unbatchers model.kept is refl t.record_kept has.unbatchers;
           readers = stay reader_rules kind.Batcher kind.Reader olds.readers model.kept is refl t.record_kept has.readers;
+          replacers = stay replacer_rules kind.Batcher kind.Replacer olds.replacers model.kept is refl t.record_kept has.replacers;
         };
       } in
       subst (λ ch. IsChange w ch at v more (record olds { batchers = news }) sent) (sym change) done
@@ -186,6 +188,7 @@ module _ (w : World) (act : Act) (who : RoleId) (olds : SeatLists) (u v : Why) (
           replicas = stay replica_rules kind.Leader kind.Replica olds.replicas model.kept is refl t.record_kept has.replicas;
           unbatchers = stay unbatcher_rules kind.Leader kind.Unbatcher olds.unbatchers model.kept is refl t.record_kept has.unbatchers;
           readers = stay reader_rules kind.Leader kind.Reader olds.readers model.kept is refl t.record_kept has.readers;
+          replacers = stay replacer_rules kind.Leader kind.Replacer olds.replacers model.kept is refl t.record_kept has.replacers;
         };
       } in
       subst (λ ch. IsChange w ch at v more (record olds { leaders = news }) sent) (sym change) done
@@ -211,6 +214,7 @@ module _ (w : World) (act : Act) (who : RoleId) (olds : SeatLists) (u v : Why) (
           replicas = stay replica_rules kind.Proxy kind.Replica olds.replicas model.kept is refl t.record_kept has.replicas;
           unbatchers = stay unbatcher_rules kind.Proxy kind.Unbatcher olds.unbatchers model.kept is refl t.record_kept has.unbatchers;
           readers = stay reader_rules kind.Proxy kind.Reader olds.readers model.kept is refl t.record_kept has.readers;
+          replacers = stay replacer_rules kind.Proxy kind.Replacer olds.replacers model.kept is refl t.record_kept has.replacers;
         };
       } in
       subst (λ ch. IsChange w ch at v more (record olds { proxies = news }) sent) (sym change) done
@@ -236,6 +240,7 @@ module _ (w : World) (act : Act) (who : RoleId) (olds : SeatLists) (u v : Why) (
           replicas = stay replica_rules kind.Acceptor kind.Replica olds.replicas model.kept is refl t.record_kept has.replicas;
           unbatchers = stay unbatcher_rules kind.Acceptor kind.Unbatcher olds.unbatchers model.kept is refl t.record_kept has.unbatchers;
           readers = stay reader_rules kind.Acceptor kind.Reader olds.readers model.kept is refl t.record_kept has.readers;
+          replacers = stay replacer_rules kind.Acceptor kind.Replacer olds.replacers model.kept is refl t.record_kept has.replacers;
         };
       } in
       subst (λ ch. IsChange w ch at v more (record olds { acceptors = news }) sent) (sym change) done
@@ -261,6 +266,7 @@ module _ (w : World) (act : Act) (who : RoleId) (olds : SeatLists) (u v : Why) (
           replicas = stay replica_rules kind.Matchmaker kind.Replica olds.replicas model.kept is refl t.record_kept has.replicas;
           unbatchers = stay unbatcher_rules kind.Matchmaker kind.Unbatcher olds.unbatchers model.kept is refl t.record_kept has.unbatchers;
           readers = stay reader_rules kind.Matchmaker kind.Reader olds.readers model.kept is refl t.record_kept has.readers;
+          replacers = stay replacer_rules kind.Matchmaker kind.Replacer olds.replacers model.kept is refl t.record_kept has.replacers;
         };
       } in
       subst (λ ch. IsChange w ch at v more (record olds { matchmakers = news }) sent) (sym change) done
@@ -286,6 +292,7 @@ module _ (w : World) (act : Act) (who : RoleId) (olds : SeatLists) (u v : Why) (
           replicas = subst (λ l. AreSeats replica_rules w.cluster kind.Replica (w.kept ++ l) news) t.record_kept t.seats;
           unbatchers = stay unbatcher_rules kind.Replica kind.Unbatcher olds.unbatchers model.kept is refl t.record_kept has.unbatchers;
           readers = stay reader_rules kind.Replica kind.Reader olds.readers model.kept is refl t.record_kept has.readers;
+          replacers = stay replacer_rules kind.Replica kind.Replacer olds.replacers model.kept is refl t.record_kept has.replacers;
         };
       } in
       subst (λ ch. IsChange w ch at v more (record olds { replicas = news }) sent) (sym change) done
@@ -311,6 +318,7 @@ module _ (w : World) (act : Act) (who : RoleId) (olds : SeatLists) (u v : Why) (
           replicas = stay replica_rules kind.Unbatcher kind.Replica olds.replicas model.kept is refl t.record_kept has.replicas;
           unbatchers = subst (λ l. AreSeats unbatcher_rules w.cluster kind.Unbatcher (w.kept ++ l) news) t.record_kept t.seats;
           readers = stay reader_rules kind.Unbatcher kind.Reader olds.readers model.kept is refl t.record_kept has.readers;
+          replacers = stay replacer_rules kind.Unbatcher kind.Replacer olds.replacers model.kept is refl t.record_kept has.replacers;
         };
       } in
       subst (λ ch. IsChange w ch at v more (record olds { unbatchers = news }) sent) (sym change) done
@@ -336,6 +344,33 @@ module _ (w : World) (act : Act) (who : RoleId) (olds : SeatLists) (u v : Why) (
           replicas = stay replica_rules kind.Reader kind.Replica olds.replicas model.kept is refl t.record_kept has.replicas;
           unbatchers = stay unbatcher_rules kind.Reader kind.Unbatcher olds.unbatchers model.kept is refl t.record_kept has.unbatchers;
           readers = subst (λ l. AreSeats reader_rules w.cluster kind.Reader (w.kept ++ l) news) t.record_kept t.seats;
+          replacers = stay replacer_rules kind.Reader kind.Replacer olds.replacers model.kept is refl t.record_kept has.replacers;
         };
       } in
       subst (λ ch. IsChange w ch at v more (record olds { readers = news }) sent) (sym change) done
+
+  pub replacer_change : who.kind ≡ kind.Replacer → (news : List (Seat (Running ReplacerDurable ReplacerVolatile))) → TurnsAt replacer_rules (λ s. s) act who.index olds.replacers news u r sent → IsChange w (act_at w act who) at v more (record olds { replacers = news }) sent
+  replacer_change is news turns =
+      let t = turned_at replacer_rules w.cluster kind.Replacer w.kept who is act olds.replacers news u r sent has.replacers (slice_get olds.replacers who.index) refl turns in
+      let model = turn_at replacer_rules w.cluster who w.kept act (volatiles olds.replacers) in
+      let change : act_at w act who ≡ of_replacer who w.roles model =
+      ap (λ x. act_of w.cluster w.roles w.kept act who x) is ∙ ap (λ (x : Roles). of_replacer who w.roles (turn_at replacer_rules w.cluster who w.kept act x.replacers)) has.roles in
+      let done : IsChange w (of_replacer who w.roles model) at v more (record olds { replacers = news }) sent = record {
+        who_is = same_who;
+        why = same_why ∙ t.why;
+        kept = same_kept ∙ t.record_kept;
+        sends = t.sends;
+        seats = record {
+          roles = ap (λ (x : Roles). record x { replacers = model.roles }) has.roles ∙ ap (λ l. record (roles_of olds) { replacers = l }) (sym t.roles);
+          batchers = stay batcher_rules kind.Replacer kind.Batcher olds.batchers model.kept is refl t.record_kept has.batchers;
+          leaders = stay leader_rules kind.Replacer kind.Leader olds.leaders model.kept is refl t.record_kept has.leaders;
+          proxies = stay proxy_rules kind.Replacer kind.Proxy olds.proxies model.kept is refl t.record_kept has.proxies;
+          acceptors = stay acceptor_rules kind.Replacer kind.Acceptor olds.acceptors model.kept is refl t.record_kept has.acceptors;
+          matchmakers = stay matchmaker_rules kind.Replacer kind.Matchmaker olds.matchmakers model.kept is refl t.record_kept has.matchmakers;
+          replicas = stay replica_rules kind.Replacer kind.Replica olds.replicas model.kept is refl t.record_kept has.replicas;
+          unbatchers = stay unbatcher_rules kind.Replacer kind.Unbatcher olds.unbatchers model.kept is refl t.record_kept has.unbatchers;
+          readers = stay reader_rules kind.Replacer kind.Reader olds.readers model.kept is refl t.record_kept has.readers;
+          replacers = subst (λ l. AreSeats replacer_rules w.cluster kind.Replacer (w.kept ++ l) news) t.record_kept t.seats;
+        };
+      } in
+      subst (λ ch. IsChange w ch at v more (record olds { replacers = news }) sent) (sym change) done

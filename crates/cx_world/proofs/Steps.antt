@@ -16,6 +16,7 @@ use Rattle.cx_model.specs.Leader.{leader_rules}
 use Rattle.cx_model.specs.Matchmaker.{matchmaker_rules}
 use Rattle.cx_model.specs.Proxy.{proxy_rules}
 use Rattle.cx_model.specs.Reader.{reader_rules}
+use Rattle.cx_model.specs.Replacer.{replacer_rules}
 use Rattle.cx_model.specs.Replica.{replica_rules}
 use Rattle.cx_model.specs.Unbatcher.{unbatcher_rules}
 use Rattle.cx_model.specs.World.{World, Roles, change, step, start, fresh_roles, run, run_from, event_list}
@@ -75,6 +76,7 @@ held_after w e at u r seats sends ch ran taken valid numbers raised hears all to
         replicas = subst (λ l. AreSeats replica_rules w.cluster kind.Replica l seats.replicas) (sym all_kept) ch.seats.replicas;
         unbatchers = subst (λ l. AreSeats unbatcher_rules w.cluster kind.Unbatcher l seats.unbatchers) (sym all_kept) ch.seats.unbatchers;
         readers = subst (λ l. AreSeats reader_rules w.cluster kind.Reader l seats.readers) (sym all_kept) ch.seats.readers;
+        replacers = subst (λ l. AreSeats replacer_rules w.cluster kind.Replacer l seats.replacers) (sym all_kept) ch.seats.replacers;
       };
       hears = subst (λ l. Hears raised l events) (sym same_sent) (subst (λ l. Hears raised (w.sent ++ sends) l) (sym same_events)
           (hears_after numbers raised w.sent sends w.events (record { event = e; why = u }) hears all one told));
@@ -88,7 +90,8 @@ held_after w e at u r seats sends ch ran taken valid numbers raised hears all to
 pub same_start : (c : Cluster) (seats : SeatLists)
     → volatiles seats.batchers ≡ fresh_roles (batcher_rules.fresh c) c.batchers → volatiles seats.leaders ≡ fresh_roles (leader_rules.fresh c) c.leaders
     → volatiles seats.proxies ≡ fresh_roles (proxy_rules.fresh c) c.proxies → volatiles seats.acceptors ≡ fresh_roles (acceptor_rules.fresh c) c.acceptors
-    → volatiles seats.matchmakers ≡ fresh_roles (matchmaker_rules.fresh c) (2 * c.f + 1) → volatiles seats.replicas ≡ fresh_roles (replica_rules.fresh c) c.replicas
+    → volatiles seats.matchmakers ≡ fresh_roles (matchmaker_rules.fresh c) c.pool → volatiles seats.replicas ≡ fresh_roles (replica_rules.fresh c) c.replicas
     → volatiles seats.unbatchers ≡ fresh_roles (unbatcher_rules.fresh c) c.unbatchers → volatiles seats.readers ≡ fresh_roles (reader_rules.fresh c) c.readers
+    → volatiles seats.replacers ≡ fresh_roles (replacer_rules.fresh c) c.replacers
     → make_world c (roles_of seats) [] [] [] ≡ start c
-same_start c seats p q r s t u v x = rw (p, q, r, s, t, u, v, x) refl
+same_start c seats p q r s t u v x y = rw (p, q, r, s, t, u, v, x, y) refl

@@ -15,6 +15,7 @@ use Rattle.cx_model.specs.Leader.{LeaderDurable, LeaderVolatile, leader_rules}
 use Rattle.cx_model.specs.Matchmaker.{MatchmakerDurable, matchmaker_rules}
 use Rattle.cx_model.specs.Proxy.{ProxyVolatile, proxy_rules}
 use Rattle.cx_model.specs.Reader.{ReaderDurable, ReaderVolatile, reader_rules}
+use Rattle.cx_model.specs.Replacer.{ReplacerDurable, ReplacerVolatile, replacer_rules}
 use Rattle.cx_model.specs.Replica.{ReplicaDurable, ReplicaVolatile, replica_rules}
 use Rattle.cx_model.specs.Rules.{Running}
 use Rattle.cx_model.specs.Unbatcher.{unbatcher_rules}
@@ -62,6 +63,7 @@ pub record SeatLists : Type 0 where
   pub replicas : List (Seat (Running ReplicaDurable ReplicaVolatile))
   pub unbatchers : List (Seat (Running (Unit {0}) (Unit {0})))
   pub readers : List (Seat (Running ReaderDurable ReaderVolatile))
+  pub replacers : List (Seat (Running ReplacerDurable ReplacerVolatile))
 
 abbrev pub lists_of : Seats → SeatLists
 lists_of seats =
@@ -74,6 +76,7 @@ lists_of seats =
       replicas = seats.replicas.items;
       unbatchers = seats.unbatchers.items;
       readers = seats.readers.items;
+      replacers = seats.replacers.items;
     }
 
 abbrev pub roles_of : SeatLists → Roles
@@ -87,6 +90,7 @@ roles_of seats =
       replicas = volatiles seats.replicas;
       unbatchers = volatiles seats.unbatchers;
       readers = volatiles seats.readers;
+      replacers = volatiles seats.replacers;
     }
 
 -- the seats of a world: the roles that run, and each role's list by the history of changes
@@ -100,6 +104,7 @@ pub record HasSeats (c : Cluster) (r : Roles) (kept : List KeptRecord) (seats : 
   pub replicas : AreSeats replica_rules c kind.Replica kept seats.replicas
   pub unbatchers : AreSeats unbatcher_rules c kind.Unbatcher kept seats.unbatchers
   pub readers : AreSeats reader_rules c kind.Reader kept seats.readers
+  pub replacers : AreSeats replacer_rules c kind.Replacer kept seats.replacers
 
 -- a change was made to the seats
 pub record IsChange (w : World) (ch : Change) (who : Option RoleId) (u : Why) (r : Option KeptRecord) (new : SeatLists) (sent : List Letter) : Type 0 where

@@ -16,7 +16,7 @@ use crate::heard::Heard;
 use crate::seat::{Seat, act_at, snap_at};
 use crate::turned::{Changed, Turned};
 use cx_acceptor::Acceptor;
-use cx_base::{Cut, Event, Kind, NoMemory, RoleId, Why};
+use cx_base::{Cut, Event, Kind, NoMemory, Order, RoleId, Why};
 use cx_batch::{Batcher, Unbatcher};
 use cx_field::Token;
 use cx_history::{Events, Sent};
@@ -25,6 +25,7 @@ use cx_match::Matchmaker;
 use cx_msg::{Act, Datagram, Input, KeptRecord, read_req, sess_read, submit};
 use cx_proxy::Proxy;
 use cx_reader::Reader;
+use cx_replace::Replacer;
 use cx_replica::Replica;
 use cx_role::Outbox;
 
@@ -39,6 +40,7 @@ pub struct Seats {
     pub replicas: Vec<Seat<Replica>>,
     pub unbatchers: Vec<Seat<Unbatcher>>,
     pub readers: Vec<Seat<Reader>>,
+    pub replacers: Vec<Seat<Replacer>>,
 }
 
 fn of_role(who: RoleId, turned: Turned) -> Changed
@@ -103,6 +105,10 @@ fn act(seats: &mut Seats, who: RoleId, act: &Act, out: &mut Outbox) -> Result<Ch
         }
         Kind::Reader => {
             let turned = act_at(&mut seats.readers, who.index, act, out)?;
+            Ok(of_role(who, turned))
+        }
+        Kind::Replacer => {
+            let turned = act_at(&mut seats.replacers, who.index, act, out)?;
             Ok(of_role(who, turned))
         }
     }
@@ -252,6 +258,12 @@ pub fn change(
         Event::Order { leader, order, cut } => {
             let who = RoleId::new(Kind::Leader, *leader);
             let order = give(Input::Order { order: *order }, *cut);
+            act(seats, who, &order, out)
+        }
+        Event::Replace { replacer, set, cut } => {
+            let who = RoleId::new(Kind::Replacer, *replacer);
+            let order = Order::Replace(*set);
+            let order = give(Input::Order { order }, *cut);
             act(seats, who, &order, out)
         }
         Event::Snap { replica, cut } => snap(seats, *replica, *cut, out),

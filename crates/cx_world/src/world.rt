@@ -113,16 +113,16 @@ impl World {
     pub fn new(alloc: Global, cluster: Cluster) -> Result<World, NoMemory>
         ensures { IfOk result (λ world. world ≡ record { world = start cluster; spent = false }) }
     {
-        let matchmakers = 2 * cluster.f as u16 + 1;
         let seats = Seats {
             batchers: open_all(alloc, &cluster, Kind::Batcher, cluster.batchers)?,
             leaders: open_all(alloc, &cluster, Kind::Leader, cluster.leaders)?,
             proxies: open_all(alloc, &cluster, Kind::Proxy, cluster.proxies)?,
             acceptors: open_all(alloc, &cluster, Kind::Acceptor, cluster.acceptors)?,
-            matchmakers: open_all(alloc, &cluster, Kind::Matchmaker, matchmakers)?,
+            matchmakers: open_all(alloc, &cluster, Kind::Matchmaker, cluster.pool)?,
             replicas: open_all(alloc, &cluster, Kind::Replica, cluster.replicas)?,
             unbatchers: open_all(alloc, &cluster, Kind::Unbatcher, cluster.unbatchers)?,
             readers: open_all(alloc, &cluster, Kind::Reader, cluster.readers)?,
+            replacers: open_all(alloc, &cluster, Kind::Replacer, cluster.replacers)?,
         };
         Ok(World {
             alloc,

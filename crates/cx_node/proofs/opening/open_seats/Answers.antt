@@ -8,7 +8,9 @@ use Rattle.cx_base.specs.Role.{role as a_role}
 use Rattle.cx_edge.specs.Shelf.{shelf}
 use Rattle.cx_journal.specs.Files.{Files}
 use Rattle.cx_node.proofs.FirstBad.{first_bad}
+use Rattle.cx_course.specs.Hosted.{name_of}
 use Rattle.cx_node.proofs.Lent.{files_same, lent_append, next_in_depot, ok_is_err, opened_more, same_records}
+use Rattle.cx_node.proofs.OpenedRoles.{name_opened}
 use Rattle.cx_node.specs.declared.opening.OpenStop.{OpenStop}
 use Rattle.cx_node.specs.declared.opening.OpenStop.TheVariants as open_stop
 use Rattle.cx_node.specs.Opening.{IsBadAs, NoneIsOut}
@@ -30,6 +32,12 @@ open_guest-requires-clause-in_depot g c =
     (g.D.Depot.tells c.args.depot.now)
     (files_of (g.D.Depot.held c.args.depot.now)) c.args.roles.now c.loop-role.seats.items me
     next before.opened c.requires.distinct)
+
+pub new-requires : goal.new-requires
+new-requires g c =
+    let me : RoleId = slice_index_or c.args.roles.now c.loop-role.role-index (a_role kind.Client 0) in
+    let opened = c.in_ok-guest.ensures.opened in
+    sym (ap (λ h. name_of h) opened.hosted ∙ name_opened c.args.cluster.now c.args.window c.args.events.now me opened.records me.kind)
 
 pub loop-role-preserved : goal.loop-role-preserved
 loop-role-preserved g c =

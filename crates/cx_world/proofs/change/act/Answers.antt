@@ -1,5 +1,5 @@
 use Rattle.cx_world.specs.World.{lists_of}
-use Rattle.cx_world.proofs.Seats.{batcher_change, leader_change, proxy_change, acceptor_change, matchmaker_change, replica_change, unbatcher_change, reader_change}
+use Rattle.cx_world.proofs.Seats.{batcher_change, leader_change, proxy_change, acceptor_change, matchmaker_change, replica_change, unbatcher_change, reader_change, replacer_change}
 use Rattle.cx_world.proofs.change.act.Goals as goal
 
 pub returns-in_ok-turned-in-Batcher : goal.returns-in_ok-turned-in-Batcher
@@ -33,3 +33,7 @@ returns-in_ok-turned-in-Unbatcher c =
 pub returns-in_ok-turned-in-Reader : goal.returns-in_ok-turned-in-Reader
 returns-in_ok-turned-in-Reader c =
     λ w has. reader_change w c.args.act.now c.args.who (lists_of c.args.seats.now) c.in_ok-turned-in-Reader.turned.why c.of_role-in-Reader.result.why c.of_role-in-Reader.result.who c.in_ok-turned-in-Reader.turned.kept c.of_role-in-Reader.result.kept c.act_at-in-Reader.new.out.list c.of_role-in-Reader.ensures.who c.of_role-in-Reader.ensures.why c.of_role-in-Reader.ensures.kept has c.in-Reader.is c.act_at-in-Reader.new.seats.items c.in_ok-turned-in-Reader.ensures
+
+pub returns-in_ok-turned-in-Replacer : goal.returns-in_ok-turned-in-Replacer
+returns-in_ok-turned-in-Replacer c =
+    λ w has. replacer_change w c.args.act.now c.args.who (lists_of c.args.seats.now) c.in_ok-turned-in-Replacer.turned.why c.of_role-in-Replacer.result.why c.of_role-in-Replacer.result.who c.in_ok-turned-in-Replacer.turned.kept c.of_role-in-Replacer.result.kept c.act_at-in-Replacer.new.out.list c.of_role-in-Replacer.ensures.who c.of_role-in-Replacer.ensures.why c.of_role-in-Replacer.ensures.kept has c.in-Replacer.is c.act_at-in-Replacer.new.seats.items c.in_ok-turned-in-Replacer.ensures

@@ -1,5 +1,6 @@
 use Rattle.std.proofs.Common.{◌≡◌, ℕ, List, get_or, ◌∙◌, refl}
 use Rattle.cx_base.specs.declared.event.Happened.{Happened}
+use Rattle.cx_base.specs.declared.event.Order.TheVariants as order
 use Rattle.cx_base.specs.declared.role.Kind.TheVariants as kind
 use Rattle.cx_base.specs.Role.{role}
 use Rattle.cx_model.specs.Heard.{heard_by}
@@ -39,3 +40,9 @@ returns-in-Order c =
     ok_then _ (λ (x : Changed). ChangesAfter (λ w. change w c.args.event.now) c.args.sent.now c.args.events.now c.args.seats.now x c.act-in-Order.new.seats c.act-in-Order.new.out.list) c.act-in-Order.result
     (λ x h w same known has. rw c.in-Order.is (act_from w (λ ch. IsChange w ch x.who x.why x.kept (lists_of c.act-in-Order.new.seats) c.act-in-Order.new.out.list) c.give-order.result (Give (input.Order c.in-Order.order) c.in-Order.cut) c.new-who.result (role kind.Leader c.in-Order.leader)
     c.give-order.ensures c.new-who.ensures (h w has))) c.act-in-Order.ensures
+
+pub returns-in-Replace : goal.returns-in-Replace
+returns-in-Replace c =
+    ok_then _ (λ (x : Changed). ChangesAfter (λ w. change w c.args.event.now) c.args.sent.now c.args.events.now c.args.seats.now x c.act-in-Replace.new.seats c.act-in-Replace.new.out.list) c.act-in-Replace.result
+    (λ x h w same known has. rw c.in-Replace.is (act_from w (λ ch. IsChange w ch x.who x.why x.kept (lists_of c.act-in-Replace.new.seats) c.act-in-Replace.new.out.list) c.give-order-in-Replace.result (Give (input.Order (order.Replace c.in-Replace.set)) c.in-Replace.cut) c.new-who-in-Replace.result (role kind.Replacer c.in-Replace.replacer)
+    c.give-order-in-Replace.ensures c.new-who-in-Replace.ensures (h w has))) c.act-in-Replace.ensures

@@ -14,6 +14,7 @@ invariant_of-result c =
     let replicas = c.in_ok-open_all-6.ensures in
     let unbatchers = c.in_ok-open_all-7.ensures in
     let readers = c.in_ok-open_all-8.ensures in
+    let replacers = c.in_ok-open_all-9.ensures in
     let lists : SeatLists = record {
       batchers = c.in_ok-open_all.field-0.items;
       leaders = c.in_ok-open_all-2.field-0.items;
@@ -23,6 +24,7 @@ invariant_of-result c =
       replicas = c.in_ok-open_all-6.field-0.items;
       unbatchers = c.in_ok-open_all-7.field-0.items;
       readers = c.in_ok-open_all-8.field-0.items;
+      replacers = c.in_ok-open_all-9.field-0.items;
     } in
     λ _. rw (c.new.ensures, c.new-2.ensures, c.new-3.ensures) (record {
       out = ap (λ (out : Outgoing). out.list) c.new-5.ensures;
@@ -36,9 +38,10 @@ invariant_of-result c =
         replicas = replicas.seats;
         unbatchers = unbatchers.seats;
         readers = readers.seats;
+        replacers = replacers.seats;
       };
       hears = λ client. c.new-4.ensures client;
       hears_sent = refl;
-      ran = same_start c.args.cluster lists batchers.roles leaders.roles proxies.roles acceptors.roles matchmakers.roles replicas.roles unbatchers.roles readers.roles;
+      ran = same_start c.args.cluster lists batchers.roles leaders.roles proxies.roles acceptors.roles matchmakers.roles replicas.roles unbatchers.roles readers.roles replacers.roles;
       taken = refl;
     })
