@@ -2,8 +2,8 @@
 //!
 //! Its theorem is the contract of `top`: Done only with the whole text of the run written, any other
 //! status with its cause and a prefix of it; the run is lawful (`IsLawful`: agreement, one command
-//! list, fresh reads, sessions, safe retirement, snapshots, announcement, changes of grid, recovery);
-//! a node does exactly what the run of its roles says.
+//! list, fresh reads, sessions, safe retirement, snapshots, announcement, changes of grid, sets of
+//! matchmakers, recovery); a node does exactly what the run of its roles says.
 #![tactic(auto)]
 
 mod line;
@@ -33,12 +33,13 @@ fn arguments(rt: &HostRuntime) -> Result<Vec<String>, Status> {
 }
 
 // How many roles with stores a cluster may have, by their kinds.
-const STORED: [(Kind, u16); 5] = [
+const STORED: [(Kind, u16); 6] = [
     (Kind::Leader, 8),
     (Kind::Acceptor, 64),
-    (Kind::Matchmaker, 7),
+    (Kind::Matchmaker, 64),
     (Kind::Replica, 8),
     (Kind::Reader, 8),
+    (Kind::Replacer, 4),
 ];
 
 /// More roles than a process may host.

@@ -13,7 +13,7 @@ use cx_script::{number, parted};
 use std::alloc::{AllocError, Global};
 use std::marker::Model;
 
-const KINDS: [Kind; 9] = [
+const KINDS: [Kind; 10] = [
     Kind::Client,
     Kind::Batcher,
     Kind::Leader,
@@ -23,6 +23,7 @@ const KINDS: [Kind; 9] = [
     Kind::Replica,
     Kind::Unbatcher,
     Kind::Reader,
+    Kind::Replacer,
 ];
 
 /// Roles of which none is named twice, in the order in which they were named.
