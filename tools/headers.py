@@ -12,12 +12,13 @@ from dataclasses import dataclass
 
 TOP = pathlib.Path(__file__).resolve().parent.parent
 PROGRAMS = (TOP / "crates/compax/out/compax", TOP / "out/compax")      # as `rt ci` leaves it, and as tools/build does
-KINDS = ("client", "batcher", "leader", "proxy", "acceptor", "match", "replica", "unbatcher", "reader")     # in the order of their ports
-COUNTED_BY = {"client": "clients", "batcher": "batchers", "leader": "leaders", "proxy": "proxies", "acceptor": "acceptors",
-              "replica": "replicas", "unbatcher": "unbatchers", "reader": "readers"}
-KEEPING = ("leader", "acceptor", "match", "replica", "reader")          # the kinds with a journal
+KINDS = ("client", "batcher", "leader", "proxy", "acceptor", "match", "replica", "unbatcher", "reader", "replacer")  # in the order of their ports
+COUNTED_BY = {"client": "clients", "batcher": "batchers", "leader": "leaders", "proxy": "proxies", "acceptor": "acceptors", "match": "pool",
+              "replica": "replicas", "unbatcher": "unbatchers", "reader": "readers", "replacer": "replacers"}
+KEEPING = ("leader", "acceptor", "match", "replica", "reader", "replacer")      # the kinds with a journal
 RANGES = {"f": (0, 3), "leaders": (1, 8), "proxies": (1, 16), "acceptors": (1, 64), "replicas": (1, 8), "batchers": (1, 8),
-          "unbatchers": (1, 8), "readers": (1, 8), "clients": (1, 64), "batch": (1, 8), "base_port": (1024, 60000)}
+          "unbatchers": (1, 8), "readers": (1, 8), "clients": (1, 64), "batch": (1, 8), "base_port": (1024, 60000),
+          "pool": (1, 64), "replacers": (0, 4)}
 GRID_MOST = 16                  # acceptors in a grid
 PORTS = (25_000, 32_000)        # below those that systems hand out by themselves
 PORT_TAKEN = 6                  # the status of a node, and of the tools
@@ -87,7 +88,12 @@ class Header:
         return f"{self.text.rstrip()}\n---\n"
 
     def count(self, kind: str) -> int:
-        return 2 * self.numbers["f"] + 1 if kind == "match" else self.numbers[COUNTED_BY[kind]]
+        return self.numbers[COUNTED_BY[kind]]
+
+    @property
+    def matchmakers(self) -> int:
+        """How many matchmakers a set has; the first set are the first ones."""
+        return 2 * self.numbers["f"] + 1
 
     def roles(self, kind: str) -> list[Role]:
         return [Role(kind, index) for index in range(self.count(kind))]
@@ -114,12 +120,16 @@ def header_of(text: str, name: str) -> Header:
     for key in values:
         if key not in RANGES:
             raise Unusable(f"{name}: no header has a key {key}")
+    values.setdefault("pool", 2 * values["f"] + 1 if type(values.get("f")) is int else 1)
+    values.setdefault("replacers", 0)
     for key, (low, high) in RANGES.items():
         value = values.get(key)
         if type(value) is not int or not low <= value <= high:
             raise Unusable(f"{name}: the header needs {key}, a number from {low} to {high}")
     if values["replicas"] <= values["f"]:
         raise Unusable(f"{name}: the header needs more than f replicas")
+    if values["pool"] <= 2 * values["f"]:
+        raise Unusable(f"{name}: the header needs a pool of more than 2f matchmakers")
     return Header(above, values)
 
 
@@ -146,7 +156,7 @@ def spread(header: Header, processes: int) -> list[list[Role]]:
     within = min(len(acceptors), GRID_MOST)
     for role in acceptors:
         hosted[role.index * processes // within if role.index < within else role.index % processes].append(role)
-    for kind in ("match", "replica", "reader"):
+    for kind in ("match", "replica", "reader", "replacer"):
         for role in header.roles(kind):
             hosted[(role.index + 1) % processes].append(role)
     return hosted
@@ -165,7 +175,7 @@ def why_needed(header: Header, lost: list[Role]) -> str | None:
         "it has every reader": not left["reader"],
         "it has an acceptor of each column of the grid": not any(up.issuperset(column) for column in zip(*header.grid)),
         "it has an acceptor of each row of the grid": not any(up.issuperset(row) for row in header.grid),
-        f"it leaves fewer than {needed} matchmakers": len(left["match"]) < needed,
+        f"it leaves fewer than {needed} matchmakers": sum(role.index < header.matchmakers for role in left["match"]) < needed,
         f"it leaves fewer than {needed} replicas": len(left["replica"]) < needed,
     }
     return next((reason for reason, is_so in reasons.items() if is_so), None)

@@ -181,6 +181,37 @@ def turn_of(body: Body) -> str:
     return str(body.number(8, "turn", 1, GREATEST))
 
 
+def ballot_of(body: Body) -> str:
+    """A round that a replacer began, of a set of matchmakers."""
+    return round_of(body).replace("round", "ballot")
+
+
+def set_of(body: Body) -> str:
+    """The matchmakers of a set, their indices rising."""
+    members: list[int] = []
+    for _ in range(body.number(1, "number of matchmakers", 0, 7)):
+        at = body.place()
+        members.append(body.number(2, "matchmaker", 0, 0xFFFF))
+        if members[1:] and members[-1] <= members[-2]:
+            raise Break(at, f"matchmaker {members[-1]} doesn't rise in the set")
+    return f"set {','.join(map(str, members))}"
+
+
+def watermark_round_of(body: Body) -> str:
+    """The round below which all are forgotten, or none, which is all zeros."""
+    whole = body.number(10, "round", 0, (1 << 80) - 1)
+    if 0 < whole < 1 << 48:
+        raise Break(body.place() - 10, "a round begins with 0")
+    return f"watermark {whole >> 48}.{whole >> 32 & 0xFFFF}.{whole & 0xFFFF_FFFF}" if whole else "watermark none"
+
+
+def joined_of(body: Body) -> str:
+    """With what a matchmaker begins as a member of a set: a watermark, and rounds that rise."""
+    words = [set_of(body), watermark_round_of(body)]
+    words += [round_and_grid(body) for _ in range(body.number(1, "number of rounds", 0, 254))]
+    return " ".join(words)
+
+
 @dataclass(frozen=True)
 class Tag:
     """A kind of record, the role that has it, and what reads its fields."""
@@ -202,6 +233,10 @@ TAGS = {
     9: Tag("Pairs", "replica", pairs_of),
     10: Tag("Notes", "replica", notes_of),
     11: Tag("Tail", "replica", log_of),
+    12: Tag("Ballot", "replacer", ballot_of),
+    13: Tag("Stop", "match", ballot_of),
+    14: Tag("Next", "match", lambda body: f"{ballot_of(body)} {set_of(body)}"),
+    15: Tag("Boot", "match", joined_of),
     16: Tag("Turn", "reader", turn_of),
 }
 KINDS = tuple(dict.fromkeys(tag.kind for tag in TAGS.values()))     # of roles with a journal

@@ -6,7 +6,7 @@ from dataclasses import dataclass
 
 from traces import FORGETS
 
-KINDS = ["client", "batcher", "leader", "match", "proxy", "acceptor", "replica", "unbatcher", "reader"]     # from left to right
+KINDS = ["client", "batcher", "leader", "match", "proxy", "acceptor", "replica", "unbatcher", "reader", "replacer"]     # from left to right
 
 # Lengths are in pixels.
 EDGE = 14               # around everything

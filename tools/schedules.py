@@ -14,7 +14,6 @@ from traces import events_of, stops_of
 SIZES = {"f": (0, 0, 1), "leaders": (1, 2), "proxies": (1, 2), "acceptors": (2, 3, 4, 6), "replicas": (1, 2, 2, 3),
          "batchers": (1, 2), "unbatchers": (1, 2), "readers": (1, 2), "clients": (1, 3, 64), "batch": (1, 1, 2, 8)}
 ENDS = ("standard output", "standard error", "status")
-SERVERS = [kind for kind in KINDS if kind != "client"]
 
 
 def random_header(rng, sizes):
@@ -23,6 +22,8 @@ def random_header(rng, sizes):
     if rng.random() < 1 / 8:
         numbers = {key: rng.randint(*RANGES[key]) for key in sizes}
     numbers["replicas"] = max(numbers["replicas"], numbers["f"] + 1)
+    if "pool" in numbers:
+        numbers["pool"] = min(RANGES["pool"][1], max(numbers["pool"], 2 * numbers["f"] + 1))
     numbers["base_port"] = 20000
     return header_of("".join(f"{key} = {number}\n" for key, number in numbers.items()), "a made header")
 
@@ -32,6 +33,7 @@ class Maker:
 
     def __init__(self, rng, sizes=SIZES):
         self.rng, self.header = rng, random_header(rng, sizes)
+        self.servers = [kind for kind in KINDS if kind != "client" and self.header.count(kind)]
         self.loss, self.again = rng.choice([(0, 0.02), (0.01, 0.05), (0.05, 0.2)])
         self.behind = self.any("replica") if rng.random() < 0.5 else None       # most that is chosen doesn't reach this replica:
         self.missed = 0.6                                                       # so much of it
@@ -86,13 +88,13 @@ class Maker:
                 yield self.rng.choice(self.asked)
 
     def ticks(self):
-        return [f"tick {self.any(self.rng.choice([*SERVERS, 'replica', 'replica']))}" for _ in range(self.rng.randint(1, 4))]
+        return [f"tick {self.any(self.rng.choice([*self.servers, 'replica', 'replica']))}" for _ in range(self.rng.randint(1, 4))]
 
     def orders(self):
         """Orders to leaders, or a crash."""
         leader = self.any("leader") if self.rng.random() < 0.3 else "leader:0"
         what = self.rng.choice([f"lead {leader} {self.grid()}", f"change {leader} {self.grid()}", f"collect {leader}",
-                                f"crash {self.any(self.rng.choice(SERVERS))}"])
+                                f"crash {self.any(self.rng.choice(self.servers))}"])
         return [what]
 
     def kinds(self):

@@ -7,6 +7,7 @@ from headers import KINDS, Header, Role, Unusable, can_lose_any, enough_processe
 
 USUAL = {"f": 1, "leaders": 1, "proxies": 2, "acceptors": 4, "replicas": 3, "batchers": 2, "unbatchers": 2, "readers": 2, "clients": 16,
          "batch": 1, "base_port": 20000}
+LEFT_OUT = {"pool": 3, "replacers": 0}          # what it then has of these
 
 
 def header(**numbers: int) -> Header:
@@ -27,11 +28,20 @@ class HeaderTest(unittest.TestCase):
 
     def test_what_is_below_the_line_is_no_header(self) -> None:
         text = header().text
-        self.assertEqual(header_of(f"{text}---\nread client:0 1 reader:0 replica:0 a\n", "").numbers, USUAL)
+        self.assertEqual(header_of(f"{text}---\nread client:0 1 reader:0 replica:0 a\n", "").numbers, USUAL | LEFT_OUT)
         self.assertEqual(header_of(text, "").input, f"{text}---\n")
 
     def test_ranges(self) -> None:
         for numbers in ({"f": 4}, {"f": -1}, {"acceptors": 65}, {"replicas": 1}, {"base_port": 1023}, {"base_port": 60001}, {"batch": 0}):
+            with self.subTest(numbers=numbers), self.assertRaises(Unusable):
+                header(**numbers)
+
+    def test_sets_of_matchmakers(self) -> None:
+        self.assertEqual(header().numbers, USUAL | LEFT_OUT)
+        larger = header(pool=7, replacers=2)
+        self.assertEqual([larger.count("match"), larger.matchmakers, larger.count("replacer")], [7, 3, 2])
+        self.assertEqual(larger.port(Role("replacer", 1)), 20000 + 35 + 4 + 1)
+        for numbers in ({"pool": 2}, {"pool": 65}, {"replacers": 5}, {"replacers": -1}):
             with self.subTest(numbers=numbers), self.assertRaises(Unusable):
                 header(**numbers)
 

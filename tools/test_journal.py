@@ -116,6 +116,20 @@ class JournalTest(unittest.TestCase):
         self.breaks(journal(b"\x10" + number(0)), 6, [])
         self.breaks(turns, 5, [], name="compax-match-0.journal")
 
+    def test_sets_of_matchmakers(self) -> None:
+        sets = bytes.fromhex("03" "0003" "0004" "0009")
+        stored = journal(b"\x0d" + ROUND, b"\x0e" + LATER + sets)
+        self.assertEqual(self.read(stored, name="compax-match-0.journal"),
+                         (0, ["0 Stop ballot 1.0.0", "16 Next ballot 2.3.4 set 3,4,9", "39 closed"], ""))
+        nothing = b"\x0f" + sets + bytes(10) + b"\0"
+        self.assertEqual(self.read(journal(nothing))[1], ["0 Boot set 3,4,9 watermark none", "24 closed"])
+        joined = b"\x0f" + sets + ROUND + b"\2" + ROUND + GRID + LATER + GRID
+        self.assertEqual(self.read(journal(joined))[1][0],
+                         "0 Boot set 3,4,9 watermark 1.0.0 round 1.0.0 grid 2x2 0,1,2,3 round 2.3.4 grid 2x2 0,1,2,3")
+        self.assertEqual(self.read(journal(b"\x0c" + ROUND), name="compax-replacer-0.journal"), (0, ["0 Ballot ballot 1.0.0", "16 closed"], ""))
+        self.breaks(journal(b"\x0e" + LATER + bytes.fromhex("03" "0003" "0003" "0009")), 19, [])
+        self.breaks(stored, 5, [], name="compax-replacer-0.journal")
+
     def test_a_replica_says_which_slots(self) -> None:
         data = journal(b"\7\2\0\1\1" + PUT, b"\7\1\0", b"\7\2\0\0")
         self.assertEqual(self.read(data)[1], ["0 Log slots 0 to 1: noop | client:5 7 put a 12", "26 Log slot 2: noop",
@@ -278,7 +292,7 @@ class JournalTest(unittest.TestCase):
                             (note[:-1] + b"\x41", 18), (note + number(0), 19), (note + number(1) + number(0), 27),
                             (note + number(1) + number((1 << 40) + 1), 27), (note + number(1) + number(1) + b"\5", 35),
                             (note + number(1) + number(1) + b"\3\0", 36), (note + number(1) + number(1) + b"\3\x41", 36),
-                            (note + number(1) + number(1) + b"\1\x41", 36), (b"\x0b\0", 8), (b"\x0b\x21", 8), (b"\x0b\1\2", 9), (b"\x0c", 7)]:
+                            (note + number(1) + number(1) + b"\1\x41", 36), (b"\x0b\0", 8), (b"\x0b\x21", 8), (b"\x0b\1\2", 9), (b"\x11", 7)]:
             with self.subTest(payload=payload.hex()):
                 self.breaks(b"\4\1" + journal(payload), at, ["generation 1"])
         note += number(1) + number(1)

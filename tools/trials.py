@@ -70,6 +70,22 @@ class Comparison(unittest.TestCase):
         self.assertEqual(said, "")
         return status, out.splitlines()
 
+    def agrees(self, counted: list[str]) -> None:
+        """On 16 schedules of 400 events nothing differs, and each of what is counted happens."""
+        status, lines = self.compared("", "--runs", 16, "--events", 400)
+        counts = {name: int(count) for name, _, count in (line.rpartition(": ") for line in lines[:-1])}
+        self.assertEqual((status, lines[-1]), (0, "16 schedules, 0 differ"))
+        for name in counted:
+            self.assertGreater(counts.get(name, 0), 0, name)
+        self.assertEqual((counts["status 0"], counts["events"]), (16, 16 * 400))
+
+    def tells(self, script: str) -> None:
+        """A reference that says something else is told apart, and the schedule is kept."""
+        status, lines = self.compared(script, "--runs", 4)
+        self.assertEqual(status, 1)
+        self.assertIn(f"{self.room / 'kept'}", lines[0])
+        self.assertTrue(lines[0].endswith(": other standard output"))
+
 
 class Trial(unittest.TestCase):
     """A test with a folder, and a header in it whose ports were free just now."""
